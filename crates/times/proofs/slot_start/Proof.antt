@@ -1,0 +1,44 @@
+-- `times::slot_start` meets its contract: the turns, the slot and the width make the start (`start-turns`), within a u64 (`start-lt`).
+use native.Mathlib.Omega.{arith}
+use borrow.Author.Needs.{needs}
+use Rattle.times.specs.Starts.{start-turns, start-lt, slots-lt}
+use Rattle.times.proofs.slot_start.Statement.{statement}
+use Rattle.times.proofs.slot_start.Tie as tie
+
+mul-turns : tie.Need-mul-turns
+mul-turns c = search needs
+
+add-turns : tie.Need-add-turns
+add-turns c = search needs
+
+shr-turns : tie.Need-shr-turns
+shr-turns c = search needs
+
+mul-result : tie.Need-mul-result
+mul-result c = omega (arith, slots-lt _ _ _ (c .pre .0) (c .pre .1) (c .fits .elapsed .fits))
+
+add-result : tie.Need-add-result
+add-result c = record { fits = slots-lt _ _ _ (c .pre .0) (c .pre .1) (c .fits .elapsed .fits) }
+
+slot-range-requires : tie.Need-slot-range-requires
+slot-range-requires c κs = search needs
+
+mul-result-2 : tie.Need-mul-result-2
+mul-result-2 c =
+    rw (c .slot-range .ensures) record { fits = start-lt _ _ _ (c .before .pre .0) (c .before .pre .1) (c .before .fits .elapsed .fits) }
+
+returns : tie.Need-returns
+returns c = rw (c .slot-range .ensures) (start-turns _ _ _)
+
+pub slot-start-spec : {M : Type 1} → statement M
+slot-start-spec =
+    tie.close
+    (tie.spec
+    mul-turns
+    add-turns
+    shr-turns
+    mul-result
+    add-result
+    slot-range-requires
+    mul-result-2
+    returns)

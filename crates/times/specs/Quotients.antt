@@ -1,0 +1,126 @@
+-- The laws of quotients by a width, of floors, and of where a deadline may lie, over any level k.
+-- A quotient at k + 1 is a 64th of the quotient at k: with quotients as unknowns the rest is linear.
+use mathlib.Core.Path.{_≡_, sym, ap, _∙_, subst}
+use mathlib.Core.Logic.{_↔_}
+use Prim.Native.Nat.{ℕ, zero, suc, _+_, _-_, _*_, _/_, _%_, _^_, _≤_, _<_}
+use native.Mathlib.Nat.{zero-lt-suc, mod-lt, div-div-eq-div-mul, mul-comm, div-lt-iff-lt-mul, le-div-iff-mul-le, div-mul-le-self, div-one, mul-one, mul-assoc, mul-div-cancel, le-trans, mul-le-mul-right}
+use native.Mathlib.Omega.{arith}
+use Rattle.times.specs.Times.{width, slotOf, startAt, floor, Lies}
+use Rattle.times.specs.Widths.{width-pos, width-step, width-pow}
+
+-- ---- quotients
+
+-- a quotient is a shift
+pub quotient-shr : (w k : ℕ) → w / width k ≡ w / 2 ^ (k * 6)
+quotient-shr w k = ap (λ (n : ℕ). w / n) (width-pow k)
+
+pub quotient-step : (w k : ℕ) → w / width (suc k) ≡ w / width k / 64
+quotient-step w k = ap (λ (n : ℕ). w / n) (width-step k ∙ mul-comm 64 (width k)) ∙ sym (div-div-eq-div-mul w (width k) 64)
+
+pub quotient-zero : (w : ℕ) → w / width 0 ≡ w
+unfolding width
+quotient-zero w = div-one w
+
+pub quotient-le : (k : ℕ) {a b : ℕ} → a ≤ b → a / width k ≤ b / width k
+quotient-le k {a} {b} h = le-div-iff-mul-le (width-pos k) .1 (le-trans (div-mul-le-self a (width k)) h)
+
+pub slot-lt : (w k : ℕ) → slotOf w k < 64
+unfolding slotOf
+slot-lt w k = mod-lt (w / width k) (zero-lt-suc 63)
+
+-- where the quotients agree, so do those of every wider level
+agree-more : (d a b k : ℕ) → a / width k ≡ b / width k → a / width (d + k) ≡ b / width (d + k)
+agree-more zero a b k h = subst (λ (n : ℕ). a / width n ≡ b / width n) (omega arith) h
+agree-more (suc d) a b k h =
+    subst (λ (n : ℕ). a / width n ≡ b / width n) (omega arith)
+    (quotient-step a (d + k) ∙ ap (λ (n : ℕ). n / 64) (agree-more d a b k h) ∙ sym (quotient-step b (d + k)))
+
+pub agree-above : (a b k : ℕ) → a / width k ≡ b / width k → (j : ℕ) → k ≤ j → a / width j ≡ b / width j
+agree-above a b k h j l = subst (λ (n : ℕ). a / width n ≡ b / width n) (omega arith) (agree-more (j - k) a b k h)
+
+-- ---- floors
+
+pub floor-le : (k w : ℕ) → floor k w ≤ w
+unfolding floor
+floor-le k w = div-mul-le-self w (width k)
+
+pub floor-zero : (w : ℕ) → floor 0 w ≡ w
+unfolding floor width
+floor-zero w = mul-one (w / 1) ∙ div-one w
+
+-- before the floor of w is before it in the quotient
+pub lt-floor : (k e w : ℕ) → (e / width k < w / width k) ↔ (e < floor k w)
+unfolding floor
+lt-floor k e w = div-lt-iff-lt-mul (width-pos k)
+
+pub floor-mono : (k a b : ℕ) → a / width k ≤ b / width k → floor k a ≤ floor k b
+unfolding floor
+floor-mono k a b h = mul-le-mul-right (width k) h
+
+pub floor-same : (k a b : ℕ) → a / width k ≡ b / width k → floor k a ≡ floor k b
+unfolding floor
+floor-same k a b h = ap (λ (n : ℕ). n * width k) h
+
+pub floor-quotient : (k w : ℕ) → floor k w / width k ≡ w / width k
+unfolding floor
+floor-quotient k w = mul-div-cancel (w / width k) (width-pos k)
+
+-- a wider floor is no later
+pub floor-down : (k w : ℕ) → floor (suc k) w ≤ floor k w
+unfolding floor
+floor-down k w =
+    let q : ℕ = w / width k in
+    let l : q / 64 * 64 * width k ≤ q * width k = mul-le-mul-right (width k) (omega arith) in
+    rw (quotient-step w k, width-step k) (omega (arith, mul-assoc (q / 64) 64 (width k)))
+
+-- a floor at a level above 0 is a multiple of 64
+pub floor-64 : (k w : ℕ) → floor (suc k) w / 64 * 64 ≡ floor (suc k) w
+unfolding floor
+floor-64 k w =
+    let m : ℕ = w / width (suc k) * width k in
+    let e : w / width (suc k) * width (suc k) ≡ m * 64
+    = rw (width-step k) (omega (arith, mul-assoc (w / width (suc k)) (width k) 64, mul-assoc (w / width (suc k)) 64 (width k))) in
+    omega (arith, e)
+
+-- ---- where a deadline may lie
+
+module _ (k e w : ℕ) (l : Lies k e w) where
+  pub lies-late : e ≤ w
+  lies-late = le-trans (l .start) (floor-le k w)
+
+  -- at every level above
+  pub lies-agree : (j : ℕ) → k < j → w / width j ≡ e / width j
+  lies-agree j h = agree-above w e (suc k) (l .above) j h
+
+  pub lies-block : w / width k / 64 ≡ e / width k / 64
+  lies-block = sym (quotient-step w k) ∙ l .above ∙ quotient-step e k
+
+  -- the start of its slot is the deadline rounded down to the width
+  pub lies-start : startAt e k (slotOf w k) ≡ floor k w
+  unfolding startAt slotOf floor
+  lies-start =
+      let a : ℕ = w / width k in
+      let q : e / (64 * width k) ≡ a / 64 = ap (λ (n : ℕ). e / n) (sym (width-step k)) ∙ sym (l .above) ∙ quotient-step w k in
+      let c : a ≡ a / 64 * 64 + a % 64 = omega arith in
+      let r : a * width k ≡ (a / 64 * 64 + a % 64) * width k = ap (λ (n : ℕ). n * width k) c in
+      rw q (omega (arith, r))
+
+  -- elapsed may rise to anything up to that start
+  pub lies-raise : (f : ℕ) → e ≤ f → f ≤ floor k w → Lies k f w
+  lies-raise f a b =
+      record {
+        above = omega (arith, l .above, quotient-le (suc k) a, quotient-le (suc k) (le-trans b (floor-le k w)));
+        start = b;
+      }
+
+  -- and what lies at a higher level, in a slot that elapsed has not, is later
+  pub lies-before : (j v : ℕ) → k < j → e < floor j v → w < floor j v
+  lies-before j v h s = lt-floor j w v .0 (omega (arith, lies-agree j h, lt-floor j e v .1 s))
+
+-- one level down, once elapsed is the start of its slot
+pub lies-down : (k e w : ℕ) → floor (suc k) w ≡ e → Lies k e w
+lies-down k e w s =
+    record {
+      above = sym (floor-quotient (suc k) w) ∙ ap (λ (n : ℕ). n / width (suc k)) s;
+      start = omega (arith, s, floor-down k w);
+    }
