@@ -1,0 +1,14 @@
+-- `row::occupied_bit` meets its contract: 1 shifted by less than the width is a power of two (`one-shl`).
+use borrow.Author.Needs.{needs}
+use Rattle.row.specs.RowCode.{one-shl}
+use Rattle.row.proofs.occupied_bit.Statement.{statement}
+use Rattle.row.proofs.occupied_bit.Tie as tie
+
+shl-result : tie.Need-shl-result
+shl-result c = search needs
+
+returns : tie.Need-returns
+returns c = one-shl (c .args .slot) (c .pre)
+
+pub occupied-bit-spec : {M : Type 1} → statement M
+occupied-bit-spec = tie.close (tie.spec shl-result returns)

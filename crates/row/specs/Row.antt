@@ -1,0 +1,39 @@
+-- The occupied row of a level, a number as 64 flags. Document 01: "occupied bits name exactly the non-empty slots".
+use mathlib.Core.Path.{_≡_}
+use mathlib.Core.Bool.{Bool, true, false, cond}
+use Prim.Native.Nat.{ℕ, zero, suc, _+_, _*_, _/_, _%_, _^_, _<_}
+use lib.Dec.{eqb}
+
+-- the flag of slot s in the row x. The Rust: "The least-significant bit represents slot zero."
+unfoldable pub flagAt : ℕ → ℕ → Bool
+flagAt x s = eqb (x / 2 ^ s % 2) 1
+
+abbrev pub bit : Bool → ℕ
+bit true = 1
+bit false = 0
+
+-- the row of n slots whose flags are f 0, f 1 and so on
+unfoldable pub rowBelow : (ℕ → Bool) → ℕ → ℕ
+rowBelow f zero = 0
+rowBelow f (suc n) = rowBelow f n + bit (f n) * 2 ^ n
+
+-- the row of a level. A law of rows of n slots speaks of it at n = 64.
+abbrev pub rowOf : (ℕ → Bool) → ℕ
+rowOf f = rowBelow f 64
+
+-- the flags f with v at slot s
+unfoldable pub flagged : (ℕ → Bool) → ℕ → Bool → ℕ → Bool
+flagged f s v t = cond (eqb t s) v (f t)
+
+-- the flags f read from slot a on, round the 64. 01: "`rotate_right`: a helper."
+abbrev pub turned : (ℕ → Bool) → ℕ → ℕ → Bool
+turned f a s = f ((a + s) % 64)
+
+-- 01: the lowest non-empty level's "first occupied slot from elapsed on".
+-- r is the first slot that f marks from slot a on, round the 64: it lies some steps on, and no slot on the way is marked
+pub record FirstFrom (f : ℕ → Bool) (a r : ℕ) : Type 0 where
+  pub steps : ℕ
+  pub within : steps < 64
+  pub is : r ≡ (a + steps) % 64
+  pub marked : f r ≡ true
+  pub before : (j : ℕ) → j < steps → turned f a j ≡ false
