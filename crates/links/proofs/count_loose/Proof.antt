@@ -1,0 +1,83 @@
+-- `count_loose` meets its contract: the count is that of the records passed (`loose-more`, `loose-same`).
+use borrow.Author.Needs.{needs}
+use mathlib.Core.Path.{_≡_, refl, sym, ap, _∙_}
+use mathlib.Core.Logic.{⊎-elim}
+use Prim.Native.Nat.{ℕ, _≤_, _<_, _-_, _+_}
+use native.Mathlib.Omega.{arith}
+use Rattle.links.specs.Links.{at}
+use Rattle.links.specs.Judge.{looseIn, loose-zero, loose-more, loose-same}
+use Rattle.links.proofs.count_loose.Statement.{statement}
+use Rattle.links.proofs.count_loose.Tie as tie
+
+abbrev Inv-loop : tie.InvT-loop
+Inv-loop nexts prevs marks n count₀ i₀ count i = (i ≤ n) × (count ≤ i) × (count ≡ looseIn (at nexts) (at prevs) (at marks) i)
+
+abbrev μ-loop : tie.MeasureT-loop
+μ-loop nexts prevs marks n count₀ i₀ count i = n - i
+
+loop-holds : tie.Need-loop-holds Inv-loop μ-loop
+loop-holds c = (omega arith, omega arith, sym (loose-zero _ _ _))
+
+cast-k : tie.Need-cast-k Inv-loop μ-loop
+cast-k c = search needs
+
+mul-is-loose : tie.Need-mul-is-loose Inv-loop μ-loop
+mul-is-loose c = search needs
+
+shared-slice-read-is-loose : tie.Need-shared-slice-read-is-loose Inv-loop μ-loop
+shared-slice-read-is-loose c = search needs
+
+mul-is-loose-2 : tie.Need-mul-is-loose-2 Inv-loop μ-loop
+mul-is-loose-2 c = search needs
+
+shared-slice-read-is-loose-2 : tie.Need-shared-slice-read-is-loose-2 Inv-loop μ-loop
+shared-slice-read-is-loose-2 c = search needs
+
+mul-is-loose-3 : tie.Need-mul-is-loose-3 Inv-loop μ-loop
+mul-is-loose-3 c = search needs
+
+shared-slice-read-is-loose-3 : tie.Need-shared-slice-read-is-loose-3 Inv-loop μ-loop
+shared-slice-read-is-loose-3 c = search needs
+
+is-loose-requires : tie.Need-is-loose-requires Inv-loop μ-loop
+is-loose-requires c κs = search needs
+
+add-count : tie.Need-add-count Inv-loop μ-loop
+add-count c = search needs
+
+add-i : tie.Need-add-i Inv-loop μ-loop
+add-i c = search needs
+
+loop-less : tie.Need-loop-less Inv-loop μ-loop
+loop-less c = search needs
+
+loop-again : tie.Need-loop-again Inv-loop μ-loop
+loop-again c =
+    ⊎-elim
+    (λ w. (omega arith, omega arith, w .1 ∙ ap (λ (x : ℕ). x + 1) (c .before .before .before .before .before .before .loop .inv .2) ∙ sym (loose-more _ _ _ _ (sym (c .before .is-loose .ensures) ∙ w .0 .taken))))
+    (λ w. (omega arith, omega arith, w .1 ∙ c .before .before .before .before .before .before .loop .inv .2 ∙ sym (loose-same _ _ _ _ (sym (c .before .is-loose .ensures) ∙ w .0 .left))))
+    (c .if1 .came)
+
+returns : tie.Need-returns Inv-loop μ-loop
+returns c = let e : c .before .loop .i ≡ c .before .before .before .before .before .args .n = omega arith in c .before .loop .inv .2 ∙ ap (looseIn _ _ _) e
+
+pub count-loose-spec : {M : Type 1} → statement M
+count-loose-spec =
+    tie.close
+    (tie.spec
+    Inv-loop
+    μ-loop
+    loop-holds
+    cast-k
+    mul-is-loose
+    shared-slice-read-is-loose
+    mul-is-loose-2
+    shared-slice-read-is-loose-2
+    mul-is-loose-3
+    shared-slice-read-is-loose-3
+    is-loose-requires
+    add-count
+    add-i
+    loop-less
+    loop-again
+    returns)

@@ -1,0 +1,23 @@
+-- `put` meets its contract: the test says which of the two lists it is.
+use borrow.Author.Needs.{needs}
+use borrow.Author.Tests.{eq-eqb, ne-eqb}
+use Rattle.links.proofs.put.Statement.{statement}
+use Rattle.links.proofs.put.Tie as tie
+
+mul-l : tie.Need-mul-l
+mul-l c = search needs
+
+slice-write-l : tie.Need-slice-write-l
+slice-write-l c = c .before .pre (c .if1 .taken)
+
+same-length : tie.Need-same-length
+same-length c = search needs
+
+returns : tie.Need-returns
+returns c = simp (ne-eqb _ _ (c .if1 .taken))
+
+returns-2 : tie.Need-returns-2
+returns-2 c = simp (eq-eqb _ _ (c .if1 .left))
+
+pub put-spec : {M : Type 1} → statement M
+put-spec = tie.close (tie.spec mul-l slice-write-l same-length returns returns-2)

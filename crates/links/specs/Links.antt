@@ -1,0 +1,77 @@
+-- The words of the links, as lists, and what the functions make of them. The heads are the caller's: a function from a place to its head.
+use mathlib.Core.Path.{_≡_, refl, ap}
+use mathlib.Core.Logic.{_≢_}
+use mathlib.Core.List.{List}
+use mathlib.Core.Bool.{cond}
+use Prim.Native.Nat.{ℕ, _≤_, _<_}
+use lib.ListN.{length, getD, set}
+use lib.Dec.{eqb}
+use Rattle.links.specs.Lists.{nobody}
+use Rattle.links.specs.Family.{Net}
+
+pub record Links : Type 0 where
+  pub nexts : List ℕ
+  pub prevs : List ℕ
+  pub marks : List ℕ
+
+abbrev pub links : List ℕ → List ℕ → List ℕ → Links
+links ns ps ms = record { nexts = ns; prevs = ps; marks = ms }
+
+-- two are equal by their parts
+pub links-eq : {b c d b′ c′ d′ : List ℕ} → b ≡ b′ → c ≡ c′ → d ≡ d′ → links b c d ≡ links b′ c′ d′
+links-eq q r s = λ i. record { nexts = q i; prevs = r i; marks = s i }
+
+-- what stands at an index
+abbrev pub at : List ℕ → ℕ → ℕ
+at l i = getD l i 0
+
+abbrev pub net : (ℕ → ℕ) → Links → Net
+net hd s = record { hd = hd; nx = at (s .nexts); pv = at (s .prevs); mk = at (s .marks) }
+
+-- v at k, unless k is nobody
+abbrev pub setN : List ℕ → ℕ → ℕ → List ℕ
+setN l k v = cond (eqb k nobody) l (set l k v)
+
+-- i comes in front of h, with the mark p
+unfoldable pub joined : Links → ℕ → ℕ → ℕ → Links
+joined s p i h = links (set (s .nexts) i h) (setN (set (s .prevs) i nobody) h i) (set (s .marks) i p)
+
+-- i leaves its neighbours, who are joined, and is loose
+unfoldable pub cutOut : Links → ℕ → Links
+cutOut s i =
+    links (set (setN (s .nexts) (at (s .prevs) i) (at (s .nexts) i)) i nobody)
+    (set (setN (s .prevs) (at (s .nexts) i) (at (s .prevs) i)) i nobody)
+    (set (s .marks) i nobody)
+
+-- the same, store by store
+pub cut-is : (s : Links) (i : ℕ) {a b : List ℕ} → a ≡ setN (s .nexts) (at (s .prevs) i) (at (s .nexts) i) → b ≡ setN (s .prevs) (at (s .nexts) i) (at (s .prevs) i)
+    → links (set a i nobody) (set b i nobody) (set (s .marks) i nobody) ≡ cutOut s i
+unfolding cutOut
+cut-is s i e f = links-eq (ap (λ (l : List ℕ). set l i nobody) e) (ap (λ (l : List ℕ). set l i nobody) f) refl
+
+-- the head, h before, of the list that i leaves
+unfoldable pub headAfter : Links → ℕ → ℕ → ℕ
+headAfter s i h = cond (eqb i h) (at (s .nexts) i) h
+
+-- n records are there
+pub record Deep (n : ℕ) (s : Links) : Type 0 where
+  pub nexts : n ≤ length (s .nexts)
+  pub prevs : n ≤ length (s .prevs)
+  pub marks : n ≤ length (s .marks)
+
+-- k is nobody, or an index of l
+abbrev pub Inside : ℕ → List ℕ → Type 0
+Inside k l = k ≢ nobody → k < length l
+
+pub record CanJoin (s : Links) (i h : ℕ) : Type 0 where
+  pub next : i < length (s .nexts)
+  pub prev : i < length (s .prevs)
+  pub mark : i < length (s .marks)
+  pub first : Inside h (s .prevs)
+
+pub record CanCut (s : Links) (i : ℕ) : Type 0 where
+  pub next : i < length (s .nexts)
+  pub prev : i < length (s .prevs)
+  pub mark : i < length (s .marks)
+  pub after : Inside (at (s .nexts) i) (s .prevs)
+  pub before : Inside (at (s .prevs) i) (s .nexts)

@@ -1,0 +1,125 @@
+// The links of the records: doubly linked lists of record numbers in lent slices. The heads are the caller's.
+ghost use mathlib.Core.Path.{_≡_};
+ghost use Prim.Native.Nat.{ℕ};
+ghost use Rattle.links.specs.Links.{links, at, setN, joined, cutOut, headAfter, Deep, Inside, CanJoin, CanCut};
+ghost use Rattle.links.specs.Judge.{scan, bare, looseIn};
+
+// The record number that means nobody.
+pub const NOBODY: u16 = 65535;
+
+// What a walk of one list finds: that the list is wrong, or how much room its members leave.
+pub enum Walk {
+    Wrong,
+    Left(u16),
+}
+
+// v at k, unless k is nobody.
+fn put(l: &mut [u16], k: u16, v: u16)
+    requires { ⌜ Inside k (now l) ⌝ }
+    ensures { λ _. ⌜ now (l .exit) ≡ setN (now (l .entry)) k v ⌝ }
+{
+    if k != NOBODY {
+        l[k as usize] = v;
+    }
+}
+
+// The loose record i comes in front of h, the head of p. The caller makes i the head.
+pub fn join(nexts: &mut [u16], prevs: &mut [u16], marks: &mut [u16], p: u16, i: u16, h: u16)
+    requires { ⌜ CanJoin (links (now nexts) (now prevs) (now marks)) i h ⌝ }
+    ensures { λ _. ⌜
+        links (now (nexts .exit)) (now (prevs .exit)) (now (marks .exit))
+        ≡ joined (links (now (nexts .entry)) (now (prevs .entry)) (now (marks .entry))) p i h ⌝ }
+{
+    nexts[i as usize] = h;
+    prevs[i as usize] = NOBODY;
+    put(&mut *prevs, h, i);
+    marks[i as usize] = p;
+}
+
+// The record i leaves its list, whose head is h, and is loose. The head that the list has then: the caller keeps it.
+pub fn cut(nexts: &mut [u16], prevs: &mut [u16], marks: &mut [u16], i: u16, h: u16) -> u16
+    requires { ⌜ CanCut (links (now nexts) (now prevs) (now marks)) i ⌝ }
+    ensures { λ r. ⌜ r ≡ headAfter (links (now (nexts .entry)) (now (prevs .entry)) (now (marks .entry))) i h ⌝ }
+    ensures { λ _. ⌜
+        links (now (nexts .exit)) (now (prevs .exit)) (now (marks .exit))
+        ≡ cutOut (links (now (nexts .entry)) (now (prevs .entry)) (now (marks .entry))) i ⌝ }
+{
+    let before = prevs[i as usize];
+    let after = nexts[i as usize];
+    put(&mut *nexts, before, after);
+    put(&mut *prevs, after, before);
+    nexts[i as usize] = NOBODY;
+    prevs[i as usize] = NOBODY;
+    marks[i as usize] = NOBODY;
+    if i == h {
+        return after;
+    }
+    h
+}
+
+// Walks the list of p from its head h on: each member is one of n records, has the mark p and the one before it for its back link.
+pub fn walk_list(
+    nexts: &[u16],
+    prevs: &[u16],
+    marks: &[u16],
+    n: u16,
+    p: u16,
+    h: u16,
+    room: u16,
+) -> Walk
+    requires { ⌜ Deep n (links (now nexts) (now prevs) (now marks)) ⌝ }
+    ensures { λ r. ⌜ r ≡ scan (at (now (nexts .entry))) (at (now (prevs .entry))) (at (now (marks .entry))) n p room 65535 h ⌝ }
+{
+    let mut left = room;
+    let mut prev = NOBODY;
+    let mut i = h;
+    while i != NOBODY {
+        let k = i as usize;
+        if left == 0 {
+            return Walk::Wrong;
+        }
+        if n <= i {
+            return Walk::Wrong;
+        }
+        if marks[k] != p {
+            return Walk::Wrong;
+        }
+        if prevs[k] != prev {
+            return Walk::Wrong;
+        }
+        left -= 1;
+        prev = i;
+        i = nexts[k];
+    }
+    Walk::Left(left)
+}
+
+// No mark, no link.
+fn is_loose(next: u16, prev: u16, mark: u16) -> bool
+    ensures { λ r. ⌜ r ≡ bare next prev mark ⌝ }
+{
+    if mark != NOBODY {
+        return false;
+    }
+    if next != NOBODY {
+        return false;
+    }
+    prev == NOBODY
+}
+
+// How many of n records are loose.
+pub fn count_loose(nexts: &[u16], prevs: &[u16], marks: &[u16], n: u16) -> u16
+    requires { ⌜ Deep n (links (now nexts) (now prevs) (now marks)) ⌝ }
+    ensures { λ r. ⌜ r ≡ looseIn (at (now (nexts .entry))) (at (now (prevs .entry))) (at (now (marks .entry))) n ⌝ }
+{
+    let mut count = 0u16;
+    let mut i = 0u16;
+    while i < n {
+        let k = i as usize;
+        if is_loose(nexts[k], prevs[k], marks[k]) {
+            count += 1;
+        }
+        i += 1;
+    }
+    count
+}
