@@ -1,0 +1,46 @@
+-- `remove` meets its contract, store by store (`remove-is`).
+use borrow.Author.Needs.{needs}
+use Rattle.stack.specs.Words.{remove-is}
+use Rattle.stack.proofs.remove.Statement.{statement}
+use Rattle.stack.proofs.remove.Tie as tie
+
+mul-p : tie.Need-mul-p
+mul-p c = search needs
+
+slice-read-p : tie.Need-slice-read-p
+slice-read-p c = search needs
+
+head-of-requires : tie.Need-head-of-requires
+head-of-requires c κs = search needs
+
+cut-requires : tie.Need-cut-requires
+cut-requires c κs = search needs
+
+set-head-requires : tie.Need-set-head-requires
+set-head-requires c κs = search needs
+
+same-length : tie.Need-same-length
+same-length c = search needs
+
+same-length-2 : tie.Need-same-length-2
+same-length-2 c = search needs
+
+same-length-3 : tie.Need-same-length-3
+same-length-3 c = search needs
+
+returns : tie.Need-returns
+returns c = remove-is _ _ _ _ (c .before .before .before .before .before .before .before .before .before .before .before .before .head-of .ensures) (c .before .before .before .before .before .before .before .before .cut .ensures .0) (c .set-head .ensures .0) (c .set-head .ensures .1) (c .before .before .before .before .before .before .before .before .cut .ensures .1)
+
+pub remove-spec : {M : Type 1} → statement M
+remove-spec =
+    tie.close
+    (tie.spec
+    mul-p
+    slice-read-p
+    head-of-requires
+    cut-requires
+    set-head-requires
+    same-length
+    same-length-2
+    same-length-3
+    returns)

@@ -1,0 +1,93 @@
+-- The words of this layer, and what the functions make of them.
+use mathlib.Core.Path.{_≡_, sym, ap, _∙_}
+use mathlib.Core.Logic.{_≢_}
+use mathlib.Core.List.{List}
+use mathlib.Core.Bool.{Bool, cond}
+use Prim.Native.Nat.{ℕ, _<_}
+use lib.Dec.{eqb}
+use borrow.Author.Tests.{eq-eqb, ne-eqb}
+use Rattle.links.specs.Lists.{nobody}
+use Rattle.links.specs.Links.{Links, links, at, net, joined, cutOut, headAfter, CanCut}
+use Rattle.links.specs.Judge.{judge}
+use Rattle.stack.specs.declared.Stacks.{Stacks}
+use Rattle.stack.specs.Places.{places}
+use Rattle.stack.specs.Heads.{headOf, rowsWith, stacksWith}
+
+pub record StackWords : Type 0 where
+  pub stacks : Stacks
+  pub heads : List (List ℕ)
+  pub links : Links
+
+abbrev pub stackWords : Stacks → List (List ℕ) → Links → StackWords
+stackWords st hh ls = record { stacks = st; heads = hh; links = ls }
+
+-- as the functions have them
+abbrev pub words : Stacks → List (List ℕ) → List ℕ → List ℕ → List ℕ → StackWords
+words st hh ns ps ms = stackWords st hh (links ns ps ms)
+
+-- two are equal by their parts
+pub words-eq : {s s′ : Stacks} {h h′ : List (List ℕ)} {l l′ : Links} → s ≡ s′ → h ≡ h′ → l ≡ l′ → stackWords s h l ≡ stackWords s′ h′ l′
+words-eq p q r = λ i. record { stacks = p i; heads = q i; links = r i }
+
+-- how many records there are
+abbrev pub count : StackWords → ℕ
+count t = t .stacks .n
+
+-- the head of a place, the mark of a record
+abbrev pub headAt : StackWords → ℕ → ℕ
+headAt t p = headOf (t .stacks) (t .heads) p
+
+abbrev pub markOf : StackWords → ℕ → ℕ
+markOf t i = at (t .links .marks) i
+
+-- v becomes the head of the place p, over the links ls
+abbrev pub withHead : StackWords → ℕ → ℕ → Links → StackWords
+withHead t p v ls = stackWords (stacksWith (t .stacks) p v) (rowsWith (t .heads) p v) ls
+
+-- i comes to the head of the list of p
+unfoldable pub push : StackWords → ℕ → ℕ → StackWords
+push t p i = withHead t p i (joined (t .links) p i (headAt t p))
+
+-- i leaves the list of its mark
+unfoldable pub remove : StackWords → ℕ → StackWords
+remove t i = withHead t (markOf t i) (headAfter (t .links) i (headAt t (markOf t i))) (cutOut (t .links) i)
+
+-- the head of the list of p leaves it, if there is one
+unfoldable pub pop : StackWords → ℕ → StackWords
+pop t p = cond (eqb (headAt t p) nobody) t (remove t (headAt t p))
+
+-- p is a place, and its head can leave it
+pub record CanPop (t : StackWords) (p : ℕ) : Type 0 where
+  pub place : p < places
+  pub marked : headAt t p ≢ nobody → markOf t (headAt t p) < places
+  pub linked : headAt t p ≢ nobody → CanCut (t .links) (headAt t p)
+
+-- the judge
+unfoldable pub judged : StackWords → Bool
+judged t = judge (net (headAt t) (t .links)) places (count t)
+
+-- ---- the same, store by store
+
+pub push-is : (t : StackWords) (p i h : ℕ) {r : Stacks} {rows : List (List ℕ)} {ls : Links} → h ≡ headAt t p
+    → r ≡ stacksWith (t .stacks) p i → rows ≡ rowsWith (t .heads) p i → ls ≡ joined (t .links) p i h → stackWords r rows ls ≡ push t p i
+unfolding push
+push-is t p i h e f g k = words-eq f g (k ∙ ap (joined (t .links) p i) e)
+
+pub remove-is : (t : StackWords) (i h b : ℕ) {r : Stacks} {rows : List (List ℕ)} {ls : Links} → h ≡ headAt t (markOf t i) → b ≡ headAfter (t .links) i h
+    → r ≡ stacksWith (t .stacks) (markOf t i) b → rows ≡ rowsWith (t .heads) (markOf t i) b → ls ≡ cutOut (t .links) i → stackWords r rows ls ≡ remove t i
+unfolding remove
+remove-is t i h b e f g k l =
+    let q : b ≡ headAfter (t .links) i (headAt t (markOf t i)) = f ∙ ap (headAfter (t .links) i) e in
+    words-eq (g ∙ ap (stacksWith (t .stacks) (markOf t i)) q) (k ∙ ap (rowsWith (t .heads) (markOf t i)) q) l
+
+module _ (t : StackWords) (p h : ℕ) (e : h ≡ headAt t p) where
+  pub pop-none : h ≡ nobody → t ≡ pop t p
+  unfolding pop
+  pop-none z = rw (eq-eqb (headAt t p) nobody (sym e ∙ z))
+
+  pub pop-some : h ≢ nobody → {u : StackWords} → u ≡ remove t h → u ≡ pop t p
+  unfolding pop
+  pop-some d f = rw (ne-eqb (headAt t p) nobody (λ z. d (e ∙ z))) (f ∙ ap (remove t) e)
+
+  pub pop-asks : CanPop t p → h ≢ nobody → (markOf t h < places) × CanCut (t .links) h
+  pop-asks C d = rw e (C .marked (λ z. d (e ∙ z)), C .linked (λ z. d (e ∙ z)))
