@@ -1,0 +1,72 @@
+//! The replay bench: a line in, an answer out.
+use crate::line::{parse, Answer, Command};
+use crate::rules::{LAST_TURN, MOST_RECORDS};
+pub use crate::store::Store;
+use std::thread;
+
+#[derive(Default)]
+pub struct Bench {
+    store: Option<Store>,
+    lines: u64,
+}
+
+impl Bench {
+    pub fn store(&self) -> Option<&Store> {
+        self.store.as_ref()
+    }
+
+    pub fn line(&mut self, line: &[u8]) -> Answer {
+        self.lines += 1;
+        let _name_it = NameIt(self.lines, line);
+        let answer = parse(line).map_or(Answer::Bad, |command| self.run(command));
+        if let Some(store) = &self.store {
+            store.check_sound();
+        }
+        answer
+    }
+
+    fn run(&mut self, command: Command) -> Answer {
+        if let Command::Format { records, turn } = command {
+            return self.format(records, turn);
+        }
+        let Some(store) = &mut self.store else {
+            return Answer::No(2);
+        };
+        match command {
+            Command::Format { .. } => unreachable!("answered above"),
+            Command::Insert { value, when } => store.insert(value, when),
+            Command::Reset { key, when } => store.reset(key, when),
+            Command::Remove { key } => store.remove(key),
+            Command::Poll { now } => store.poll(now),
+            Command::Wake => store.wake(),
+            Command::Length => store.length(),
+            Command::Clear => store.clear(),
+        }
+    }
+
+    fn format(&mut self, records: u64, turn: u64) -> Answer {
+        if !(1..=MOST_RECORDS).contains(&records) {
+            return Answer::No(1);
+        }
+        if !(1..=LAST_TURN).contains(&turn) {
+            return Answer::No(8);
+        }
+        self.store = Some(Store::new(records as usize, turn));
+        Answer::Ok
+    }
+}
+
+/// Names the line at which a check failed.
+struct NameIt<'a>(u64, &'a [u8]);
+
+impl Drop for NameIt<'_> {
+    fn drop(&mut self) {
+        if thread::panicking() {
+            eprintln!(
+                "oracle: that was at line {}: {}",
+                self.0,
+                self.1.escape_ascii()
+            );
+        }
+    }
+}

@@ -1,0 +1,45 @@
+//! selfcheck [FROM TO LINES]: generated lines and all short sequences through the original, with
+//! its debug assertions live and every check of ours.
+use oracle::exit::exit;
+use oracle::generator::generate;
+use oracle::script::Script;
+use oracle::short;
+use oracle::tally::Tally;
+use std::env;
+use std::process::ExitCode;
+
+const USAGE: &str = "usage: selfcheck [FROM TO LINES]";
+const DEPTH: u32 = 3;
+
+fn main() -> ExitCode {
+    let outcome = run(env::args().skip(1).collect());
+    exit("selfcheck", outcome.map(|()| true))
+}
+
+fn run(args: Vec<String>) -> Result<(), String> {
+    if !cfg!(debug_assertions) {
+        return Err("built without the original's debug assertions".into());
+    }
+    let numbers: Result<Vec<u64>, _> = args.iter().map(|arg| arg.parse()).collect();
+    let (from, to, lines) = match numbers.map_err(|_| USAGE)?[..] {
+        [] => (1, 240, 5000),
+        [from, to, lines] if from <= to && lines > 0 => (from, to, lines),
+        _ => return Err(USAGE.into()),
+    };
+    let mut tally = Tally::default();
+    let mut count = 0;
+    for seed in from..=to {
+        let script = generate(seed, lines as usize, false);
+        tally.add(&script.answers);
+        count += script.len();
+    }
+    println!("{tally}");
+    println!("seeds {from}..{to}: {count} lines run, every check held");
+
+    let mut script = Script::new(false);
+    short::add(DEPTH, 0..short::count(DEPTH), &mut script);
+    let short = script.len();
+    println!("every sequence of {DEPTH} commands: {short} lines run, every check held");
+    println!("{} lines run in all", count + short);
+    Ok(())
+}

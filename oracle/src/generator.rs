@@ -1,0 +1,408 @@
+//! Command lines at random, aimed at the boundaries: one seed, one script. The script answers each
+//! line at once, so that elapsed, the pending timers and their keys are known.
+use crate::bench::Store;
+use crate::line::{Answer, Command};
+use crate::malformed::malformed;
+use crate::rng::Rng;
+use crate::rules::{block, key, unpack, BLOCK_BITS, FARTHEST, LAST_TURN, MOST_RECORDS, WIDTHS};
+use crate::script::Script;
+
+/// Weights of insert, reset, remove, poll, wake, length, clear and malformed lines in a stretch.
+const MIXES: [[u64; 8]; 6] = [
+    [24, 2, 2, 4, 2, 0, 0, 0],
+    [6, 24, 2, 6, 2, 0, 0, 0],
+    [8, 4, 8, 8, 2, 2, 0, 0],
+    [6, 2, 2, 24, 2, 0, 0, 0],
+    [12, 6, 4, 12, 4, 2, 0, 3],
+    [24, 12, 6, 24, 3, 3, 1, 6],
+];
+/// Most deadlines of a stretch lie within two to such a power of elapsed.
+const REACHES: [u64; 9] = [3, 7, 8, 12, 13, 18, 24, 30, 36];
+const GIVEN: usize = 64;
+
+/// What one seed gives, on stores of any size.
+pub fn generate(seed: u64, lines: usize, with_lists: bool) -> Script {
+    generate_small(seed, lines, MOST_RECORDS, with_lists)
+}
+
+/// The same, on stores of at most `most_records`.
+pub fn generate_small(seed: u64, lines: usize, most_records: u64, with_lists: bool) -> Script {
+    let mut generator = Generator {
+        rng: Rng::new(seed),
+        script: Script::new(with_lists),
+        lines,
+        most_records,
+        given: vec![],
+        reach: REACHES[0],
+        mix: MIXES[5],
+    };
+    generator.run();
+    generator.script
+}
+
+struct Generator {
+    rng: Rng,
+    script: Script,
+    /// How long the script is to be.
+    lines: usize,
+    most_records: u64,
+    /// Keys that were given out, many of them dead by now.
+    given: Vec<u64>,
+    reach: u64,
+    mix: [u64; 8],
+}
+
+impl Generator {
+    fn run(&mut self) {
+        // These meet no store yet.
+        for _ in 0..self.rng.below(6) {
+            self.step();
+        }
+        self.format();
+        while !self.full() {
+            self.stretch();
+        }
+    }
+
+    fn full(&self) -> bool {
+        self.script.len() >= self.lines
+    }
+
+    fn store(&self) -> Option<&Store> {
+        self.script.bench().store()
+    }
+
+    fn elapsed(&self) -> u64 {
+        self.store().map_or(0, Store::elapsed)
+    }
+
+    fn send(&mut self, line: &[u8]) -> Option<Answer> {
+        if self.full() {
+            return None;
+        }
+        let answer = self.script.add(line);
+        if let Answer::Key(key) = answer {
+            self.keep(key);
+        }
+        Some(answer)
+    }
+
+    fn command(&mut self, command: Command) -> Option<Answer> {
+        self.send(command.to_string().as_bytes())
+    }
+
+    fn keep(&mut self, key: u64) {
+        if self.given.len() == GIVEN {
+            let at = self.rng.below(GIVEN as u64) as usize;
+            self.given.swap_remove(at);
+        }
+        self.given.push(key);
+    }
+
+    /// Some lines of one character, perhaps on a new store or at another time.
+    fn stretch(&mut self) {
+        if self.rng.chance(1, 5) {
+            self.format();
+        }
+        self.reach = self.rng.pick(&REACHES);
+        self.mix = self.rng.pick(&MIXES);
+        if self.rng.chance(1, 12) {
+            self.rush();
+        }
+        let size = self.store().map_or(4, |store| store.size() as u64);
+        let long = self.rng.chance(1, 3);
+        let most = if long { 2 * size + 20 } else { 40 };
+        for _ in 0..=self.rng.below(most) {
+            self.step();
+        }
+    }
+
+    fn step(&mut self) {
+        if self.rng.chance(1, 40) {
+            let now = self.now();
+            self.poll_until_none(now);
+            return;
+        }
+        let kind = self.kind();
+        let command = self.one(kind);
+        if kind == 7 {
+            let line = malformed(&mut self.rng, &command.to_string());
+            self.send(&line);
+        } else {
+            self.command(command);
+        }
+    }
+
+    /// A place in the mix, by its weights.
+    fn kind(&mut self) -> usize {
+        let mut at = self.rng.below(self.mix.iter().sum());
+        let kind = self.mix.iter().position(|&weight| {
+            let here = at < weight;
+            at = at.saturating_sub(weight);
+            here
+        });
+        kind.expect("the weights add up")
+    }
+
+    fn one(&mut self, kind: usize) -> Command {
+        let lonely = self.some_pending().is_none() && self.rng.chance(9, 10);
+        match kind {
+            1 if !lonely => self.reset(),
+            2 if !lonely => Command::Remove { key: self.key() },
+            3 => Command::Poll { now: self.now() },
+            4 => Command::Wake,
+            5 => Command::Length,
+            6 => Command::Clear,
+            7 => {
+                let kind = self.rng.below(7) as usize;
+                self.one(kind)
+            }
+            _ => self.insert(),
+        }
+    }
+
+    fn insert(&mut self) -> Command {
+        let value = match self.rng.below(40) {
+            0 => u64::MAX,
+            1 => self.rng.next(),
+            _ => self.rng.below(1000),
+        };
+        let when = self.when();
+        Command::Insert { value, when }
+    }
+
+    fn reset(&mut self) -> Command {
+        let key = self.key();
+        let (_, record) = unpack(key);
+        let again = self.rng.chance(1, 6);
+        let when = match self.store() {
+            Some(store) if again && record < store.size() => store.deadline(record),
+            _ => self.when(),
+        };
+        Command::Reset { key, when }
+    }
+
+    fn poll_until_none(&mut self, now: u64) {
+        let poll = Command::Poll { now };
+        while let Some(Answer::Out { .. }) = self.command(poll) {}
+    }
+
+    /// Fills the store, then empties it by polls.
+    fn rush(&mut self) {
+        let same = self.rng.chance(1, 3).then(|| self.when());
+        loop {
+            let value = self.rng.below(1000);
+            let when = same.unwrap_or_else(|| self.when());
+            match self.command(Command::Insert { value, when }) {
+                Some(Answer::Key(_)) => (),
+                Some(Answer::No(4 | 5)) if same.is_none() => (),
+                _ => break,
+            }
+        }
+        self.command(Command::Length);
+        let now = self.now();
+        self.poll_until_none(now);
+        if self.rng.chance(1, 2) {
+            let now = (self.elapsed() >> BLOCK_BITS << BLOCK_BITS) + FARTHEST;
+            self.poll_until_none(now);
+        }
+    }
+
+    /// A new store, half the time followed by a poll at a far time.
+    fn format(&mut self) {
+        let command = match self.rng.below(8) {
+            0 | 1 => self.odd_format(),
+            2 | 3 => self.smaller_format().unwrap_or_else(|| self.fair_format()),
+            _ => self.fair_format(),
+        };
+        self.command(command);
+        if self.rng.chance(1, 2) {
+            let base = match self.rng.below(6) {
+                0 => self.rng.below(1 << 20),
+                1 => (1 + self.rng.below(8)) << BLOCK_BITS,
+                2 => ((1 + self.rng.below(8)) << BLOCK_BITS) - self.rng.below(200),
+                3 => u64::MAX - self.rng.below(1 << 40),
+                4 => u64::MAX - self.rng.below(200),
+                _ => self.rng.next(),
+            };
+            let now = self.near(base);
+            self.command(Command::Poll { now });
+        }
+    }
+
+    fn odd_format(&mut self) -> Command {
+        Command::Format {
+            records: self.rng.pick(&[1, 2, 1024, 0, 1025, 65536, u64::MAX]),
+            turn: self.rng.pick(&[1, LAST_TURN, 0, LAST_TURN + 1, u64::MAX]),
+        }
+    }
+
+    /// A smaller store with the turns of the one before, whose keys are then tried on it.
+    fn smaller_format(&mut self) -> Option<Command> {
+        let store = self.store()?;
+        let pending = store.pending();
+        let records = (*pending.last()?).max(1) as u64;
+        let turn = (0..store.size()).map(|r| store.turn(r)).min()?;
+        let last_keys = pending.iter().rev().take(20).map(|&r| store.key(r));
+        for key in last_keys.collect::<Vec<_>>() {
+            self.keep(key);
+        }
+        Some(Command::Format { records, turn })
+    }
+
+    fn fair_format(&mut self) -> Command {
+        let records = match self.rng.below(8) {
+            0..=4 => 1 + self.rng.below(8),
+            5 => 1 + self.rng.below(64),
+            6 => 1024,
+            _ => 1 + self.rng.below(1024),
+        };
+        let turn = match self.rng.below(4) {
+            0 => LAST_TURN - self.rng.below(4),
+            1 => 1 + self.rng.below(LAST_TURN),
+            _ => 1 + self.rng.below(3),
+        };
+        let records = records.min(self.most_records);
+        Command::Format { records, turn }
+    }
+
+    fn some_pending(&mut self) -> Option<usize> {
+        let pending = self.store()?.pending();
+        (!pending.is_empty()).then(|| self.rng.pick(&pending))
+    }
+
+    fn some_deadline(&mut self) -> Option<u64> {
+        let record = self.some_pending()?;
+        self.store().map(|store| store.deadline(record))
+    }
+
+    /// The time itself half of the time, else one or two beside it.
+    fn near(&mut self, time: u64) -> u64 {
+        match self.rng.below(6) {
+            0..=2 => time,
+            3 => time.wrapping_add(1),
+            4 => time.wrapping_sub(1),
+            _ => time.wrapping_add(self.rng.below(5)).wrapping_sub(2),
+        }
+    }
+
+    fn within_reach(&mut self) -> u64 {
+        let bits = self.rng.below(self.reach + 1);
+        let ahead = self.rng.next() & ((1 << bits) - 1);
+        self.elapsed().wrapping_add(ahead)
+    }
+
+    /// A deadline.
+    fn when(&mut self) -> u64 {
+        let elapsed = self.elapsed();
+        let block_start = elapsed >> BLOCK_BITS << BLOCK_BITS;
+        match self.rng.below(22) {
+            0 => elapsed,
+            1 => elapsed.wrapping_add(1 + self.rng.below(3)),
+            2 => elapsed.wrapping_sub(1 + self.rng.below(70)),
+            3 => self.rng.below(3),
+            4..=7 => self.near_slot_start(),
+            8 => {
+                let blocks = block(elapsed).wrapping_add(self.rng.below(3));
+                self.near(blocks << BLOCK_BITS)
+            }
+            9 => self.near(elapsed.wrapping_add(FARTHEST)),
+            10 => self.near(block_start + FARTHEST),
+            11 => match self.rng.below(4) {
+                0 => self.near(u64::MAX),
+                1 => self.rng.next(),
+                2 => elapsed.wrapping_add(self.rng.below(1 << 38)),
+                _ => block_start | (self.rng.next() & FARTHEST),
+            },
+            12..=14 => match self.some_deadline() {
+                Some(deadline) if self.rng.chance(3, 4) => deadline,
+                Some(deadline) => self.near(deadline),
+                None => elapsed.wrapping_add(5),
+            },
+            _ => self.within_reach(),
+        }
+    }
+
+    /// Near the start of a slot ahead, at any level.
+    fn near_slot_start(&mut self) -> u64 {
+        let width = self.rng.pick(&WIDTHS);
+        let far = self.rng.pick(&[4, 65]);
+        let slots = (self.elapsed() / width).wrapping_add(self.rng.below(far));
+        self.near(slots.wrapping_mul(width))
+    }
+
+    /// A time to poll at, seldom gone back.
+    fn now(&mut self) -> u64 {
+        let elapsed = self.elapsed();
+        match self.rng.below(24) {
+            0..=3 => elapsed,
+            4 => elapsed.wrapping_add(1),
+            5 => elapsed.wrapping_sub(1),
+            6..=9 => {
+                let wake = self.store().and_then(Store::next_wake);
+                self.near(wake.unwrap_or(elapsed))
+            }
+            10..=14 => self.now_near_deadline(),
+            15 => self.far_now(),
+            _ => self.within_reach(),
+        }
+    }
+
+    /// Near some deadline, or near the start of a slot that holds it.
+    fn now_near_deadline(&mut self) -> u64 {
+        let elapsed = self.elapsed();
+        let Some(deadline) = self.some_deadline() else {
+            return elapsed;
+        };
+        let width = self.rng.pick(&WIDTHS);
+        let exact = self.rng.chance(1, 2);
+        let time = if exact {
+            deadline
+        } else {
+            deadline / width * width
+        };
+        let now = self.near(time);
+        let back = now < elapsed && self.rng.chance(1, 10);
+        if back {
+            now
+        } else {
+            now.max(elapsed)
+        }
+    }
+
+    /// Far back, at the block's end, or (seldom, for it ends the store's use) far ahead.
+    fn far_now(&mut self) -> u64 {
+        let elapsed = self.elapsed();
+        let block_end = (elapsed >> BLOCK_BITS << BLOCK_BITS) + FARTHEST;
+        match self.rng.below(12) {
+            0 => self.rng.below(2),
+            1 => elapsed.wrapping_sub(self.rng.below(1 << 20)),
+            2 => block_end,
+            3 => block_end.wrapping_add(1),
+            4 if self.rng.chance(1, 20) => u64::MAX,
+            5 if self.rng.chance(1, 20) => self.rng.next(),
+            _ => elapsed,
+        }
+    }
+
+    /// Mostly the key of a pending timer; else one that is dead, foreign or never given.
+    fn key(&mut self) -> u64 {
+        let live = match (self.some_pending(), self.store()) {
+            (Some(record), Some(store)) => store.key(record),
+            _ => key(1, 0),
+        };
+        let (turn, record) = unpack(live);
+        let size = self.store().map_or(0, Store::size);
+        match self.rng.below(40) {
+            0 => live.wrapping_add(key(1, 0)),
+            1 => live.wrapping_sub(key(1, 0)),
+            2 => key(0, record),
+            3 => key(turn, self.rng.below(1 << 16) as usize),
+            4 => key(turn, size),
+            5 if self.rng.chance(1, 3) => self.rng.next(),
+            6 | 7 if !self.given.is_empty() => self.rng.pick(&self.given),
+            8 if self.rng.chance(1, 4) => u64::MAX,
+            _ => live,
+        }
+    }
+}

@@ -1,0 +1,138 @@
+//! The original's slab, stacks and wheel, with the steps of `DelayQueue` around them that touch
+//! these three. Times are milliseconds from the start, and the wheel's lists are watched.
+//!
+//! [`crate::whole`] is the same queue with not a line left out; every answer is held against it.
+
+// Whole items of delay_queue.rs, and its methods insert_idx and remove_key.
+include!(concat!(env!("OUT_DIR"), "/delay_queue_parts.rs"));
+
+mod watch;
+
+use crate::rules::WIDTHS;
+use std::cell::RefCell;
+use std::rc::Rc;
+pub use watch::Counts;
+use watch::{Notes, Watch};
+
+pub struct Queue {
+    slab: SlabStorage<u64>,
+    wheel: Wheel<Watch>,
+    expired: Stack<u64>,
+    notes: Rc<RefCell<Notes>>,
+}
+
+impl Queue {
+    pub fn new(capacity: usize) -> Queue {
+        let (wheel, notes) = watch::wheel();
+        Queue {
+            slab: SlabStorage::with_capacity(capacity),
+            wheel,
+            expired: Stack::default(),
+            notes,
+        }
+    }
+
+    /// Answers the slab's number for the new timer.
+    pub fn insert(&mut self, value: u64, when: u64) -> usize {
+        let when = when.max(self.wheel.elapsed());
+        let key = self.slab.insert(Data {
+            inner: value,
+            when,
+            expired: false,
+            next: None,
+            prev: None,
+        });
+        self.insert_idx(when, key);
+        key.index
+    }
+
+    pub fn reset(&mut self, number: usize, when: u64) {
+        let key = Key::new(number);
+        self.remove_key(&key);
+        let when = when.max(self.wheel.elapsed());
+        self.slab[key].when = when;
+        self.slab[key].expired = false;
+        self.insert_idx(when, key);
+    }
+
+    /// Answers value and deadline.
+    pub fn remove(&mut self, number: usize) -> (u64, u64) {
+        let key = Key::new(number);
+        self.remove_key(&key);
+        let data = self.slab.remove(&key);
+        (data.inner, data.when)
+    }
+
+    /// A pop of the expired stack, else `Wheel::poll`; answers number, value and deadline.
+    pub fn poll(&mut self, now: u64) -> Option<(usize, u64, u64)> {
+        use self::wheel::Stack;
+
+        self.notes.borrow_mut().counts = Counts::default();
+        let key = match self.expired.pop(&mut self.slab) {
+            Some(key) => key,
+            None => self.wheel.poll(now, &mut self.slab)?,
+        };
+        let data = self.slab.remove(&key);
+        assert!(data.next.is_none() && data.prev.is_none());
+        Some((key.index, data.inner, data.when))
+    }
+
+    pub fn clear(&mut self) {
+        self.slab.clear();
+        self.expired = Stack::default();
+        (self.wheel, self.notes) = watch::wheel();
+    }
+
+    pub fn wake(&self) -> Option<u64> {
+        self.wheel.poll_at()
+    }
+
+    pub fn len(&self) -> usize {
+        self.slab.len()
+    }
+
+    pub fn elapsed(&self) -> u64 {
+        self.wheel.elapsed()
+    }
+
+    pub fn deadline(&self, number: usize) -> u64 {
+        self.slab[Key::new(number)].when
+    }
+
+    /// What the last poll did to the wheel's lists.
+    pub fn counts(&self) -> Counts {
+        self.notes.borrow().counts.clone()
+    }
+
+    /// The expired stack, head first.
+    pub fn expired(&self) -> Vec<usize> {
+        self.walk(self.expired.head)
+    }
+
+    /// The wheel's lists, head first; slot s of level k is list 64 k + s.
+    pub fn lists(&self) -> Vec<Vec<usize>> {
+        let notes = self.notes.borrow();
+        notes.heads.iter().map(|&head| self.walk(head)).collect()
+    }
+
+    fn walk(&self, head: Option<Key>) -> Vec<usize> {
+        let mut list = vec![];
+        let (mut before, mut at) = (None, head);
+        while let Some(key) = at {
+            assert_eq!(self.slab[key].prev, before, "links must agree both ways");
+            list.push(key.index);
+            assert!(list.len() <= self.slab.len(), "a list must have an end");
+            before = at;
+            at = self.slab[key].next;
+        }
+        list
+    }
+
+    /// The rows of occupied bits. They are private to the wheel, but its debug text shows them.
+    pub fn occupied(&self) -> [u64; WIDTHS.len()] {
+        let text = format!("{:?}", self.wheel);
+        let rows = text.split("occupied: ").skip(1);
+        let row = |rest: &str| rest.split(' ').next().unwrap().parse().unwrap();
+        rows.map(row).collect::<Vec<_>>().try_into().unwrap()
+    }
+}

@@ -1,0 +1,37 @@
+//! The numbers and the arithmetic that the rules of the queue speak of.
+
+/// How many milliseconds a slot spans at each level.
+pub const WIDTHS: [u64; 6] = [1, 64, 4096, 262_144, 16_777_216, 1_073_741_824];
+pub const SLOTS: usize = 64;
+/// A deadline must lie in the same block of 2^36 milliseconds as elapsed.
+pub const BLOCK_BITS: u32 = 36;
+/// The farthest that a deadline may lie ahead of elapsed.
+pub const FARTHEST: u64 = 68_719_476_735;
+pub const MOST_RECORDS: u64 = 1024;
+pub const LAST_TURN: u64 = (1 << 48) - 1;
+
+/// The greatest k with different quotients, 0 if none: by division, where the original counts
+/// leading zeros, so that the two can be held against each other.
+pub fn level(elapsed: u64, deadline: u64) -> usize {
+    (0..WIDTHS.len())
+        .rev()
+        .find(|&k| elapsed / WIDTHS[k] != deadline / WIDTHS[k])
+        .unwrap_or(0)
+}
+
+pub fn slot(level: usize, deadline: u64) -> usize {
+    (deadline / WIDTHS[level] % SLOTS as u64) as usize
+}
+
+pub fn block(time: u64) -> u64 {
+    time >> BLOCK_BITS
+}
+
+pub fn key(turn: u64, record: usize) -> u64 {
+    turn << 16 | record as u64
+}
+
+/// The turn and the record number that a key names.
+pub fn unpack(key: u64) -> (u64, usize) {
+    (key >> 16, (key & 0xffff) as usize)
+}

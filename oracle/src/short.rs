@@ -1,0 +1,46 @@
+//! Every sequence of a few commands over a small alphabet, each on a store of two records that can
+//! leave once before their last turn.
+use crate::line::Command;
+use crate::rules::{key, LAST_TURN};
+use crate::script::Script;
+use std::ops::Range;
+
+const TURN: u64 = LAST_TURN - 1;
+
+pub fn alphabet() -> Vec<Command> {
+    let [first, second] = [key(TURN, 0), key(TURN, 1)];
+    let first_again = key(TURN + 1, 0);
+    let inserts = [0, 1, 63, 64, 65, 4096, 4160].map(|when| Command::Insert { value: 1, when });
+    let polls = [0, 1, 63, 64, 65, 4095, 4096, 4161].map(|now| Command::Poll { now });
+    let resets = [first, second]
+        .map(|key| [0, 64, 65, 4097].map(|when| Command::Reset { key, when }))
+        .concat();
+    let removes = [first, first_again].map(|key| Command::Remove { key });
+    let others = [Command::Wake, Command::Clear];
+    [&inserts[..], &polls, &resets, &removes, &others].concat()
+}
+
+/// How many sequences of this depth there are.
+pub fn count(depth: u32) -> u64 {
+    (alphabet().len() as u64).pow(depth)
+}
+
+/// Adds the sequences with these numbers, each with a format before it and four lines after it that
+/// show what is left.
+pub fn add(depth: u32, numbers: Range<u64>, script: &mut Script) {
+    let alphabet = alphabet();
+    let letters = alphabet.len() as u64;
+    let start = Command::Format {
+        records: 2,
+        turn: TURN,
+    };
+    let poll = Command::Poll { now: 8192 };
+    let end = [poll, poll, Command::Wake, Command::Length];
+    for number in numbers {
+        let letter = |place| alphabet[(number / letters.pow(place) % letters) as usize];
+        let middle: Vec<Command> = (0..depth).map(letter).collect();
+        for command in [&[start][..], &middle, &end].concat() {
+            script.add(command.to_string().as_bytes());
+        }
+    }
+}

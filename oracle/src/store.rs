@@ -1,0 +1,280 @@
+//! The records, their keys and turns, and the refusals: what stands in front of the original.
+mod checks;
+mod model;
+
+use crate::line::Answer;
+use crate::original::Original;
+use crate::rules::{block, key, level, unpack, FARTHEST, LAST_TURN, SLOTS};
+use checks::Polled;
+use model::{Model, EXPIRED};
+use std::fmt::Write;
+
+#[derive(Clone, Copy, PartialEq, Eq, Debug)]
+enum Place {
+    Free,
+    Retired,
+    Expired,
+    Wheel,
+}
+
+#[derive(Clone)]
+struct Record {
+    turn: u64,
+    value: u64,
+    deadline: u64,
+    place: Place,
+    /// The original's number for this timer.
+    number: usize,
+}
+
+pub struct Store {
+    records: Vec<Record>,
+    /// Records that left and may be taken again, the last freed at the end.
+    freed: Vec<usize>,
+    /// Records from this one on were never taken.
+    fresh: usize,
+    /// The record of each number of the original.
+    record_of: Vec<usize>,
+    original: Original,
+    model: Model,
+}
+
+impl Store {
+    pub fn new(records: usize, turn: u64) -> Store {
+        let free = Record {
+            turn,
+            value: 0,
+            deadline: 0,
+            place: Place::Free,
+            number: 0,
+        };
+        Store {
+            records: vec![free; records],
+            freed: vec![],
+            fresh: 0,
+            record_of: vec![0; records],
+            original: Original::new(records),
+            model: Model::new(records),
+        }
+    }
+
+    pub fn insert(&mut self, value: u64, when: u64) -> Answer {
+        if self.freed.is_empty() && self.fresh == self.records.len() {
+            return Answer::No(3);
+        }
+        if let Some(number) = self.too_far(when) {
+            return Answer::No(number);
+        }
+        let record = self.take();
+        let number = self.original.insert(value, when);
+        self.record_of[number] = record;
+        self.records[record].value = value;
+        self.records[record].number = number;
+        self.place(record, when);
+        Answer::Key(self.key(record))
+    }
+
+    pub fn reset(&mut self, key: u64, when: u64) -> Answer {
+        let Some(record) = self.find(key) else {
+            return Answer::No(6);
+        };
+        if let Some(number) = self.too_far(when) {
+            return Answer::No(number);
+        }
+        self.original.reset(self.records[record].number, when);
+        self.model.remove(record);
+        self.place(record, when);
+        Answer::Ok
+    }
+
+    pub fn remove(&mut self, key: u64) -> Answer {
+        let Some(record) = self.find(key) else {
+            return Answer::No(6);
+        };
+        let (value, deadline) = self.original.remove(self.records[record].number);
+        self.check_held(record, value, deadline);
+        self.model.remove(record);
+        self.leave(record);
+        Answer::Gone { value, deadline }
+    }
+
+    pub fn poll(&mut self, now: u64) -> Answer {
+        let elapsed = self.elapsed();
+        if now < elapsed {
+            return Answer::No(7);
+        }
+        let heights = self.heights();
+        let from_expired = !self.original.watched().expired().is_empty();
+        let out = self.original.poll(now).map(|(number, value, deadline)| {
+            let record = self.record_of[number];
+            self.check_held(record, value, deadline);
+            record
+        });
+        let polled = Polled {
+            now,
+            elapsed,
+            heights,
+            from_expired,
+            out,
+        };
+        let (moves, drains) = self.check_poll(&polled);
+        let Some(record) = out else {
+            return Answer::Nothing { moves, drains };
+        };
+        let key = self.key(record);
+        let Record {
+            value, deadline, ..
+        } = self.records[record];
+        self.leave(record);
+        Answer::Out {
+            key,
+            value,
+            deadline,
+            moves,
+            drains,
+        }
+    }
+
+    pub fn wake(&self) -> Answer {
+        Answer::Wake(self.original.wake())
+    }
+
+    pub fn length(&self) -> Answer {
+        Answer::Length(self.original.len() as u64)
+    }
+
+    pub fn clear(&mut self) -> Answer {
+        self.original.clear();
+        self.model = Model::new(self.records.len());
+        for record in self.pending() {
+            self.leave(record);
+        }
+        Answer::Ok
+    }
+
+    pub fn size(&self) -> usize {
+        self.records.len()
+    }
+
+    pub fn elapsed(&self) -> u64 {
+        self.original.elapsed()
+    }
+
+    pub fn next_wake(&self) -> Option<u64> {
+        self.original.wake()
+    }
+
+    pub fn pending(&self) -> Vec<usize> {
+        let is = |&record: &usize| self.is_pending(record);
+        (0..self.records.len()).filter(is).collect()
+    }
+
+    pub fn key(&self, record: usize) -> u64 {
+        key(self.records[record].turn, record)
+    }
+
+    pub fn deadline(&self, record: usize) -> u64 {
+        self.records[record].deadline
+    }
+
+    pub fn turn(&self, record: usize) -> u64 {
+        self.records[record].turn
+    }
+
+    /// Elapsed and all lists, head first: `# e=ELAPSED x=[..] LEVEL.SLOT=[..] ..`.
+    pub fn contents(&self) -> String {
+        let lists = self.lists();
+        let mut text = format!("# e={} x={}", self.elapsed(), show(&lists[EXPIRED]));
+        for (place, list) in lists[..EXPIRED].iter().enumerate() {
+            if !list.is_empty() {
+                let (level, slot) = (place / SLOTS, place % SLOTS);
+                write!(text, " {level}.{slot}={}", show(list)).expect("memory");
+            }
+        }
+        text
+    }
+
+    /// The original's lists in record numbers, head first: the slots, then the expired stack.
+    fn lists(&self) -> Vec<Vec<usize>> {
+        let mut lists = self.original.watched().lists();
+        lists.push(self.original.watched().expired());
+        for number in lists.iter_mut().flatten() {
+            *number = self.record_of[*number];
+        }
+        lists
+    }
+
+    fn is_pending(&self, record: usize) -> bool {
+        matches!(self.records[record].place, Place::Expired | Place::Wheel)
+    }
+
+    /// The pending record that a key names.
+    fn find(&self, key: u64) -> Option<usize> {
+        let (turn, record) = unpack(key);
+        let named = record < self.records.len()
+            && self.is_pending(record)
+            && self.records[record].turn == turn;
+        named.then_some(record)
+    }
+
+    /// Refusals 4 and 5.
+    fn too_far(&self, when: u64) -> Option<u8> {
+        let elapsed = self.elapsed();
+        if when <= elapsed {
+            None
+        } else if when - elapsed > FARTHEST {
+            Some(4)
+        } else if block(when) != block(elapsed) {
+            Some(5)
+        } else {
+            None
+        }
+    }
+
+    fn take(&mut self) -> usize {
+        self.freed.pop().unwrap_or_else(|| {
+            self.fresh += 1;
+            self.fresh - 1
+        })
+    }
+
+    fn place(&mut self, record: usize, when: u64) {
+        self.model.insert(record, when);
+        let elapsed = self.elapsed();
+        let record = &mut self.records[record];
+        record.deadline = when.max(elapsed);
+        record.place = if when <= elapsed {
+            Place::Expired
+        } else {
+            Place::Wheel
+        };
+    }
+
+    fn leave(&mut self, record: usize) {
+        if self.records[record].turn == LAST_TURN {
+            self.records[record].place = Place::Retired;
+        } else {
+            self.records[record].turn += 1;
+            self.records[record].place = Place::Free;
+            self.freed.push(record);
+        }
+    }
+
+    fn height(&self, record: usize) -> usize {
+        match self.records[record].place {
+            Place::Wheel => level(self.elapsed(), self.records[record].deadline),
+            _ => 0,
+        }
+    }
+
+    /// Each pending record with its height.
+    fn heights(&self) -> Vec<(usize, usize)> {
+        let height = |record| (record, self.height(record));
+        self.pending().into_iter().map(height).collect()
+    }
+}
+
+fn show(list: &[usize]) -> String {
+    let records: Vec<String> = list.iter().map(usize::to_string).collect();
+    format!("[{}]", records.join(","))
+}

@@ -1,0 +1,101 @@
+//! The steps of the wheel in the words of the rules, over plain lists: a second reading that the
+//! original's lists and answers are held against.
+use crate::rules::{level, slot, SLOTS, WIDTHS};
+
+/// The place of the expired stack, after the slots; slot s of level k is 64 k + s.
+pub const EXPIRED: usize = WIDTHS.len() * SLOTS;
+
+pub struct Model {
+    pub elapsed: u64,
+    /// Records in each place, the head at the end.
+    pub lists: Vec<Vec<usize>>,
+    deadlines: Vec<u64>,
+}
+
+/// The first slot to look at: its level, its place, its start.
+struct First {
+    level: usize,
+    place: usize,
+    start: u64,
+}
+
+impl Model {
+    pub fn new(records: usize) -> Model {
+        Model {
+            elapsed: 0,
+            lists: vec![vec![]; EXPIRED + 1],
+            deadlines: vec![0; records],
+        }
+    }
+
+    pub fn insert(&mut self, record: usize, when: u64) {
+        let deadline = when.max(self.elapsed);
+        self.deadlines[record] = deadline;
+        let place = if deadline == self.elapsed {
+            EXPIRED
+        } else {
+            let k = level(self.elapsed, deadline);
+            SLOTS * k + slot(k, deadline)
+        };
+        self.lists[place].push(record);
+    }
+
+    pub fn remove(&mut self, record: usize) {
+        for list in &mut self.lists {
+            list.retain(|&other| other != record);
+        }
+    }
+
+    /// Answers the record handed out, moves and drains.
+    pub fn poll(&mut self, now: u64) -> (Option<usize>, u64, u64) {
+        if let Some(record) = self.lists[EXPIRED].pop() {
+            return (Some(record), 0, 0);
+        }
+        let (mut moves, mut drains) = (0, 0);
+        loop {
+            let Some(first) = self.first().filter(|first| first.start <= now) else {
+                self.elapsed = now;
+                return (None, moves, drains);
+            };
+            if first.level == 0 {
+                return (self.lists[first.place].pop(), moves, drains);
+            }
+            moves += self.drain(&first);
+            drains += 1;
+            self.elapsed = first.start;
+        }
+    }
+
+    pub fn wake(&self) -> Option<u64> {
+        self.first().map(|first| first.start)
+    }
+
+    /// The lowest level that is not empty, and there the first occupied slot from elapsed on.
+    fn first(&self) -> Option<First> {
+        let mut places = (0..WIDTHS.len()).flat_map(|k| {
+            let here = slot(k, self.elapsed);
+            (here..here + SLOTS).map(move |s| (k, s % SLOTS))
+        });
+        let occupied = |&(k, s): &(usize, usize)| !self.lists[SLOTS * k + s].is_empty();
+        places.find(occupied).map(|(level, s)| {
+            let turn = SLOTS as u64 * WIDTHS[level];
+            First {
+                level,
+                place: SLOTS * level + s,
+                start: self.elapsed / turn * turn + s as u64 * WIDTHS[level],
+            }
+        })
+    }
+
+    /// Each entry, from the head, goes to the head of its slot one level down.
+    fn drain(&mut self, first: &First) -> u64 {
+        let mut moves = 0;
+        while let Some(record) = self.lists[first.place].pop() {
+            let k = first.level - 1;
+            let place = SLOTS * k + slot(k, self.deadlines[record]);
+            self.lists[place].push(record);
+            moves += 1;
+        }
+        moves
+    }
+}

@@ -1,0 +1,52 @@
+//! How often each kind of answer was given, so that a generator that misses one is found out.
+use crate::line::lines;
+use std::collections::BTreeMap;
+use std::fmt;
+
+/// Every kind there is. `drains 5` counts polls with five drains, answered `out` or `none`.
+const KINDS: [&str; 23] = [
+    "ok", "key", "gone", "out", "none", "wake", "wake -", "len", "bad", "no 1", "no 2", "no 3",
+    "no 4", "no 5", "no 6", "no 7", "no 8", "drains 0", "drains 1", "drains 2", "drains 3",
+    "drains 4", "drains 5",
+];
+
+#[derive(Default)]
+pub struct Tally(BTreeMap<String, u64>);
+
+impl Tally {
+    pub fn add(&mut self, answers: &[u8]) {
+        for line in lines(answers) {
+            let line = String::from_utf8_lossy(line);
+            let (word, rest) = line.split_once(' ').unwrap_or((&line, ""));
+            match word {
+                "#" => continue,
+                "no" => self.count(&line),
+                "wake" if rest == "-" => self.count(&line),
+                "out" | "none" => {
+                    let drains = rest.rsplit(' ').next().unwrap_or("");
+                    self.count(&format!("drains {drains}"));
+                    self.count(word);
+                }
+                _ => self.count(word),
+            }
+        }
+    }
+
+    fn count(&mut self, kind: &str) {
+        assert!(KINDS.contains(&kind), "an answer of no known kind: {kind}");
+        *self.0.entry(kind.to_string()).or_default() += 1;
+    }
+
+    /// The kinds that were never met.
+    pub fn missing(&self) -> Vec<&'static str> {
+        let missing = KINDS.iter().filter(|&&kind| !self.0.contains_key(kind));
+        missing.copied().collect()
+    }
+}
+
+impl fmt::Display for Tally {
+    fn fmt(&self, f: &mut fmt::Formatter<'_>) -> fmt::Result {
+        let counts = KINDS.map(|kind| format!("{kind}: {}", self.0.get(kind).unwrap_or(&0)));
+        write!(f, "{}", counts.join(", "))
+    }
+}
