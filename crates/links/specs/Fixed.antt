@@ -1,13 +1,12 @@
 -- The family fixes the words: two stores with the same lists, and the same words past n records, are equal (`whole-fixed`).
-use mathlib.Core.Path.{_≡_, sym, ap, _∙_}
+use mathlib.Core.Path.{_≡_, sym, _∙_}
 use mathlib.Core.Logic.{_⊎_, inl, inr, by-cases}
 use mathlib.Core.List.{List}
 use Prim.Native.Nat.{ℕ, _<_}
 use native.Mathlib.Omega.{arith}
 use native.Mathlib.Decide.{decLt}
-use lib.ListN.{length}
 use lib.Seq.{ext-getD}
-use Rattle.links.specs.Lists.{nobody, Mem, firstD}
+use Rattle.links.specs.Lists.{nobody, Mem}
 use Rattle.links.specs.Segments.{seg-same}
 use Rattle.links.specs.Family.{Net, Loose, Fam, fam-loose}
 use Rattle.links.specs.Links.{Links, at, links-eq}

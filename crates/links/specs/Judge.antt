@@ -230,7 +230,7 @@ cat L zero p = []
 cat L (suc k) p = L p ++ cat L k (suc p)
 
 module _ (L : ℕ → List ℕ) where
-  mem-cat : (k p i : ℕ) → Mem i (cat L k p) → (q : ℕ) × (p ≤ q) × (q < p + k) × Mem i (L q)
+  pub mem-cat : (k p i : ℕ) → Mem i (cat L k p) → (q : ℕ) × (p ≤ q) × (q < p + k) × Mem i (L q)
   unfolding cat
   mem-cat zero p i m = absurd m
   mem-cat (suc k) p i m =
@@ -430,3 +430,9 @@ module _ (s : Net) (n : ℕ) (hn : n ≤ nobody) where
         = ap (λ (m : ℕ). scanAll s n P 0 m) (sym total)
         ∙ all-complete L P 0 k (λ q. record { first = F .heads q; seg = F .segs q; mems = λ i m. let M = F .mems q i m in (M .below, M .mark) }) in
         rw w (eq-eqb k k refl)
+
+    -- as many as are in the lists together are at most the records
+    pub fam-length : length (cat L P 0) ≤ n
+    fam-length =
+        length-below (cat L P 0) n (cat-nodup L (s .mk) P 0 (fam-nodup F) (λ q i m. F .mems q i m .mark))
+        (λ i m. let r = mem-cat L P 0 i m in F .mems (r .0) i (r .3) .below)

@@ -1,18 +1,17 @@
 -- Words that hold a family of lists (`Whole`), and what `joined` and `cutOut` make of them: one list changes, every other stays, the family is whole.
-use mathlib.Core.Path.{_≡_, refl, sym, ap, _∙_}
+use mathlib.Core.Path.{_≡_, refl, _∙_}
 use mathlib.Core.Logic.{_≢_, _⊎_, inl, inr, by-cases}
 use mathlib.Core.List.{List, _∷_}
-use mathlib.Core.Bool.{Bool, true, false, cond}
+use mathlib.Core.Bool.{true}
 use Prim.Native.Nat.{ℕ, _≤_, _<_}
 use native.Mathlib.Omega.{arith}
 use native.Mathlib.Decide.{ℕ-discrete}
 use lib.ListN.{length, set, length-set}
 use lib.Seq.{getD-set-same, getD-set-other}
-use lib.Dec.{eqb}
 use borrow.Author.Tests.{eq-eqb, ne-eqb}
-use Rattle.links.specs.Lists.{nobody, Mem, firstD, mem-first, without, change}
+use Rattle.links.specs.Lists.{nobody, Mem, mem-first, without, change}
 use Rattle.links.specs.Segments.{seg-next, seg-prev}
-use Rattle.links.specs.Family.{Net, Fam, Upd, Put, fam-marked}
+use Rattle.links.specs.Family.{Fam, Upd, Put, fam-marked}
 use Rattle.links.specs.Insert.{fam-push}
 use Rattle.links.specs.Remove.{fam-unlink}
 use Rattle.links.specs.Walk.{lists, fam-lists}

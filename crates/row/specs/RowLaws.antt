@@ -101,7 +101,7 @@ row-none f n h =
     (λ (p : 0 < rowBelow f n). let s = row-some f n p in absurd (true≢false (sym (s .2) ∙ h (s .0) (s .1))))
     (eq-zero-or-pos (rowBelow f n))
 
-flag-none : (s : ℕ) → flagAt 0 s ≡ false
+pub flag-none : (s : ℕ) → flagAt 0 s ≡ false
 unfolding flagAt
 flag-none s = ap (λ (d : ℕ). eqb (d % 2) 1) (zero-div (2 ^ s))
 

@@ -1,26 +1,23 @@
 -- Format: every list is empty but the free one, which holds 0, 1, .., n - 1 ("Fresh records are taken as 0, 1, 2 and so on").
 use mathlib.Core.Path.{_≡_, refl, sym, ap, _∙_}
-use mathlib.Core.Logic.{_≢_, _⊎_, inl, inr, by-cases}
+use mathlib.Core.Logic.{_≢_, inl, inr, by-cases}
 use mathlib.Core.List.{List, [], _∷_}
-use mathlib.Core.Bool.{cond}
 use Prim.Native.Nat.{ℕ, zero, suc, _+_, _-_, _/_, _%_, _≤_, _<_}
 use native.Mathlib.Omega.{arith}
 use native.Mathlib.Decide.{ℕ-discrete, decLt}
 use native.Mathlib.Numerals.{add-one}
-use lib.ListN.{length, getD, set, replicate, length-set, getD-replicate}
+use lib.ListN.{length, set, replicate, length-set, getD-replicate}
 use lib.Seq.{getD-set-same, getD-set-other}
-use lib.Dec.{eqb}
-use borrow.Author.Tests.{eq-eqb}
 use Rattle.links.specs.Lists.{nobody, Mem, firstD, change, change-same, change-other}
 use Rattle.links.specs.Segments.{Seg}
-use Rattle.links.specs.Family.{Net, Member, Loose, Fam}
+use Rattle.links.specs.Family.{Net, Member, Fam}
 use Rattle.links.specs.Walk.{fam-lists}
-use Rattle.links.specs.Links.{Links, links, at, net, Deep}
+use Rattle.links.specs.Links.{links, at, net, Deep}
 use Rattle.links.specs.Laws.{Kept, LinksKept, kept-refl, kept-trans, kept-set, deep-kept}
 use Rattle.stack.specs.declared.Stacks.{Stacks}
 use Rattle.stack.specs.Places.{slots, expired, free, places}
 use Rattle.stack.specs.Heads.{headOf, Shape, head-slot, head-past}
-use Rattle.stack.specs.Words.{StackWords, words, headAt, markOf}
+use Rattle.stack.specs.Words.{StackWords, words, headAt}
 use Rattle.stack.specs.Laws.{Whole, lists}
 
 -- l with f 0, .., f (k - 1) for its first k words

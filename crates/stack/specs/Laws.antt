@@ -1,15 +1,17 @@
 -- What a client of this layer cites: words that hold the lists of the places (`Whole`), the lists that they hold (`lists`), and how each function
 -- changes them. One list changes, every other stays, the words stay whole, words past n records are kept.
 use mathlib.Core.Path.{_≡_, refl, sym, ap, _∙_, subst}
-use mathlib.Core.Logic.{_≢_, inl, inr}
+use mathlib.Core.Logic.{_≢_, inl, ⊎-elim}
 use mathlib.Core.List.{List, [], _∷_}
 use mathlib.Core.Bool.{true}
 use Prim.Native.Nat.{ℕ, _≤_, _<_}
 use native.Mathlib.Omega.{arith}
 use borrow.Author.Tests.{eq-eqb, ne-eqb}
-use Rattle.links.specs.Lists.{nobody, Mem, firstD, without, without-first, change}
+use Rattle.links.specs.Lists.{nobody, Mem, Nodup, firstD, without, without-first, change}
 use Rattle.links.specs.Family.{fam-some, fam-nodup, fam-marked, fam-empty, fam-cons}
-use Rattle.links.specs.Links.{Links, at, Deep, CanJoin, CanCut}
+use Rattle.links.specs.Links.{Links, net, Deep, CanJoin, CanCut}
+use Rattle.links.specs.Judge.{cat, fam-length}
+use lib.ListN.{length}
 use Rattle.links.specs.Laws as links
 use Rattle.links.specs.Fixed.{whole-fixed}
 use Rattle.stack.specs.Places.{places, put}
@@ -78,6 +80,20 @@ module _ {t : StackWords} (W : Whole t) where
   pub marked-member : (i : ℕ) → i < count t → markOf t i < places → Mem i (lists t (markOf t i))
   unfolding lists
   marked-member i hi h = fam-marked (W .held .fam) i hi h
+
+  -- no record is in two lists, so that all lists together have no more members than there are records
+  pub members-few : length (cat (lists t) places 0) ≤ count t
+  unfolding lists
+  members-few = fam-length (net (headAt t) (t .links)) (count t) small (W .held .fam)
+
+  -- a record that is in no list is loose
+  pub unlisted-loose : (i : ℕ) → i < count t → ((p : ℕ) → Mem i (lists t p) → ⊥) → markOf t i ≡ nobody
+  unfolding lists
+  unlisted-loose i hi out = ⊎-elim (λ m. absurd (out (markOf t i) m)) (λ o. o .mark) (W .held .fam .cover i hi)
+
+  pub list-nodup : (p : ℕ) → Nodup (lists t p)
+  unfolding lists
+  list-nodup p = fam-nodup (W .held .fam) p
 
   -- ---- what the functions ask
 
@@ -153,6 +169,13 @@ module _ {t : StackWords} (W : Whole t) where
   pub remove-mark : (i : ℕ) → i < count t → (markOf (remove t i) i ≡ nobody) × ((j : ℕ) → j ≢ i → markOf (remove t i) j ≡ markOf t j)
   unfolding remove
   remove-mark i hi = let U = links.mark-cut deep i hi in (U .same, U .other)
+
+  pub pop-mark : (p x : ℕ) (l : List ℕ) → lists t p ≡ x ∷ l → markOf (pop t p) x ≡ nobody
+  unfolding pop
+  pop-mark p x l e =
+      let h : headAt t p ≡ x = head-first p ∙ ap (firstD nobody) e in
+      let m : Mem x (lists t p) = rw e (inl refl) in
+      rw (h, ne-eqb x nobody (member-some p x m)) (remove-mark x (member-below p x m) .0)
 
   -- ---- the judge passes them
 

@@ -49,7 +49,7 @@ is-level e w k p = le-antisymm (level-le p (level-is e w)) (level-le (level-is e
 
 -- ---- "Between calls, a timer on the wheel at deadline w lies at level(e, w)": above level 0 its slot starts after elapsed
 
-block-six : (w : ℕ) → w / width 6 ≡ block w
+pub block-six : (w : ℕ) → w / width 6 ≡ block w
 unfolding width
 block-six w = refl
 

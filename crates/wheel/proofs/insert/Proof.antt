@@ -1,0 +1,36 @@
+-- `insert` meets its contract: the level is that of the deadline.
+use borrow.Author.Needs.{needs}
+use mathlib.Core.Path.{_≡_, subst}
+use Prim.Native.Nat.{ℕ}
+use Rattle.wheel.specs.Turns.{insert-adds, inserted}
+use Rattle.wheel.proofs.insert.Statement.{statement}
+use Rattle.wheel.proofs.insert.Tie as tie
+
+level-for-requires : tie.Need-level-for-requires
+level-for-requires c κs = c .before .before .before .pre .near
+
+add-entry-requires : tie.Need-add-entry-requires
+add-entry-requires c κs = insert-adds (c .before .before .before .before .before .before .before .before .pre) _ (c .before .before .before .before .level-for .ensures)
+
+same-length : tie.Need-same-length
+same-length c = search needs
+
+same-length-2 : tie.Need-same-length-2
+same-length-2 c = search needs
+
+same-length-3 : tie.Need-same-length-3
+same-length-3 c = search needs
+
+returns : tie.Need-returns
+returns c = inserted _ _ _ _ (c .before .before .before .before .before .before .before .before .before .before .before .level-for .ensures) (c .before .before .before .before .before .before .add-entry .ensures)
+
+pub insert-spec : {M : Type 1} → statement M
+insert-spec =
+    tie.close
+    (tie.spec
+    level-for-requires
+    add-entry-requires
+    same-length
+    same-length-2
+    same-length-3
+    returns)

@@ -1,0 +1,67 @@
+-- `move_entry` meets its contract: nobody was there (`moved-none`), or the head was popped and added one level down (`moved-some`).
+use borrow.Author.Needs.{needs}
+use mathlib.Core.Path.{refl}
+use Rattle.wheel.specs.Turns.{moved-none, move-deadline, move-adds, moved-some}
+use Rattle.wheel.proofs.move_entry.Statement.{statement}
+use Rattle.wheel.proofs.move_entry.Tie as tie
+
+pop-entry-requires : tie.Need-pop-entry-requires
+pop-entry-requires c κs = search needs
+
+same-length : tie.Need-same-length
+same-length c = search needs
+
+same-length-2 : tie.Need-same-length-2
+same-length-2 c = search needs
+
+same-length-3 : tie.Need-same-length-3
+same-length-3 c = search needs
+
+returns : tie.Need-returns
+returns c = moved-none (c .before .before .before .before .before .before .before .before .before .before .before .before .before .before .before .before .before .pre) (c .before .before .before .before .before .before .before .before .pop-entry .ensures) (c .if1 .taken)
+
+cast-when : tie.Need-cast-when
+cast-when c = search needs
+
+mul-when : tie.Need-mul-when
+mul-when c = search needs
+
+shared-slice-read-when : tie.Need-shared-slice-read-when
+shared-slice-read-when c = move-deadline (c .before .before .before .before .before .before .before .before .before .before .before .before .before .before .before .before .before .before .pre) (c .before .before .before .before .before .before .before .before .before .pop-entry .ensures) (c .before .if1 .left)
+
+sub-add-entry : tie.Need-sub-add-entry
+sub-add-entry c = search needs
+
+add-entry-requires : tie.Need-add-entry-requires
+add-entry-requires c κs = move-adds (c .before .before .before .before .before .before .before .before .before .before .before .before .before .before .before .before .before .before .before .before .before .before .pre) (c .before .before .before .before .before .before .before .before .before .before .before .before .before .pop-entry .ensures) (c .before .before .before .before .before .if1 .left)
+
+same-length-4 : tie.Need-same-length-4
+same-length-4 c = search needs
+
+same-length-5 : tie.Need-same-length-5
+same-length-5 c = search needs
+
+same-length-6 : tie.Need-same-length-6
+same-length-6 c = search needs
+
+returns-2 : tie.Need-returns-2
+returns-2 c = moved-some (c .before .before .before .before .before .before .before .before .before .before .before .before .before .before .before .before .before .before .before .before .before .before .before .before .before .before .before .before .before .pre) (c .before .before .before .before .before .before .before .before .before .before .before .before .before .before .before .before .before .before .before .before .pop-entry .ensures) (c .before .before .before .before .before .before .before .before .before .before .before .before .if1 .left) _ refl (c .before .before .before .before .before .before .add-entry .ensures)
+
+pub move-entry-spec : {M : Type 1} → statement M
+move-entry-spec =
+    tie.close
+    (tie.spec
+    pop-entry-requires
+    same-length
+    same-length-2
+    same-length-3
+    returns
+    cast-when
+    mul-when
+    shared-slice-read-when
+    sub-add-entry
+    add-entry-requires
+    same-length-4
+    same-length-5
+    same-length-6
+    returns-2)

@@ -1,0 +1,67 @@
+-- `next_expiration` meets its contract: the levels passed are empty, and the first that is not has the slot (`next-found`).
+use borrow.Author.Needs.{needs}
+use mathlib.Core.Path.{_≡_}
+use Prim.Native.Nat.{ℕ, _≤_, _<_, _-_, _%_}
+use native.Mathlib.Omega.{arith}
+use borrow.Author.Count.{below-more}
+use Rattle.links.specs.Links.{at}
+use Rattle.wheel.specs.Expiration.{next-found, none-found}
+use Rattle.wheel.proofs.next_expiration.Statement.{statement}
+use Rattle.wheel.proofs.next_expiration.Tie as tie
+
+abbrev Inv-loop : tie.InvT-loop
+Inv-loop elapsed occupied level₀ level = (level ≤ 6) × ((j : ℕ) → j < level → at occupied j ≡ 0)
+
+abbrev μ-loop : tie.MeasureT-loop
+μ-loop elapsed occupied level₀ level = 6 - level
+
+loop-holds : tie.Need-loop-holds Inv-loop μ-loop
+loop-holds c = (omega arith, λ j h. absurd (omega arith))
+
+mul-row : tie.Need-mul-row Inv-loop μ-loop
+mul-row c = search needs
+
+array-read-row : tie.Need-array-read-row Inv-loop μ-loop
+array-read-row c = search needs
+
+now-slot-requires : tie.Need-now-slot-requires Inv-loop μ-loop
+now-slot-requires c κs = search needs
+
+first-from-requires : tie.Need-first-from-requires Inv-loop μ-loop
+first-from-requires c κs = omega (arith, c .before .if1 .taken)
+
+slot-start-requires : tie.Need-slot-start-requires Inv-loop μ-loop
+slot-start-requires c κs = (omega arith, omega (arith, c .first-from .ensures .is))
+
+returns : tie.Need-returns Inv-loop μ-loop
+returns c = λ L R. next-found R _ _ _ _ _ (omega arith) (c .before .before .before .before .before .loop .inv .1) (c .before .before .now-slot .ensures) (c .before .first-from .ensures) (c .slot-start .ensures)
+
+add-level : tie.Need-add-level Inv-loop μ-loop
+add-level c = search needs
+
+loop-less : tie.Need-loop-less Inv-loop μ-loop
+loop-less c = search needs
+
+loop-again : tie.Need-loop-again Inv-loop μ-loop
+loop-again c = (omega arith, below-more _ _ (c .before .before .loop .inv .1) (c .if1 .left))
+
+returns-2 : tie.Need-returns-2 Inv-loop μ-loop
+returns-2 c = λ L R. none-found R (λ j h. c .before .loop .inv .1 j (omega arith))
+
+pub next-expiration-spec : {M : Type 1} → statement M
+next-expiration-spec =
+    tie.close
+    (tie.spec
+    Inv-loop
+    μ-loop
+    loop-holds
+    mul-row
+    array-read-row
+    now-slot-requires
+    first-from-requires
+    slot-start-requires
+    returns
+    add-level
+    loop-less
+    loop-again
+    returns-2)

@@ -1,0 +1,25 @@
+-- `poll_at` meets its contract, by the case of the next expiration.
+use borrow.Author.Needs.{needs}
+use mathlib.Core.Path.{subst}
+use Rattle.wheel.specs.Expiration.{NextIs, wake-at}
+use Rattle.wheel.proofs.poll_at.Statement.{statement}
+use Rattle.wheel.proofs.poll_at.Tie as tie
+
+next-expiration-requires : tie.Need-next-expiration-requires
+next-expiration-requires c κs = search needs
+
+enum-known-next : tie.Need-enum-known-next
+enum-known-next c = search needs
+
+enum-told : tie.Need-enum-told
+enum-told c = search needs
+
+returns : tie.Need-returns
+returns c = λ L R. wake-at _ (subst (NextIs _ L) (c .before .next .given .1) (c .before .before .before .next-expiration .ensures L R))
+
+returns-2 : tie.Need-returns-2
+returns-2 c = λ L R. subst (NextIs _ L) (c .enum-told .given .1) (c .before .before .next-expiration .ensures L R)
+
+pub poll-at-spec : {M : Type 1} → statement M
+poll-at-spec =
+    tie.close (tie.spec next-expiration-requires enum-known-next enum-told returns returns-2)

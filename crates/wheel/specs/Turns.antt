@@ -1,0 +1,370 @@
+-- What the loops' proofs cite: a move, a drain move by move, a poll look by look. Whatever the relation says from here, it says from the start with
+-- the counts so far added.
+use mathlib.Core.Path.{_≡_, refl, sym, ap, _∙_, subst}
+use mathlib.Core.Logic.{_≢_, inl}
+use mathlib.Core.Bool.{cond}
+use mathlib.Core.List.{List, [], _∷_}
+use mathlib.Core.Option.{Option, none, some}
+use Prim.Native.Nat.{ℕ, zero, suc, _+_, _-_, _/_, _≤_, _<_}
+use native.Mathlib.Omega.{arith}
+use native.Mathlib.Nat.{zero-add, add-zero, add-assoc}
+use native.Mathlib.Numerals.{one-add}
+use lib.ListN.{length}
+use lib.Dec.{eqb}
+use borrow.Author.Tests.{ne-eqb}
+use Rattle.times.specs.Times.{startAt, levelOf, block}
+use Rattle.times.specs.Levels.{level-is}
+use Rattle.links.specs.Lists.{nobody, change}
+use Rattle.links.specs.Links.{at}
+use Rattle.links.specs.Count.{length-below}
+use Rattle.stack.specs.Places.{slotPlace, slots, expired, places}
+use Rattle.stack.specs.Laws as stack
+use Rattle.wheel.specs.declared.Expiration.{Expiration}
+use Rattle.wheel.specs.declared.Next.{Next}
+use Rattle.wheel.specs.declared.Next.the-variants.{At, Nothing}
+use Rattle.wheel.specs.Wheel.{Lists, Rule, FirstSlot, arrive, Drains, drained, moved, Polls, idle, early, out, drain}
+use Rattle.wheel.specs.Rows.{Rows}
+use Rattle.wheel.specs.Sums.{total-zero, total-le, total-scale}
+use Rattle.wheel.specs.Between.{Between, rule-between}
+use Rattle.wheel.specs.Next.{slot-below}
+use Rattle.wheel.specs.Drain.{heights, Drained, drain-law, move-rest}
+use Rattle.wheel.specs.Poll.{poll-law}
+use Rattle.wheel.specs.Expiration.{NotPassed, NextIs, between-passed}
+use Rattle.wheel.specs.Words.{WheelWords, wheelWords, lists, count, WheelWhole, Becomes, LooseIn, CanAdd, CanPop, Pops}
+
+-- ---- becoming, twice
+
+pub becomes-refl : {t : WheelWords} → WheelWhole t → Becomes t (lists t) t
+becomes-refl {t} W = record { whole = W; lists = refl; elapsed = refl; kept = stack.kept-refl (t .stack) }
+
+pub becomes-trans : {t u v : WheelWords} {L M : Lists} → Becomes t L u → Becomes u M v → Becomes t M v
+becomes-trans A B = record { whole = B .whole; lists = B .lists; elapsed = B .elapsed ∙ A .elapsed; kept = stack.kept-trans (A .kept) (B .kept) }
+
+-- ---- insert: the deadline lies in elapsed's block, so that its level is one of the six
+
+pub record CanInsert (t : WheelWords) (w i : ℕ) : Type 0 where
+  pub whole : WheelWhole t
+  pub near : block (t .elapsed) ≡ block w
+  pub item : LooseIn t i
+
+pub insert-adds : {t : WheelWords} {w i : ℕ} → CanInsert t w i → (k : ℕ) → k ≡ levelOf (t .elapsed) w → CanAdd t k i
+insert-adds {t} {w} C k e = record { whole = C .whole; level = omega (arith, e, level-is (t .elapsed) w .within); item = C .item }
+
+pub inserted : (t : WheelWords) (w i k : ℕ) {t′ : WheelWords} → k ≡ levelOf (t .elapsed) w → Becomes t (arrive k w i (lists t)) t′
+    → Becomes t (arrive (levelOf (t .elapsed) w) w i (lists t)) t′
+inserted t w i k {t′} e B = subst (λ (j : ℕ). Becomes t (arrive j w i (lists t)) t′) e B
+
+-- ---- one move
+
+-- a slot of level k + 1, and the deadlines of all records at hand
+pub record CanMove (t : WheelWords) (ds : List ℕ) (k s : ℕ) : Type 0 where
+  pub pop : CanPop t k s
+  pub high : 0 < k
+  pub deadlines : count t ≤ length ds
+
+-- the head of p goes to its slot of level k, one down; from an empty list nobody does
+pub record MovesOne (d : ℕ → ℕ) (t : WheelWords) (k p item : ℕ) (t′ : WheelWords) : Type 0 where
+  pub none : lists t p ≡ [] → (item ≡ nobody) × Becomes t (lists t) t′
+  pub some : (x : ℕ) (l : List ℕ) → lists t p ≡ x ∷ l → (item ≡ x) × Becomes t (arrive k (d x) x (change (lists t) p l)) t′
+
+module _ {t : WheelWords} {p item : ℕ} {u : WheelWords} (W : WheelWhole t) (Q : Pops t p item u) where
+  -- by what was popped
+  pub popped-empty : item ≡ nobody → lists t p ≡ []
+  popped-empty z = by (lists t p) refl
+    where
+      by : (l : List ℕ) → lists t p ≡ l → lists t p ≡ []
+      by [] e = e
+      by (x ∷ l) e = absurd (stack.member-some (W .stack) p x (rw e (inl refl)) (sym (Q .some x l e .0) ∙ z))
+
+  pub popped-cons : item ≢ nobody → (l : List ℕ) × (lists t p ≡ item ∷ l)
+  popped-cons d = by (lists t p) refl
+    where
+      by : (l : List ℕ) → lists t p ≡ l → (k : List ℕ) × (lists t p ≡ item ∷ k)
+      by [] e = absurd (d (Q .none e .0))
+      by (x ∷ l) e = (l, e ∙ ap (λ (y : ℕ). y ∷ l) (sym (Q .some x l e .0)))
+
+cons-not : {x : ℕ} {l : List ℕ} → [] ≡ x ∷ l → ⊥
+cons-not e = let z : _≡_ {A = ℕ} 0 1 = cc in omega arith
+
+module _ {t : WheelWords} {ds : List ℕ} {k s : ℕ} (C : CanMove t ds k s) {item : ℕ} {u : WheelWords} (Q : Pops t (slotPlace k s) item u) where
+  pub moved-none : item ≡ nobody → MovesOne (at ds) t (k - 1) (slotPlace k s) item u
+  moved-none z =
+      let e = popped-empty (C .pop .whole) Q z in
+      record { none = λ f. Q .none f; some = λ x l f. absurd (cons-not (sym e ∙ f)) }
+
+  module _ (some : item ≢ nobody) where
+    was : (l : List ℕ) × (lists t (slotPlace k s) ≡ item ∷ l)
+    was = popped-cons (C .pop .whole) Q some
+
+    pub move-deadline : item < length ds
+    move-deadline = omega (arith, C .deadlines, stack.member-below (C .pop .whole .stack) (slotPlace k s) item (rw (was .1) (inl refl)))
+
+    pub move-adds : CanAdd u (k - 1) item
+    move-adds =
+        let r = Q .some item (was .0) (was .1) in
+        record { whole = r .2 .whole; level = omega (arith, C .pop .level); item = r .1 }
+
+    pub moved-some : (w : ℕ) → w ≡ at ds item → {v : WheelWords} → Becomes u (arrive (k - 1) w item (lists u)) v
+        → MovesOne (at ds) t (k - 1) (slotPlace k s) item v
+    moved-some w ew {v} B =
+        let r = Q .some item (was .0) (was .1) in
+        let A : Becomes u (arrive (k - 1) (at ds item) item (change (lists t) (slotPlace k s) (was .0))) v
+        = subst (λ (L : Lists). Becomes u (arrive (k - 1) (at ds item) item L) v) (r .2 .lists) (subst (λ (z : ℕ). Becomes u (arrive (k - 1) z item (lists u)) v) ew B) in
+        record {
+          none = λ f. absurd (cons-not (sym f ∙ was .1));
+          some = λ x l f.
+              let e : item ∷ was .0 ≡ x ∷ l = sym (was .1) ∙ f in
+              let a : item ≡ x = cc in
+              let b : was .0 ≡ l = cc in
+              (a, rw (← a, ← b) (becomes-trans (r .2) A));
+        }
+
+-- ---- a drain, move by move
+
+-- p is drained with so many moves
+pub record DrainsTo (d : ℕ → ℕ) (t : WheelWords) (k p moves : ℕ) (t′ : WheelWords) : Type 0 where
+  pub drains : Drains d k p (lists t) moves (lists t′)
+  pub becomes : Becomes t (lists t′) t′
+  pub few : moves ≤ 65535
+
+-- t₀ was drained of some entries, `moves` of them, and is t now
+pub record DrainedSo (d : ℕ → ℕ) (t₀ : WheelWords) (k p moves : ℕ) (t : WheelWords) : Type 0 where
+  pub becomes : Becomes t₀ (lists t) t
+  pub so-far : (m : ℕ) (M : Lists) → Drains d k p (lists t) m M → Drains d k p (lists t₀) (moves + m) M
+  pub left : moves + length (lists t p) ≡ length (lists t₀ p)
+
+-- a list has no more members than there are records
+pub list-short : {t : WheelWords} → WheelWhole t → (p : ℕ) → length (lists t p) ≤ 65535
+list-short {t} W p =
+    omega (arith, length-below (lists t p) (count t) (stack.list-nodup (W .stack) p) (λ i m. stack.member-below (W .stack) p i m), stack.small (W .stack))
+
+one-more : (a b : ℕ) → a + suc b ≡ a + 1 + b
+one-more a b = omega arith
+
+one-less : (k : ℕ) → suc k - 1 ≡ k
+one-less k = omega arith
+
+module _ (d : ℕ → ℕ) (k p : ℕ) where
+  pub drain-none : {t : WheelWords} → WheelWhole t → DrainedSo d t k p 0 t
+  drain-none {t} W = record { becomes = becomes-refl W; so-far = λ m M D. subst (λ (n : ℕ). Drains d k p (lists t) n M) (sym (zero-add m)) D; left = zero-add _ }
+
+  module _ (level : p / 64 ≡ suc k) (below : p < slots) {t₀ t : WheelWords} {moves : ℕ} (S : DrainedSo d t₀ k p moves t) {item : ℕ} {u : WheelWords} (Q : MovesOne d t k p item u) where
+    pub drain-turn : item ≢ nobody → DrainedSo d t₀ k p (moves + 1) u × (length (lists u p) < length (lists t p))
+    drain-turn h = by (lists t p) refl
+      where
+        by : (l : List ℕ) → lists t p ≡ l → DrainedSo d t₀ k p (moves + 1) u × (length (lists u p) < length (lists t p))
+        by [] e = absurd (h (Q .none e .0))
+        by (x ∷ l) e =
+            let r = Q .some x l e in
+            let z : lists u p ≡ l = ap (λ (L : Lists). L p) (r .1 .lists) ∙ move-rest d k p level below (lists t) x l e in
+            let lu : Becomes t (lists u) u = subst (λ (L : Lists). Becomes t L u) (sym (r .1 .lists)) (r .1) in (
+              record {
+                becomes = becomes-trans (S .becomes) lu;
+                so-far = λ m M D.
+                    let D′ : Drains d k p (lists t) (suc m) M = moved e (subst (λ (L : Lists). Drains d k p L m M) (r .1 .lists) D) in
+                    subst (λ (n : ℕ). Drains d k p (lists t₀) n M) (one-more moves m) (S .so-far (suc m) M D′);
+                left = omega (arith, S .left, ap length e, ap length z);
+              },
+              omega (arith, ap length e, ap length z),
+            )
+
+    -- nobody is left
+    pub drain-done : WheelWhole t₀ → item ≡ nobody → DrainsTo d t₀ k p moves u
+    drain-done W z = by (lists t p) refl
+      where
+        by : (l : List ℕ) → lists t p ≡ l → DrainsTo d t₀ k p moves u
+        by [] e =
+            let r = Q .none e in
+            let lu : Becomes t (lists u) u = subst (λ (L : Lists). Becomes t L u) (sym (r .1 .lists)) (r .1) in
+            record {
+              drains = rw (r .1 .lists) (subst (λ (n : ℕ). Drains d k p (lists t₀) n (lists t)) (add-zero moves) (S .so-far 0 (lists t) (drained e)));
+              becomes = becomes-trans (S .becomes) lu;
+              few = omega (arith, S .left, list-short W p);
+            }
+        by (x ∷ l) e = absurd (stack.member-some (S .becomes .whole .stack) p x (rw e (inl refl)) (sym (Q .some x l e .0) ∙ z))
+
+-- the same of the code's level k, which is over 0
+module _ {t₀ : WheelWords} {ds : List ℕ} {k s : ℕ} (C : CanMove t₀ ds k s) where
+  level-is-k : slotPlace k s / 64 ≡ suc (k - 1)
+  level-is-k = omega (arith, C .high, C .pop .slot)
+
+  here-slot : slotPlace k s < slots
+  here-slot = omega (arith, C .pop .level, C .pop .slot)
+
+  abbrev So : ℕ → WheelWords → Type 0
+  So moves t = DrainedSo (at ds) t₀ (k - 1) (slotPlace k s) moves t
+
+  pub turn-start : So 0 t₀
+  turn-start = drain-none (at ds) (k - 1) (slotPlace k s) (C .pop .whole)
+
+  module _ {t : WheelWords} {moves : ℕ} (S : So moves t) where
+    pub turn-can : CanMove t ds k s
+    turn-can =
+        record {
+          pop = record { whole = S .becomes .whole; level = C .pop .level; slot = C .pop .slot };
+          high = C .high;
+          deadlines = omega (arith, C .deadlines, S .becomes .kept .size);
+        }
+
+    pub turn-few : moves ≤ 65535
+    turn-few = omega (arith, S .left, list-short (C .pop .whole) (slotPlace k s))
+
+    module _ {item : ℕ} {u : WheelWords} (Q : MovesOne (at ds) t (k - 1) (slotPlace k s) item u) where
+      pub turn-more : item ≢ nobody → So (moves + 1) u × (length (lists u (slotPlace k s)) < length (lists t (slotPlace k s)))
+      turn-more h = drain-turn (at ds) (k - 1) (slotPlace k s) level-is-k here-slot S Q h
+
+      pub turn-done : item ≡ nobody → DrainsTo (at ds) t₀ (k - 1) (slotPlace k s) moves u
+      turn-done z = drain-done (at ds) (k - 1) (slotPlace k s) level-is-k here-slot S Q (C .pop .whole) z
+
+-- ---- a poll, look by look
+
+pub record CanPoll (t : WheelWords) (ds : List ℕ) (now : ℕ) : Type 0 where
+  pub whole : WheelWhole t
+  pub rule : Rule (at ds) (t .elapsed) (lists t)
+  pub stack : lists t expired ≡ []
+  pub not-back : t .elapsed ≤ now
+  pub deadlines : count t ≤ length ds
+
+-- a record number as an answer
+abbrev pub gotten : ℕ → Option ℕ
+gotten i = cond (eqb i nobody) none (some i)
+
+-- t was polled, and is t′ now
+pub record PollsTo (d : ℕ → ℕ) (now : ℕ) (t : WheelWords) (item moves drains : ℕ) (t′ : WheelWords) : Type 0 where
+  pub polls : Polls d now (t .elapsed) (lists t) (gotten item) moves drains (t′ .elapsed) (lists t′)
+  pub whole : WheelWhole t′
+  pub rule : Rule d (t′ .elapsed) (lists t′)
+  pub kept : stack.StackKept (t .stack) (t′ .stack)
+  pub loose : item ≢ nobody → LooseIn t′ item
+
+-- t₀ was polled up to here, with so many moves and drains, and is t now
+pub record PolledSo (d : ℕ → ℕ) (now : ℕ) (t₀ : WheelWords) (moves drains : ℕ) (t : WheelWords) : Type 0 where
+  pub whole : WheelWhole t
+  pub rule : Between d (t .elapsed) (lists t)
+  pub not-back : t .elapsed ≤ now
+  pub kept : stack.StackKept (t₀ .stack) (t .stack)
+  pub so-far : {got : Option ℕ} {m n e : ℕ} {M : Lists} → Polls d now (t .elapsed) (lists t) got m n e M
+      → Polls d now (t₀ .elapsed) (lists t₀) got (moves + m) (drains + n) e M
+  pub counted : moves + heights (lists t) ≡ heights (lists t₀)
+  pub few : drains ≤ moves
+
+-- "at most five" levels above 0, and at most 65535 records
+pub heights-small : {t : WheelWords} → WheelWhole t → heights (lists t) ≤ 327675
+unfolding heights
+heights-small {t} W =
+    let a = total-le (λ p x. p / 64) (λ p x. 5) slots (lists t) (λ p x h. omega arith) in
+    let b = total-scale 5 places (lists t) 0 places (omega arith) in
+    let c = total-scale 5 places (lists t) slots 2 (omega arith) in
+    omega (arith, a, b, c, total-zero (λ p x. 5) (lists t), stack.members-few (W .stack), stack.small (W .stack))
+
+got-some : (i : ℕ) → i ≢ nobody → gotten i ≡ some i
+got-some i d = rw (ne-eqb i nobody d)
+
+-- the constructors at the code's level k
+module _ {d : ℕ → ℕ} {now e : ℕ} {L : Lists} where
+  out-at : (k s x : ℕ) (l : List ℕ) → FirstSlot e L k s → k ≡ 0 → startAt e k s ≤ now → L (slotPlace k s) ≡ x ∷ l
+      → Polls d now e L (some x) 0 0 e (change L (slotPlace k s) l)
+  out-at zero s x l F z h i = out F h i
+  out-at (suc k) s x l F z h i = absurd (omega arith)
+
+  drain-at : (k s : ℕ) → FirstSlot e L k s → k ≢ 0 → startAt e k s ≤ now → {m : ℕ} {M : Lists} → Drains d (k - 1) (slotPlace k s) L m M
+      → {got : Option ℕ} {moves drains e′ : ℕ} {N : Lists} → Polls d now (startAt e k s) M got moves drains e′ N → Polls d now e L got (m + moves) (suc drains) e′ N
+  drain-at zero s F z h D r = absurd (z refl)
+  drain-at (suc k) s F z h {m} {M} D r = drain F h (subst (λ (j : ℕ). Drains d j (slotPlace (suc k) s) L m M) (one-less k) D) r
+
+drained-at : {d : ℕ → ℕ} {e : ℕ} {L : Lists} → Between d e L → (k s : ℕ) → FirstSlot e L k s → k ≢ 0 → {m : ℕ} {M : Lists} → Drains d (k - 1) (slotPlace k s) L m M → Drained d e L m (startAt e k s) M
+drained-at B zero s F z D = absurd (z refl)
+drained-at {d} {e} {L} B (suc k) s F z {m} {M} D = drain-law B F (subst (λ (j : ℕ). Drains d j (slotPlace (suc k) s) L m M) (one-less k) D)
+
+module _ {t₀ : WheelWords} {ds : List ℕ} {now : ℕ} (C : CanPoll t₀ ds now) where
+  abbrev d : ℕ → ℕ
+  d = at ds
+
+  abbrev PollSo : ℕ → ℕ → WheelWords → Type 0
+  PollSo moves drains t = PolledSo d now t₀ moves drains t
+
+  pub poll-start : PollSo 0 0 t₀
+  poll-start =
+      record {
+        whole = C .whole;
+        rule = rule-between (C .rule);
+        not-back = C .not-back;
+        kept = stack.kept-refl (t₀ .stack);
+        so-far = λ {got} {m} {n} {e} {M} r. rw (zero-add m, zero-add n) r;
+        counted = zero-add _;
+        few = omega arith;
+      }
+
+  -- what the whole poll leaves
+  ends : {t′ : WheelWords} (item moves drains : ℕ) → Polls d now (t₀ .elapsed) (lists t₀) (gotten item) moves drains (t′ .elapsed) (lists t′)
+      → WheelWhole t′ → stack.StackKept (t₀ .stack) (t′ .stack) → (item ≢ nobody → LooseIn t′ item) → PollsTo d now t₀ item moves drains t′
+  ends item moves drains r W K l =
+      record { polls = r; whole = W; rule = poll-law (rule-between (C .rule)) (C .stack) (C .not-back) r .rule; kept = K; loose = l }
+
+  module _ {t : WheelWords} {moves drains : ℕ} (S : PollSo moves drains t) where
+    pub look-asks : NotPassed (t .elapsed) (t .occupied)
+    look-asks = between-passed (S .rule) (S .whole .rows)
+
+    pub counts-small : (moves ≤ 327675) × (drains ≤ 327675)
+    counts-small = (omega (arith, S .counted, heights-small (C .whole)), omega (arith, S .few, S .counted, heights-small (C .whole)))
+
+    rest : Polls d now (t .elapsed) (lists t) none 0 0 now (lists t) → PollsTo d now t₀ nobody moves drains (wheelWords now (t .occupied) (t .stack))
+    rest r =
+        ends nobody moves drains (rw (add-zero moves, add-zero drains) at (S .so-far r)) (record { stack = S .whole .stack; rows = S .whole .rows }) (S .kept)
+        (λ h. absurd (h refl))
+
+    -- an empty wheel
+    pub poll-idle : NextIs (t .elapsed) (lists t) Nothing → PollsTo d now t₀ nobody moves drains (wheelWords now (t .occupied) (t .stack))
+    poll-idle E = rest (idle E)
+
+    module _ {k s : ℕ} (F : FirstSlot (t .elapsed) (lists t) k s) (c : ℕ) (ec : c ≡ startAt (t .elapsed) k s) where
+      -- a slot start past now
+      pub poll-early : now < c → PollsTo d now t₀ nobody moves drains (wheelWords now (t .occupied) (t .stack))
+      poll-early h = rest (early F (omega (arith, h, ec)))
+
+      pub pop-can : CanPop t k s
+      pop-can = record { whole = S .whole; level = F .within; slot = slot-below (S .rule) F }
+
+      -- the head of a slot of level 0
+      pub poll-out : k ≡ 0 → c ≤ now → (item : ℕ) {u : WheelWords} → Pops t (slotPlace k s) item u → PollsTo d now t₀ item moves drains u
+      poll-out z due item {u} Q =
+          let x : ℕ = F .head in
+          let l : List ℕ = F .rest in
+          let r = Q .some x l (F .filled) in
+          let h : item ≢ nobody = λ y. stack.member-some (S .whole .stack) (slotPlace k s) x (rw (F .filled) (inl refl)) (sym (r .0) ∙ y) in
+          let o : Polls d now (t .elapsed) (lists t) (some x) 0 0 (t .elapsed) (change (lists t) (slotPlace k s) l) = out-at k s x l F z (omega (arith, due, ec)) (F .filled) in
+          let g : gotten item ≡ some x = got-some item h ∙ ap some (r .0) in
+          let e : u .elapsed ≡ t .elapsed = r .2 .elapsed in
+          ends item moves drains
+          (rw (g, e, r .2 .lists) (rw (add-zero moves, add-zero drains) at (S .so-far o)))
+          (r .2 .whole) (stack.kept-trans (S .kept) (r .2 .kept)) (λ y. rw (r .0) (r .1))
+
+      pub drain-can : k ≢ 0 → CanMove t ds k s
+      drain-can z = record { pop = pop-can; high = omega (arith, z); deadlines = omega (arith, C .deadlines, S .kept .size) }
+
+      -- a slot above level 0 is drained, and elapsed becomes its start
+      pub poll-drain : (z : k ≢ 0) → c ≤ now → (m : ℕ) {u : WheelWords} → DrainsTo d t (k - 1) (slotPlace k s) m u
+          → PollSo (moves + m) (drains + 1) (wheelWords c (u .occupied) (u .stack)) × (heights (lists u) < heights (lists t))
+      poll-drain z due m {u} D =
+          let R = drained-at (S .rule) k s F z (D .drains) in (
+            record {
+              whole = record { stack = D .becomes .whole .stack; rows = D .becomes .whole .rows };
+              rule = rw ec (R .rule);
+              not-back = due;
+              kept = stack.kept-trans (S .kept) (D .becomes .kept);
+              so-far = λ {got} {m = i} {n} {e} {M} r.
+                  let r′ : Polls d now (t .elapsed) (lists t) got (m + i) (suc n) e M = drain-at k s F z (omega (arith, due, ec)) (D .drains) (rw ec at r) in
+                  rw (add-assoc moves m i, add-assoc drains 1 n, one-add n) (S .so-far r′);
+              counted = omega (arith, S .counted, R .fallen);
+              few = omega (arith, S .few, R .some);
+            },
+            omega (arith, R .fallen, R .some),
+          )
+
+-- what a look found, by the answer's case
+module _ {t : WheelWords} (W : WheelWhole t) {r : Next} (N : (L : Lists) → Rows (t .occupied) L → NextIs (t .elapsed) L r) where
+  pub look-nothing : r ≡ Nothing → NextIs (t .elapsed) (lists t) Nothing
+  look-nothing e = subst (NextIs (t .elapsed) (lists t)) e (N (lists t) (W .rows))
+
+  pub look-at : (x : Expiration) → r ≡ At x → NextIs (t .elapsed) (lists t) (At x)
+  look-at x e = subst (NextIs (t .elapsed) (lists t)) e (N (lists t) (W .rows))

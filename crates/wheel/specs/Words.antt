@@ -1,0 +1,266 @@
+-- The words of this layer, when they are whole, and what a function leaves of them.
+use mathlib.Core.Path.{_≡_, refl, sym, ap, _∙_, subst}
+use mathlib.Core.Logic.{_≢_, inl}
+use mathlib.Core.Bool.{true, false}
+use mathlib.Core.List.{List, [], _∷_}
+use Prim.Native.Nat.{ℕ, _/_, _%_, _≤_, _<_}
+use native.Mathlib.Omega.{arith}
+use lib.ListN.{set}
+use Rattle.times.specs.Times.{slotOf}
+use Rattle.times.specs.Quotients.{slot-lt}
+use Rattle.row.specs.Row.{flagAt, rowOf, flagged}
+use Rattle.links.specs.Lists.{nobody, Mem, without, change, change-same}
+use Rattle.links.specs.Links.{at, CanJoin, CanCut}
+use Rattle.stack.specs.Places.{slotPlace, slots, places, put}
+use Rattle.stack.specs.Words.{StackWords, push, pop, remove, words as stacked, count as countIn, headAt as headIn, markOf as markIn, CanPop as CanPopIn}
+use Rattle.stack.specs.Laws as stack
+use Rattle.wheel.specs.declared.Wheel.{Wheel}
+use Rattle.wheel.specs.Wheel.{Lists, arrive}
+use Rattle.wheel.specs.Rows.{filled, Rows, flag-is, rows-flagged, rows-kept, rows-aside}
+
+pub record WheelWords : Type 0 where
+  pub elapsed : ℕ
+  pub occupied : List ℕ
+  pub stack : StackWords
+
+abbrev pub wheelWords : ℕ → List ℕ → StackWords → WheelWords
+wheelWords e occ t = record { elapsed = e; occupied = occ; stack = t }
+
+-- as the functions have them
+abbrev pub words : Wheel → List (List ℕ) → List ℕ → List ℕ → List ℕ → WheelWords
+words w hh ns ps ms = wheelWords (w .elapsed) (w .occupied) (stacked (w .stacks) hh ns ps ms)
+
+abbrev pub count : WheelWords → ℕ
+count t = countIn (t .stack)
+
+abbrev pub markOf : WheelWords → ℕ → ℕ
+markOf t i = markIn (t .stack) i
+
+abbrev pub headAt : WheelWords → ℕ → ℕ
+headAt t p = headIn (t .stack) p
+
+-- the list of each place
+abbrev pub lists : WheelWords → Lists
+lists t = stack.lists (t .stack)
+
+-- every list is whole, and the rows are those of the lists
+pub record WheelWhole (t : WheelWords) : Type 0 where
+  pub stack : stack.Whole (t .stack)
+  pub rows : Rows (t .occupied) (lists t)
+
+-- t′ is whole and has the lists L; elapsed, the number of records and the words past them are as they were
+pub record Becomes (t : WheelWords) (L : Lists) (t′ : WheelWords) : Type 0 where
+  pub whole : WheelWhole t′
+  pub lists : lists t′ ≡ L
+  pub elapsed : t′ .elapsed ≡ t .elapsed
+  pub kept : stack.StackKept (t .stack) (t′ .stack)
+
+-- the record i is there and loose
+pub record LooseIn (t : WheelWords) (i : ℕ) : Type 0 where
+  pub below : i < count t
+  pub loose : markOf t i ≡ nobody
+
+-- ---- an entry comes into a slot
+
+pub record CanAdd (t : WheelWords) (k i : ℕ) : Type 0 where
+  pub whole : WheelWhole t
+  pub level : k < 6
+  pub item : LooseIn t i
+
+module _ {t : WheelWords} {k i : ℕ} (C : CanAdd t k i) (w s : ℕ) (es : s ≡ slotOf w k) where
+  pub add-slot : (k < 6) × (s < 64)
+  add-slot = (C .level, omega (arith, es, slot-lt w k))
+
+  pub add-push : (p : ℕ) → p ≡ slotPlace k s → (p < places) × CanJoin (t .stack .links) i (headAt t p)
+  add-push p ep = stack.can-push (C .whole .stack) p i (omega (arith, ep, add-slot)) (C .item .below)
+
+put-filled : (p i : ℕ) (l : List ℕ) → true ≡ filled (put p i l)
+unfolding put
+put-filled p i l = refl
+
+pub add-law : {t : WheelWords} {k i : ℕ} → CanAdd t k i → (w s p r : ℕ) {u : StackWords} → s ≡ slotOf w k → p ≡ slotPlace k s
+    → u ≡ push (t .stack) p i → r ≡ rowOf (flagged (flagAt (at (t .occupied) k)) s true)
+    → Becomes t (arrive k w i (lists t)) (wheelWords (t .elapsed) (set (t .occupied) k r) u)
+unfolding arrive
+add-law {t} {k} {i} C w s p r {u} es ep eu er =
+    let hs : s < 64 = omega (arith, es, slot-lt w k) in
+    let q : p ≡ slotPlace k (slotOf w k) = ep ∙ ap (slotPlace k) es in
+    let S = stack.push-law (C .whole .stack) p i (omega (arith, ep, hs, C .level)) (C .item .below) (C .item .loose) in
+    let R = rows-flagged (C .whole .rows) k s true (put p i (lists t p)) (C .level) hs (put-filled p i (lists t p)) in
+    let e : stack.lists u ≡ change (lists t) p (put p i (lists t p)) = ap stack.lists eu ∙ S .lists in
+    record {
+      whole = record {
+        stack = subst stack.Whole (sym eu) (S .whole);
+        rows = rw (er, e) (subst (λ (z : ℕ). Rows (set (t .occupied) k (rowOf (flagged (flagAt (at (t .occupied) k)) s true))) (change (lists t) z (put p i (lists t p)))) (sym ep) R);
+      };
+      lists = e ∙ ap (λ (z : ℕ). change (lists t) z (put z i (lists t z))) q;
+      elapsed = refl;
+      kept = subst (stack.StackKept (t .stack)) (sym eu) (S .kept);
+    }
+
+-- ---- an entry leaves its list, where l is left
+
+module _ {t : WheelWords} (W : WheelWhole t) {p : ℕ} {l : List ℕ} {u : StackWords} (C : stack.Changes (t .stack) p l u) where
+  left-list : stack.lists u p ≡ l
+  left-list = ap (λ (L : Lists). L p) (C .lists) ∙ change-same (lists t) p l
+
+  becomes : {occ : List ℕ} → Rows occ (change (lists t) p l) → Becomes t (change (lists t) p l) (wheelWords (t .elapsed) occ u)
+  becomes {occ} R =
+      record {
+        whole = record { stack = C .whole; rows = subst (Rows occ) (sym (C .lists)) R };
+        lists = C .lists;
+        elapsed = refl;
+        kept = C .kept;
+      }
+
+  -- it is no slot
+  pub left-aside : slots ≤ p → Becomes t (change (lists t) p l) (wheelWords (t .elapsed) (t .occupied) u)
+  left-aside h = becomes (rows-aside (W .rows) p l h)
+
+  -- it still has a head
+  pub left-some : filled (lists t p) ≡ true → headIn u p ≢ nobody → Becomes t (change (lists t) p l) (wheelWords (t .elapsed) (t .occupied) u)
+  left-some f h =
+      let r = stack.list-cons (C .whole) p h in
+      becomes (rows-kept (W .rows) p l (ap filled (sym left-list ∙ r .1) ∙ sym f))
+
+  -- it has none, and its flag is cleared
+  pub left-none : (k s r : ℕ) → k < 6 → s < 64 → p ≡ slotPlace k s → headIn u p ≡ nobody
+      → r ≡ rowOf (flagged (flagAt (at (t .occupied) k)) s false) → Becomes t (change (lists t) p l) (wheelWords (t .elapsed) (set (t .occupied) k r) u)
+  left-none k s r hk hs ep h er =
+      let e : l ≡ [] = sym left-list ∙ stack.list-empty (C .whole) p h in
+      becomes
+      (subst (λ (z : ℕ). Rows (set (t .occupied) k z) (change (lists t) p l)) (sym er)
+      (subst (λ (z : ℕ). Rows (set (t .occupied) k (rowOf (flagged (flagAt (at (t .occupied) k)) s false))) (change (lists t) z l)) (sym ep)
+      (rows-flagged (W .rows) k s false l hk hs (ap filled (sym e)))))
+
+-- ---- the head of a slot leaves it
+
+pub record CanPop (t : WheelWords) (k s : ℕ) : Type 0 where
+  pub whole : WheelWhole t
+  pub level : k < 6
+  pub slot : s < 64
+
+-- item is the head of p, which leaves it and is loose; from an empty list nobody does
+pub record Pops (t : WheelWords) (p item : ℕ) (t′ : WheelWords) : Type 0 where
+  pub none : lists t p ≡ [] → (item ≡ nobody) × Becomes t (lists t) t′
+  pub some : (x : ℕ) (l : List ℕ) → lists t p ≡ x ∷ l → (item ≡ x) × LooseIn t′ x × Becomes t (change (lists t) p l) t′
+
+cons-not : {x : ℕ} {l : List ℕ} → [] ≡ x ∷ l → ⊥
+cons-not e = let z : _≡_ {A = ℕ} 0 1 = cc in omega arith
+
+module _ {t : WheelWords} {k s : ℕ} (C : CanPop t k s) (p : ℕ) (ep : p ≡ slotPlace k s) where
+  pub pop-place : p < places
+  pop-place = omega (arith, ep, C .level, C .slot)
+
+  pub pop-asks : CanPopIn (t .stack) p
+  pop-asks = stack.can-pop (C .whole .stack) p pop-place
+
+  module _ (item : ℕ) (ei : item ≡ headAt t p) {u : StackWords} (eu : u ≡ pop (t .stack) p) where
+    -- nobody was there
+    pub popped-none : item ≡ nobody → Pops t (slotPlace k s) item (wheelWords (t .elapsed) (t .occupied) u)
+    popped-none z =
+        let e : lists t p ≡ [] = stack.list-empty (C .whole .stack) p (sym ei ∙ z) in
+        let f : lists t (slotPlace k s) ≡ [] = ap (lists t) (sym ep) ∙ e in
+        let v : u ≡ t .stack = eu ∙ stack.pop-empty (C .whole .stack) p e .1 in
+        record {
+          none = λ g. (z, rw v (record { whole = C .whole; lists = refl; elapsed = refl; kept = stack.kept-refl (t .stack) }));
+          some = λ x l g. absurd (cons-not (sym f ∙ g));
+        }
+
+    module _ (some : item ≢ nobody) where
+      was : (l : List ℕ) × (lists t p ≡ item ∷ l)
+      was = let r = stack.list-cons (C .whole .stack) p (λ z. some (ei ∙ z)) in (r .0, r .1 ∙ ap (λ (x : ℕ). x ∷ r .0) (sym ei))
+
+      abbrev rest : List ℕ
+      rest = was .0
+
+      change-here : stack.Changes (t .stack) p rest u
+      change-here = subst (stack.Changes (t .stack) p rest) (sym eu) (stack.pop-law (C .whole .stack) p item rest (was .1) .1)
+
+      item-below : item < count t
+      item-below = stack.member-below (C .whole .stack) p item (rw (was .1) (inl refl))
+
+      -- whatever occupied rows it is left with
+      pops : {occ : List ℕ} → Becomes t (change (lists t) p rest) (wheelWords (t .elapsed) occ u) → Pops t (slotPlace k s) item (wheelWords (t .elapsed) occ u)
+      pops {occ} B =
+          record {
+            none = λ g. absurd (cons-not (sym g ∙ ap (lists t) (sym ep) ∙ was .1));
+            some = λ x l g.
+                let e : item ∷ rest ≡ x ∷ l = sym (was .1) ∙ ap (lists t) ep ∙ g in
+                let a : item ≡ x = cc in
+                let b : rest ≡ l = cc in (
+                  a,
+                  rw (← a) (record {
+                    below = omega (arith, item-below, B .kept .size);
+                    loose = ap (λ (z : StackWords). markIn z item) eu ∙ stack.pop-mark (C .whole .stack) p item rest (was .1);
+                  }),
+                  subst (λ (m : List ℕ). Becomes t (change (lists t) (slotPlace k s) m) (wheelWords (t .elapsed) occ u)) b
+                      (subst (λ (z : ℕ). Becomes t (change (lists t) z rest) (wheelWords (t .elapsed) occ u)) ep B),
+                );
+          }
+
+      pub popped-more : headIn u p ≢ nobody → Pops t (slotPlace k s) item (wheelWords (t .elapsed) (t .occupied) u)
+      popped-more h = pops (left-some (C .whole) change-here (ap filled (was .1)) h)
+
+      -- it was the last: the flag is set until now
+      pub popped-flag : (s < 64) × (flagAt (at (t .occupied) k) s ≡ true)
+      popped-flag = (C .slot, flag-is (C .whole .rows) k s (C .level) (C .slot) ∙ ap (λ (z : ℕ). filled (lists t z)) (sym ep) ∙ ap filled (was .1))
+
+      pub popped-last : headIn u p ≡ nobody → (r : ℕ) → r ≡ rowOf (flagged (flagAt (at (t .occupied) k)) s false)
+          → Pops t (slotPlace k s) item (wheelWords (t .elapsed) (set (t .occupied) k r) u)
+      popped-last h r er = pops (left-none (C .whole) change-here k s r (C .level) (C .slot) ep h er)
+
+-- ---- a record leaves whatever list it is in
+
+pub record CanLeave (t : WheelWords) (i : ℕ) : Type 0 where
+  pub whole : WheelWhole t
+  pub below : i < count t
+  pub listed : markOf t i < places
+
+-- i leaves the list of its mark, and is loose
+pub record Leaves (t : WheelWords) (i : ℕ) (t′ : WheelWords) : Type 0 where
+  pub item : LooseIn t′ i
+  pub becomes : Becomes t (change (lists t) (markOf t i) (without i (lists t (markOf t i)))) t′
+
+pub leave-asks : {t : WheelWords} {i : ℕ} → CanLeave t i → (markOf t i < places) × CanCut (t .stack .links) i
+leave-asks {t} {i} C = stack.can-remove (C .whole .stack) i (C .below) (C .listed)
+
+module _ {t : WheelWords} {i : ℕ} (C : CanLeave t i) {u : StackWords} (eu : u ≡ remove (t .stack) i) where
+  abbrev from : ℕ
+  from = markOf t i
+
+  left-here : stack.Changes (t .stack) from (without i (lists t from)) u
+  left-here = subst (stack.Changes (t .stack) from (without i (lists t from))) (sym eu) (stack.remove-law (C .whole .stack) i (C .below) (C .listed))
+
+  was-filled : filled (lists t from) ≡ true
+  was-filled = by (lists t from) (stack.marked-member (C .whole .stack) i (C .below) (C .listed))
+    where
+      by : (l : List ℕ) → Mem i l → filled l ≡ true
+      by [] m = absurd m
+      by (x ∷ l) m = refl
+
+  leaves : {occ : List ℕ} → Becomes t (change (lists t) from (without i (lists t from))) (wheelWords (t .elapsed) occ u) → Leaves t i (wheelWords (t .elapsed) occ u)
+  leaves B =
+      record {
+        item = record {
+          below = omega (arith, C .below, B .kept .size);
+          loose = ap (λ (z : StackWords). markIn z i) eu ∙ stack.remove-mark (C .whole .stack) i (C .below) .0;
+        };
+        becomes = B;
+      }
+
+  pub leaves-aside : slots ≤ from → Leaves t i (wheelWords (t .elapsed) (t .occupied) u)
+  leaves-aside h = leaves (left-aside (C .whole) left-here h)
+
+  pub leaves-more : headIn u from ≢ nobody → Leaves t i (wheelWords (t .elapsed) (t .occupied) u)
+  leaves-more h = leaves (left-some (C .whole) left-here was-filled h)
+
+  module _ (slot : from < slots) where
+    pub leaves-flag : (from % 64 < 64) × (flagAt (at (t .occupied) (from / 64)) (from % 64) ≡ true)
+    leaves-flag =
+        let e : slotPlace (from / 64) (from % 64) ≡ from = omega arith in
+        (omega arith, flag-is (C .whole .rows) (from / 64) (from % 64) (omega arith) (omega arith) ∙ ap (λ (z : ℕ). filled (lists t z)) e ∙ was-filled)
+
+    pub leaves-last : headIn u from ≡ nobody → (r : ℕ) → r ≡ rowOf (flagged (flagAt (at (t .occupied) (from / 64))) (from % 64) false)
+        → Leaves t i (wheelWords (t .elapsed) (set (t .occupied) (from / 64) r) u)
+    leaves-last h r er = leaves (left-none (C .whole) left-here (from / 64) (from % 64) r (omega arith) (omega arith) (omega arith) h er)

@@ -1,0 +1,409 @@
+// The timer wheel: six levels of 64 slots.
+use stack::Stacks;
+ghost use mathlib.Core.Path.{_≡_};
+ghost use Prim.Native.Nat.{ℕ, _-_, _<_};
+ghost use Rattle.times.specs.Times.{levelOf};
+ghost use Rattle.links.specs.Links.{at};
+ghost use Rattle.wheel.specs.Wheel.{Lists, arrive};
+ghost use Rattle.wheel.specs.Rows.{Rows};
+ghost use Rattle.wheel.specs.Expiration.{NotPassed, NextIs, WakeIs};
+ghost use Rattle.stack.specs.Places.{slotPlace};
+ghost use Rattle.wheel.specs.Words.{words, lists, Becomes, CanAdd, CanPop, Pops, CanLeave, Leaves};
+ghost use Rattle.wheel.specs.Turns.{CanInsert, CanMove, MovesOne, DrainsTo, CanPoll, PollsTo};
+
+// Elapsed, the occupied row of each level, and the list layer's state.
+pub struct Wheel {
+    pub elapsed: u64,
+    pub occupied: [u64; 6],
+    pub stacks: Stacks,
+}
+
+// An entry that left its list, or nobody, and the wheel after it.
+pub struct Entry {
+    pub item: u16,
+    pub wheel: Wheel,
+}
+
+// Indicates when a slot must be processed next.
+pub struct Expiration {
+    pub level: usize,
+    pub slot: usize,
+    pub deadline: u64,
+}
+
+pub enum Next {
+    At(Expiration),
+    Nothing,
+}
+
+// The loose record `item`, with the deadline `when`, joins its slot of the level.
+fn add_entry(
+    wheel: Wheel,
+    heads: &mut [[u16; 64]; 6],
+    nexts: &mut [u16],
+    prevs: &mut [u16],
+    marks: &mut [u16],
+    level: usize,
+    when: u64,
+    item: u16,
+) -> Wheel
+    requires { ⌜ CanAdd (words wheel (now heads) (now nexts) (now prevs) (now marks)) level item ⌝ }
+    ensures { λ r. ⌜
+        Becomes
+        (words wheel (now (heads .entry)) (now (nexts .entry)) (now (prevs .entry)) (now (marks .entry)))
+        (arrive level when item (lists (words wheel (now (heads .entry)) (now (nexts .entry)) (now (prevs .entry)) (now (marks .entry)))))
+        (words r (now (heads .exit)) (now (nexts .exit)) (now (prevs .exit)) (now (marks .exit))) ⌝ }
+{
+    let slot = times::slot_for(when, level);
+    let place = stack::slot_place(level, slot);
+    let before = wheel.stacks;
+    let after = stack::push(
+        before,
+        &mut *heads,
+        &mut *nexts,
+        &mut *prevs,
+        &mut *marks,
+        place,
+        item,
+    );
+    let mut w = wheel;
+    w.stacks = after;
+    w.occupied[level] = row::set(w.occupied[level], slot);
+    w
+}
+
+// The head of a slot leaves it, and is loose. From an empty one nobody does.
+fn pop_entry(
+    wheel: Wheel,
+    heads: &mut [[u16; 64]; 6],
+    nexts: &mut [u16],
+    prevs: &mut [u16],
+    marks: &mut [u16],
+    level: usize,
+    slot: usize,
+) -> Entry
+    requires { ⌜ CanPop (words wheel (now heads) (now nexts) (now prevs) (now marks)) level slot ⌝ }
+    ensures { λ r. ⌜
+        Pops
+        (words wheel (now (heads .entry)) (now (nexts .entry)) (now (prevs .entry)) (now (marks .entry)))
+        (slotPlace level slot)
+        (r .item)
+        (words (r .wheel) (now (heads .exit)) (now (nexts .exit)) (now (prevs .exit)) (now (marks .exit))) ⌝ }
+{
+    let place = stack::slot_place(level, slot);
+    let before = wheel.stacks;
+    let popped = stack::pop(
+        before,
+        &mut *heads,
+        &mut *nexts,
+        &mut *prevs,
+        &mut *marks,
+        place,
+    );
+    let item = popped.item;
+    let after = popped.stacks;
+    let mut w = wheel;
+    w.stacks = after;
+    if item == links::NOBODY {
+        return Entry { item, wheel: w };
+    }
+    if stack::head_of(after, &*heads, place) != links::NOBODY {
+        return Entry { item, wheel: w };
+    }
+    w.occupied[level] = row::clear(w.occupied[level], slot);
+    Entry { item, wheel: w }
+}
+
+// The record `item` leaves its list, a slot or the expired stack, and is loose.
+pub fn remove(
+    wheel: Wheel,
+    heads: &mut [[u16; 64]; 6],
+    nexts: &mut [u16],
+    prevs: &mut [u16],
+    marks: &mut [u16],
+    item: u16,
+) -> Wheel
+    requires { ⌜ CanLeave (words wheel (now heads) (now nexts) (now prevs) (now marks)) item ⌝ }
+    ensures { λ r. ⌜
+        Leaves
+        (words wheel (now (heads .entry)) (now (nexts .entry)) (now (prevs .entry)) (now (marks .entry)))
+        item
+        (words r (now (heads .exit)) (now (nexts .exit)) (now (prevs .exit)) (now (marks .exit))) ⌝ }
+{
+    let place = marks[item as usize];
+    let before = wheel.stacks;
+    let after = stack::remove(
+        before,
+        &mut *heads,
+        &mut *nexts,
+        &mut *prevs,
+        &mut *marks,
+        item,
+    );
+    let mut w = wheel;
+    w.stacks = after;
+    if stack::EXPIRED <= place {
+        return w;
+    }
+    if stack::head_of(after, &*heads, place) != links::NOBODY {
+        return w;
+    }
+    let level = place as usize / 64;
+    let slot = place as usize % 64;
+    w.occupied[level] = row::clear(w.occupied[level], slot);
+    w
+}
+
+// The first occupied slot, from elapsed on, of the lowest non-empty level.
+pub fn next_expiration(wheel: Wheel) -> Next
+    requires { ⌜ NotPassed (wheel .elapsed) (wheel .occupied) ⌝ }
+    ensures { λ r. ⌜ ((L : Lists) → Rows (wheel .occupied) L → NextIs (wheel .elapsed) L r) ⌝ }
+{
+    let elapsed = wheel.elapsed;
+    let occupied = wheel.occupied;
+    let mut level: usize = 0;
+    while level < times::NUM_LEVELS {
+        let row = occupied[level];
+        if row != 0 {
+            let slot = row::first_from(row, times::now_slot(elapsed, level));
+            let deadline = times::slot_start(elapsed, level, slot);
+            return Next::At(Expiration {
+                level,
+                slot,
+                deadline,
+            });
+        }
+        level += 1;
+    }
+    Next::Nothing
+}
+
+// When the wheel next has something to do.
+pub enum Wake {
+    At(u64),
+    Never,
+}
+
+// The start of the first slot, if there is one.
+pub fn poll_at(wheel: Wheel) -> Wake
+    requires { ⌜ NotPassed (wheel .elapsed) (wheel .occupied) ⌝ }
+    ensures { λ r. ⌜ ((L : Lists) → Rows (wheel .occupied) L → WakeIs (wheel .elapsed) L r) ⌝ }
+{
+    let next = next_expiration(wheel);
+    match next {
+        Next::At(expiration) => Wake::At(expiration.deadline),
+        Next::Nothing => Wake::Never,
+    }
+}
+
+// The loose record `item` is placed at the deadline `when`, which lies in elapsed's block.
+pub fn insert(
+    wheel: Wheel,
+    heads: &mut [[u16; 64]; 6],
+    nexts: &mut [u16],
+    prevs: &mut [u16],
+    marks: &mut [u16],
+    when: u64,
+    item: u16,
+) -> Wheel
+    requires { ⌜ CanInsert (words wheel (now heads) (now nexts) (now prevs) (now marks)) when item ⌝ }
+    ensures { λ r. ⌜
+        Becomes
+        (words wheel (now (heads .entry)) (now (nexts .entry)) (now (prevs .entry)) (now (marks .entry)))
+        (arrive (levelOf (wheel .elapsed) when) when item (lists (words wheel (now (heads .entry)) (now (nexts .entry)) (now (prevs .entry)) (now (marks .entry)))))
+        (words (r) (now (heads .exit)) (now (nexts .exit)) (now (prevs .exit)) (now (marks .exit))) ⌝ }
+{
+    let level = times::level_for(wheel.elapsed, when);
+    add_entry(
+        wheel,
+        &mut *heads,
+        &mut *nexts,
+        &mut *prevs,
+        &mut *marks,
+        level,
+        when,
+        item,
+    )
+}
+
+// One move: the head of a slot above level 0 goes to its slot one level down. From an empty slot nobody does.
+fn move_entry(
+    wheel: Wheel,
+    heads: &mut [[u16; 64]; 6],
+    nexts: &mut [u16],
+    prevs: &mut [u16],
+    marks: &mut [u16],
+    deadlines: &[u64],
+    level: usize,
+    slot: usize,
+) -> Entry
+    requires { ⌜ CanMove (words wheel (now heads) (now nexts) (now prevs) (now marks)) (now deadlines) level slot ⌝ }
+    ensures { λ r. ⌜
+        MovesOne
+        (at (now (deadlines .entry)))
+        (words wheel (now (heads .entry)) (now (nexts .entry)) (now (prevs .entry)) (now (marks .entry)))
+        (level - 1)
+        (slotPlace level slot)
+        (r .item)
+        (words (r .wheel) (now (heads .exit)) (now (nexts .exit)) (now (prevs .exit)) (now (marks .exit))) ⌝ }
+{
+    let popped = pop_entry(
+        wheel,
+        &mut *heads,
+        &mut *nexts,
+        &mut *prevs,
+        &mut *marks,
+        level,
+        slot,
+    );
+    let item = popped.item;
+    let w = popped.wheel;
+    if item == links::NOBODY {
+        return Entry { item, wheel: w };
+    }
+    let when = deadlines[item as usize];
+    let moved = add_entry(
+        w,
+        &mut *heads,
+        &mut *nexts,
+        &mut *prevs,
+        &mut *marks,
+        level - 1,
+        when,
+        item,
+    );
+    Entry { item, wheel: moved }
+}
+
+// The moves of a drain, and the wheel after it.
+pub struct Drained {
+    pub moves: u64,
+    pub wheel: Wheel,
+}
+
+// A slot above level 0 is drained: each entry, from the head, is moved one level down.
+fn poll_expiration(
+    wheel: Wheel,
+    heads: &mut [[u16; 64]; 6],
+    nexts: &mut [u16],
+    prevs: &mut [u16],
+    marks: &mut [u16],
+    deadlines: &[u64],
+    level: usize,
+    slot: usize,
+) -> Drained
+    requires { ⌜ CanMove (words wheel (now heads) (now nexts) (now prevs) (now marks)) (now deadlines) level slot ⌝ }
+    ensures { λ r. ⌜
+        DrainsTo
+        (at (now (deadlines .entry)))
+        (words wheel (now (heads .entry)) (now (nexts .entry)) (now (prevs .entry)) (now (marks .entry)))
+        (level - 1)
+        (slotPlace level slot)
+        (r .moves)
+        (words (r .wheel) (now (heads .exit)) (now (nexts .exit)) (now (prevs .exit)) (now (marks .exit))) ⌝ }
+{
+    let mut w = wheel;
+    let mut moves = 0u64;
+    loop {
+        let moved = move_entry(
+            w,
+            &mut *heads,
+            &mut *nexts,
+            &mut *prevs,
+            &mut *marks,
+            deadlines,
+            level,
+            slot,
+        );
+        let item = moved.item;
+        let after = moved.wheel;
+        w = after;
+        if item == links::NOBODY {
+            return Drained { moves, wheel: w };
+        }
+        moves += 1;
+    }
+}
+
+// What a poll hands out, or nobody, its moves and drains, and the wheel after it.
+pub struct Polled {
+    pub item: u16,
+    pub moves: u64,
+    pub drains: u64,
+    pub wheel: Wheel,
+}
+
+// A poll at `time`, document 01's now, which is not below elapsed, while the expired stack is empty. Looks for the next slot, and drains it unless it is one of level 0.
+pub fn poll(
+    wheel: Wheel,
+    heads: &mut [[u16; 64]; 6],
+    nexts: &mut [u16],
+    prevs: &mut [u16],
+    marks: &mut [u16],
+    deadlines: &[u64],
+    time: u64,
+) -> Polled
+    requires { ⌜ CanPoll (words wheel (now heads) (now nexts) (now prevs) (now marks)) (now deadlines) time ⌝ }
+    ensures { λ r. ⌜
+        PollsTo
+        (at (now (deadlines .entry)))
+        time
+        (words wheel (now (heads .entry)) (now (nexts .entry)) (now (prevs .entry)) (now (marks .entry)))
+        (r .item)
+        (r .moves)
+        (r .drains)
+        (words (r .wheel) (now (heads .exit)) (now (nexts .exit)) (now (prevs .exit)) (now (marks .exit))) ⌝ }
+{
+    let mut w = wheel;
+    let mut moves = 0u64;
+    let mut drains = 0u64;
+    let item = loop {
+        let next = next_expiration(w);
+        let Next::At(expiration) = next else {
+            w.elapsed = time;
+            break links::NOBODY;
+        };
+        let level = expiration.level;
+        let slot = expiration.slot;
+        let deadline = expiration.deadline;
+        if time < deadline {
+            w.elapsed = time;
+            break links::NOBODY;
+        }
+        if level == 0 {
+            let popped = pop_entry(
+                w,
+                &mut *heads,
+                &mut *nexts,
+                &mut *prevs,
+                &mut *marks,
+                level,
+                slot,
+            );
+            let after = popped.wheel;
+            w = after;
+            break popped.item;
+        }
+        let drained = poll_expiration(
+            w,
+            &mut *heads,
+            &mut *nexts,
+            &mut *prevs,
+            &mut *marks,
+            deadlines,
+            level,
+            slot,
+        );
+        let after = drained.wheel;
+        w = after;
+        w.elapsed = deadline;
+        moves += drained.moves;
+        drains += 1;
+    };
+    Polled {
+        item,
+        moves,
+        drains,
+        wheel: w,
+    }
+}
