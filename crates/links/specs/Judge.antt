@@ -239,7 +239,7 @@ module _ (L : ℕ → List ℕ) where
       (λ h. let r = mem-cat k (suc p) i h in (r .0, omega (arith, r .1), omega (arith, r .2), r .3))
       (mem-app i (L p) (cat L k (suc p)) m)
 
-  cat-mem : (k p q i : ℕ) → p ≤ q → q < p + k → Mem i (L q) → Mem i (cat L k p)
+  pub cat-mem : (k p q i : ℕ) → p ≤ q → q < p + k → Mem i (L q) → Mem i (cat L k p)
   unfolding cat
   cat-mem zero p q i a b m = absurd (omega arith)
   cat-mem (suc k) p q i a b m =
@@ -248,7 +248,7 @@ module _ (L : ℕ → List ℕ) where
       (λ d. mem-right i (L p) (cat L k (suc p)) (cat-mem k (suc p) q i (omega (arith, d)) (omega arith) m))
 
   -- lists whose members have their place for a mark share nothing
-  cat-nodup : (mk : ℕ → ℕ) (k p : ℕ) → ((q : ℕ) → Nodup (L q)) → ((q i : ℕ) → Mem i (L q) → mk i ≡ q) → Nodup (cat L k p)
+  pub cat-nodup : (mk : ℕ → ℕ) (k p : ℕ) → ((q : ℕ) → Nodup (L q)) → ((q i : ℕ) → Mem i (L q) → mk i ≡ q) → Nodup (cat L k p)
   unfolding cat
   cat-nodup mk zero p d h = tt
   cat-nodup mk (suc k) p d h =

@@ -1,9 +1,10 @@
 -- The words of this layer, when they are whole, and what a function leaves of them.
 use mathlib.Core.Path.{_≡_, refl, sym, ap, _∙_, subst}
-use mathlib.Core.Logic.{_≢_, inl}
+use mathlib.Core.Logic.{_≢_, inl, by-cases}
 use mathlib.Core.Bool.{true, false}
 use mathlib.Core.List.{List, [], _∷_}
 use Prim.Native.Nat.{ℕ, _/_, _%_, _≤_, _<_}
+use native.Mathlib.Decide.{ℕ-discrete}
 use native.Mathlib.Omega.{arith}
 use lib.ListN.{set}
 use Rattle.times.specs.Times.{slotOf}
@@ -133,12 +134,7 @@ module _ {t : WheelWords} (W : WheelWhole t) {p : ℕ} {l : List ℕ} {u : Stack
       (subst (λ (z : ℕ). Rows (set (t .occupied) k (rowOf (flagged (flagAt (at (t .occupied) k)) s false))) (change (lists t) z l)) (sym ep)
       (rows-flagged (W .rows) k s false l hk hs (ap filled (sym e)))))
 
--- ---- the head of a slot leaves it
-
-pub record CanPop (t : WheelWords) (k s : ℕ) : Type 0 where
-  pub whole : WheelWhole t
-  pub level : k < 6
-  pub slot : s < 64
+-- ---- the head of a list leaves it
 
 -- item is the head of p, which leaves it and is loose; from an empty list nobody does
 pub record Pops (t : WheelWords) (p item : ℕ) (t′ : WheelWords) : Type 0 where
@@ -148,67 +144,96 @@ pub record Pops (t : WheelWords) (p item : ℕ) (t′ : WheelWords) : Type 0 whe
 cons-not : {x : ℕ} {l : List ℕ} → [] ≡ x ∷ l → ⊥
 cons-not e = let z : _≡_ {A = ℕ} 0 1 = cc in omega arith
 
-module _ {t : WheelWords} {k s : ℕ} (C : CanPop t k s) (p : ℕ) (ep : p ≡ slotPlace k s) where
-  pub pop-place : p < places
-  pop-place = omega (arith, ep, C .level, C .slot)
+module _ {t : WheelWords} (W : WheelWhole t) (p item : ℕ) (ei : item ≡ headAt t p) {u : StackWords} (eu : u ≡ pop (t .stack) p) where
+  -- nobody was there
+  pub popped-none : item ≡ nobody → Pops t p item (wheelWords (t .elapsed) (t .occupied) u)
+  popped-none z =
+      let e : lists t p ≡ [] = stack.list-empty (W .stack) p (sym ei ∙ z) in
+      let y : u ≡ t .stack = eu ∙ stack.pop-empty (W .stack) p e .1 in
+      record {
+        none = λ g. (z, rw y (record { whole = W; lists = refl; elapsed = refl; kept = stack.kept-refl (t .stack) }));
+        some = λ x l g. absurd (cons-not (sym e ∙ g));
+      }
 
-  pub pop-asks : CanPopIn (t .stack) p
-  pop-asks = stack.can-pop (C .whole .stack) p pop-place
+  module _ (some : item ≢ nobody) where
+    was : (l : List ℕ) × (lists t p ≡ item ∷ l)
+    was = let r = stack.list-cons (W .stack) p (λ z. some (ei ∙ z)) in (r .0, r .1 ∙ ap (λ (x : ℕ). x ∷ r .0) (sym ei))
 
-  module _ (item : ℕ) (ei : item ≡ headAt t p) {u : StackWords} (eu : u ≡ pop (t .stack) p) where
-    -- nobody was there
-    pub popped-none : item ≡ nobody → Pops t (slotPlace k s) item (wheelWords (t .elapsed) (t .occupied) u)
-    popped-none z =
-        let e : lists t p ≡ [] = stack.list-empty (C .whole .stack) p (sym ei ∙ z) in
-        let f : lists t (slotPlace k s) ≡ [] = ap (lists t) (sym ep) ∙ e in
-        let v : u ≡ t .stack = eu ∙ stack.pop-empty (C .whole .stack) p e .1 in
+    change-here : stack.Changes (t .stack) p (was .0) u
+    change-here = subst (stack.Changes (t .stack) p (was .0)) (sym eu) (stack.pop-law (W .stack) p item (was .0) (was .1) .1)
+
+    item-below : item < count t
+    item-below = stack.member-below (W .stack) p item (rw (was .1) (inl refl))
+
+    -- whatever occupied rows it is left with
+    pops : {occ : List ℕ} → Becomes t (change (lists t) p (was .0)) (wheelWords (t .elapsed) occ u) → Pops t p item (wheelWords (t .elapsed) occ u)
+    pops {occ} B =
         record {
-          none = λ g. (z, rw v (record { whole = C .whole; lists = refl; elapsed = refl; kept = stack.kept-refl (t .stack) }));
-          some = λ x l g. absurd (cons-not (sym f ∙ g));
+          none = λ g. absurd (cons-not (sym g ∙ was .1));
+          some = λ x l g.
+              let e : item ∷ was .0 ≡ x ∷ l = sym (was .1) ∙ g in
+              let a : item ≡ x = cc in
+              let b : was .0 ≡ l = cc in (
+                a,
+                rw (← a) (record {
+                  below = omega (arith, item-below, B .kept .size);
+                  loose = ap (λ (z : StackWords). markIn z item) eu ∙ stack.pop-mark (W .stack) p item (was .0) (was .1);
+                }),
+                subst (λ (m : List ℕ). Becomes t (change (lists t) p m) (wheelWords (t .elapsed) occ u)) b B,
+              );
         }
 
-    module _ (some : item ≢ nobody) where
-      was : (l : List ℕ) × (lists t p ≡ item ∷ l)
-      was = let r = stack.list-cons (C .whole .stack) p (λ z. some (ei ∙ z)) in (r .0, r .1 ∙ ap (λ (x : ℕ). x ∷ r .0) (sym ei))
+    -- p is no slot
+    popped-aside : slots ≤ p → Pops t p item (wheelWords (t .elapsed) (t .occupied) u)
+    popped-aside h = pops (left-aside W change-here h)
 
-      abbrev rest : List ℕ
-      rest = was .0
+    -- more are left
+    pub popped-more : headIn u p ≢ nobody → Pops t p item (wheelWords (t .elapsed) (t .occupied) u)
+    popped-more h = pops (left-some W change-here (ap filled (was .1)) h)
 
-      change-here : stack.Changes (t .stack) p rest u
-      change-here = subst (stack.Changes (t .stack) p rest) (sym eu) (stack.pop-law (C .whole .stack) p item rest (was .1) .1)
-
-      item-below : item < count t
-      item-below = stack.member-below (C .whole .stack) p item (rw (was .1) (inl refl))
-
-      -- whatever occupied rows it is left with
-      pops : {occ : List ℕ} → Becomes t (change (lists t) p rest) (wheelWords (t .elapsed) occ u) → Pops t (slotPlace k s) item (wheelWords (t .elapsed) occ u)
-      pops {occ} B =
-          record {
-            none = λ g. absurd (cons-not (sym g ∙ ap (lists t) (sym ep) ∙ was .1));
-            some = λ x l g.
-                let e : item ∷ rest ≡ x ∷ l = sym (was .1) ∙ ap (lists t) ep ∙ g in
-                let a : item ≡ x = cc in
-                let b : rest ≡ l = cc in (
-                  a,
-                  rw (← a) (record {
-                    below = omega (arith, item-below, B .kept .size);
-                    loose = ap (λ (z : StackWords). markIn z item) eu ∙ stack.pop-mark (C .whole .stack) p item rest (was .1);
-                  }),
-                  subst (λ (m : List ℕ). Becomes t (change (lists t) (slotPlace k s) m) (wheelWords (t .elapsed) occ u)) b
-                      (subst (λ (z : ℕ). Becomes t (change (lists t) z rest) (wheelWords (t .elapsed) occ u)) ep B),
-                );
-          }
-
-      pub popped-more : headIn u p ≢ nobody → Pops t (slotPlace k s) item (wheelWords (t .elapsed) (t .occupied) u)
-      popped-more h = pops (left-some (C .whole) change-here (ap filled (was .1)) h)
-
-      -- it was the last: the flag is set until now
+    -- it was the last of slot s of level k, whose flag is set until now
+    module _ (k s : ℕ) (hk : k < 6) (hs : s < 64) (ep : p ≡ slotPlace k s) where
       pub popped-flag : (s < 64) × (flagAt (at (t .occupied) k) s ≡ true)
-      popped-flag = (C .slot, flag-is (C .whole .rows) k s (C .level) (C .slot) ∙ ap (λ (z : ℕ). filled (lists t z)) (sym ep) ∙ ap filled (was .1))
+      popped-flag = (hs, flag-is (W .rows) k s hk hs ∙ ap (λ (z : ℕ). filled (lists t z)) (sym ep) ∙ ap filled (was .1))
 
       pub popped-last : headIn u p ≡ nobody → (r : ℕ) → r ≡ rowOf (flagged (flagAt (at (t .occupied) k)) s false)
-          → Pops t (slotPlace k s) item (wheelWords (t .elapsed) (set (t .occupied) k r) u)
-      popped-last h r er = pops (left-none (C .whole) change-here k s r (C .level) (C .slot) ep h er)
+          → Pops t p item (wheelWords (t .elapsed) (set (t .occupied) k r) u)
+      popped-last h r er = pops (left-none W change-here k s r hk hs ep h er)
+
+-- p is no slot
+pub pops-aside : {t : WheelWords} → WheelWhole t → (p item : ℕ) → item ≡ headAt t p → {u : StackWords} → u ≡ pop (t .stack) p → slots ≤ p
+    → Pops t p item (wheelWords (t .elapsed) (t .occupied) u)
+pops-aside W p item ei eu h = by-cases (ℕ-discrete item nobody) (popped-none W p item ei eu) (λ d. popped-aside W p item ei eu d h)
+
+-- of a slot
+pub record CanPop (t : WheelWords) (k s : ℕ) : Type 0 where
+  pub whole : WheelWhole t
+  pub level : k < 6
+  pub slot : s < 64
+
+pub pop-asks : {t : WheelWords} {k s : ℕ} → CanPop t k s → (p : ℕ) → p ≡ slotPlace k s → CanPopIn (t .stack) p
+pop-asks {t} {k} {s} C p ep = stack.can-pop (C .whole .stack) p (omega (arith, ep, C .level, C .slot))
+
+-- as the code has the place
+pub pops-slot : {t : WheelWords} {p item : ℕ} {t′ : WheelWords} → Pops t p item t′ → {q : ℕ} → p ≡ q → Pops t q item t′
+pops-slot {t} {p} {item} {t′} Q e = subst (λ (z : ℕ). Pops t z item t′) e Q
+
+-- ---- a record comes to a list that is no slot
+
+pub record CanPush (t : WheelWords) (p i : ℕ) : Type 0 where
+  pub whole : WheelWhole t
+  pub aside : slots ≤ p
+  pub place : p < places
+  pub item : LooseIn t i
+
+pub push-aside : {t : WheelWords} {p i : ℕ} → CanPush t p i → {u : StackWords} → u ≡ push (t .stack) p i
+    → Becomes t (change (lists t) p (put p i (lists t p))) (wheelWords (t .elapsed) (t .occupied) u)
+push-aside {t} {p} {i} C {u} eu =
+    let S = subst (stack.Changes (t .stack) p (put p i (lists t p))) (sym eu) (stack.push-law (C .whole .stack) p i (C .place) (C .item .below) (C .item .loose)) in
+    left-aside (C .whole) S (C .aside)
+
+pub push-asks : {t : WheelWords} {p i : ℕ} → CanPush t p i → (p < places) × CanJoin (t .stack .links) i (headAt t p)
+push-asks {t} {p} {i} C = stack.can-push (C .whole .stack) p i (C .place) (C .item .below)
 
 -- ---- a record leaves whatever list it is in
 

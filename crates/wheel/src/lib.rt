@@ -1,14 +1,15 @@
 // The timer wheel: six levels of 64 slots.
 use stack::Stacks;
 ghost use mathlib.Core.Path.{_≡_};
-ghost use Prim.Native.Nat.{ℕ, _-_, _<_};
+ghost use Prim.Native.Nat.{ℕ, _-_, _≤_, _<_};
 ghost use Rattle.times.specs.Times.{levelOf};
 ghost use Rattle.links.specs.Links.{at};
 ghost use Rattle.wheel.specs.Wheel.{Lists, arrive};
 ghost use Rattle.wheel.specs.Rows.{Rows};
 ghost use Rattle.wheel.specs.Expiration.{NotPassed, NextIs, WakeIs};
-ghost use Rattle.stack.specs.Places.{slotPlace};
-ghost use Rattle.wheel.specs.Words.{words, lists, Becomes, CanAdd, CanPop, Pops, CanLeave, Leaves};
+ghost use Rattle.links.specs.Lists.{change};
+ghost use Rattle.stack.specs.Places.{slotPlace, slots, places, put};
+ghost use Rattle.wheel.specs.Words.{words, lists, WheelWhole, Becomes, CanAdd, CanPush, CanPop, Pops, CanLeave, Leaves};
 ghost use Rattle.wheel.specs.Turns.{CanInsert, CanMove, MovesOne, DrainsTo, CanPoll, PollsTo};
 
 // Elapsed, the occupied row of each level, and the list layer's state.
@@ -70,6 +71,71 @@ fn add_entry(
     w.stacks = after;
     w.occupied[level] = row::set(w.occupied[level], slot);
     w
+}
+
+// The loose record `item` joins a list that is no slot: the expired stack or the free list.
+pub fn push(
+    wheel: Wheel,
+    heads: &mut [[u16; 64]; 6],
+    nexts: &mut [u16],
+    prevs: &mut [u16],
+    marks: &mut [u16],
+    place: u16,
+    item: u16,
+) -> Wheel
+    requires { ⌜ CanPush (words wheel (now heads) (now nexts) (now prevs) (now marks)) place item ⌝ }
+    ensures { λ r. ⌜
+        Becomes
+        (words wheel (now (heads .entry)) (now (nexts .entry)) (now (prevs .entry)) (now (marks .entry)))
+        (change (lists (words wheel (now (heads .entry)) (now (nexts .entry)) (now (prevs .entry)) (now (marks .entry)))) place (put place item (lists (words wheel (now (heads .entry)) (now (nexts .entry)) (now (prevs .entry)) (now (marks .entry))) place)))
+        (words (r) (now (heads .exit)) (now (nexts .exit)) (now (prevs .exit)) (now (marks .exit))) ⌝ }
+{
+    let before = wheel.stacks;
+    let after = stack::push(
+        before,
+        &mut *heads,
+        &mut *nexts,
+        &mut *prevs,
+        &mut *marks,
+        place,
+        item,
+    );
+    let mut w = wheel;
+    w.stacks = after;
+    w
+}
+
+// The head of a list that is no slot leaves it, and is loose. From an empty one nobody does.
+pub fn pop(
+    wheel: Wheel,
+    heads: &mut [[u16; 64]; 6],
+    nexts: &mut [u16],
+    prevs: &mut [u16],
+    marks: &mut [u16],
+    place: u16,
+) -> Entry
+    requires { ⌜ WheelWhole (words wheel (now heads) (now nexts) (now prevs) (now marks)) × (slots ≤ place) × (place < places) ⌝ }
+    ensures { λ r. ⌜
+        Pops
+        (words wheel (now (heads .entry)) (now (nexts .entry)) (now (prevs .entry)) (now (marks .entry)))
+        place
+        (r .item)
+        (words (r .wheel) (now (heads .exit)) (now (nexts .exit)) (now (prevs .exit)) (now (marks .exit))) ⌝ }
+{
+    let before = wheel.stacks;
+    let popped = stack::pop(
+        before,
+        &mut *heads,
+        &mut *nexts,
+        &mut *prevs,
+        &mut *marks,
+        place,
+    );
+    let item = popped.item;
+    let after = popped.stacks;
+    let mut w = wheel;
+    w.stacks = after;
+    Entry { item, wheel: w }
 }
 
 // The head of a slot leaves it, and is loose. From an empty one nobody does.

@@ -1,7 +1,7 @@
 -- `pop_entry` meets its contract: nobody was there (`popped-none`), more are left (`popped-more`), or it was the last (`popped-last`).
 use borrow.Author.Needs.{needs}
 use mathlib.Core.Path.{sym, _∙_}
-use Rattle.wheel.specs.Words.{pop-asks, popped-none, popped-more, popped-flag, popped-last}
+use Rattle.wheel.specs.Words.{pop-asks, pops-slot, popped-none, popped-more, popped-flag, popped-last}
 use Rattle.wheel.proofs.pop_entry.Statement.{statement}
 use Rattle.wheel.proofs.pop_entry.Tie as tie
 
@@ -21,7 +21,7 @@ same-length-3 : tie.Need-same-length-3
 same-length-3 c = search needs
 
 returns : tie.Need-returns
-returns c = popped-none (c .before .before .before .before .before .before .before .before .before .before .before .before .before .before .before .before .before .before .pre) _ (c .before .before .before .before .before .before .before .before .before .before .before .before .before .before .slot-place .ensures) _ (c .before .before .before .before .before .before .before .before .pop .ensures .0) (c .before .before .before .before .before .before .before .before .pop .ensures .1) (c .if1 .taken)
+returns c = pops-slot (popped-none (c .before .before .before .before .before .before .before .before .before .before .before .before .before .before .before .before .before .before .pre .whole) _ _ (c .before .before .before .before .before .before .before .before .pop .ensures .0) (c .before .before .before .before .before .before .before .before .pop .ensures .1) (c .if1 .taken)) (c .before .before .before .before .before .before .before .before .before .before .before .before .before .before .slot-place .ensures)
 
 head-of-requires : tie.Need-head-of-requires
 head-of-requires c κs = search needs
@@ -36,7 +36,7 @@ same-length-6 : tie.Need-same-length-6
 same-length-6 c = search needs
 
 returns-2 : tie.Need-returns-2
-returns-2 c = popped-more (c .before .before .before .before .before .before .before .before .before .before .before .before .before .before .before .before .before .before .before .before .before .pre) _ (c .before .before .before .before .before .before .before .before .before .before .before .before .before .before .before .before .before .slot-place .ensures) _ (c .before .before .before .before .before .before .before .before .before .before .before .pop .ensures .0) (c .before .before .before .before .before .before .before .before .before .before .before .pop .ensures .1) (c .before .before .before .if1 .left) (λ z. c .if2 .taken (c .before .head-of .ensures ∙ z))
+returns-2 c = pops-slot (popped-more (c .before .before .before .before .before .before .before .before .before .before .before .before .before .before .before .before .before .before .before .before .before .pre .whole) _ _ (c .before .before .before .before .before .before .before .before .before .before .before .pop .ensures .0) (c .before .before .before .before .before .before .before .before .before .before .before .pop .ensures .1) (c .before .before .before .if1 .left) (λ z. c .if2 .taken (c .before .head-of .ensures ∙ z))) (c .before .before .before .before .before .before .before .before .before .before .before .before .before .before .before .before .before .slot-place .ensures)
 
 mul-clear : tie.Need-mul-clear
 mul-clear c = search needs
@@ -45,7 +45,7 @@ element-copy-out-clear : tie.Need-element-copy-out-clear
 element-copy-out-clear c = search needs
 
 clear-requires : tie.Need-clear-requires
-clear-requires c κs = popped-flag (c .before .before .before .before .before .before .before .before .before .before .before .before .before .before .before .before .before .before .before .before .before .before .pre) _ (c .before .before .before .before .before .before .before .before .before .before .before .before .before .before .before .before .before .before .slot-place .ensures) _ (c .before .before .before .before .before .before .before .before .before .before .before .before .pop .ensures .0) (c .before .before .before .before .before .before .before .before .before .before .before .before .pop .ensures .1) (c .before .before .before .before .if1 .left)
+clear-requires c κs = popped-flag (c .before .before .before .before .before .before .before .before .before .before .before .before .before .before .before .before .before .before .before .before .before .before .pre .whole) _ _ (c .before .before .before .before .before .before .before .before .before .before .before .before .pop .ensures .0) (c .before .before .before .before .before .before .before .before .before .before .before .before .pop .ensures .1) (c .before .before .before .before .if1 .left) _ _ (c .before .before .before .before .before .before .before .before .before .before .before .before .before .before .before .before .before .before .before .before .before .before .pre .level) (c .before .before .before .before .before .before .before .before .before .before .before .before .before .before .before .before .before .before .before .before .before .before .pre .slot) (c .before .before .before .before .before .before .before .before .before .before .before .before .before .before .before .before .before .before .slot-place .ensures)
 
 mul-w : tie.Need-mul-w
 mul-w c = search needs
@@ -63,7 +63,7 @@ same-length-9 : tie.Need-same-length-9
 same-length-9 c = search needs
 
 returns-3 : tie.Need-returns-3
-returns-3 c = popped-last (c .before .before .before .before .before .before .before .before .before .before .before .before .before .before .before .before .before .before .before .before .before .before .before .pre) _ (c .before .before .before .before .before .before .before .before .before .before .before .before .before .before .before .before .before .before .before .slot-place .ensures) _ (c .before .before .before .before .before .before .before .before .before .before .before .before .before .pop .ensures .0) (c .before .before .before .before .before .before .before .before .before .before .before .before .before .pop .ensures .1) (c .before .before .before .before .before .if1 .left) (sym (c .before .before .before .head-of .ensures) ∙ c .before .before .if2 .left) _ (c .clear .ensures)
+returns-3 c = pops-slot (popped-last (c .before .before .before .before .before .before .before .before .before .before .before .before .before .before .before .before .before .before .before .before .before .before .before .pre .whole) _ _ (c .before .before .before .before .before .before .before .before .before .before .before .before .before .pop .ensures .0) (c .before .before .before .before .before .before .before .before .before .before .before .before .before .pop .ensures .1) (c .before .before .before .before .before .if1 .left) _ _ (c .before .before .before .before .before .before .before .before .before .before .before .before .before .before .before .before .before .before .before .before .before .before .before .pre .level) (c .before .before .before .before .before .before .before .before .before .before .before .before .before .before .before .before .before .before .before .before .before .before .before .pre .slot) (c .before .before .before .before .before .before .before .before .before .before .before .before .before .before .before .before .before .before .before .slot-place .ensures) (sym (c .before .before .before .head-of .ensures) ∙ c .before .before .if2 .left) _ (c .clear .ensures)) (c .before .before .before .before .before .before .before .before .before .before .before .before .before .before .before .before .before .before .before .slot-place .ensures)
 
 pub pop-entry-spec : {M : Type 1} → statement M
 pop-entry-spec =

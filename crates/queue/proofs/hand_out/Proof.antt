@@ -1,0 +1,67 @@
+-- `hand_out` meets its contract: the answer is read before the record is freed (`out-done`).
+use borrow.Author.Needs.{needs}
+use native.Mathlib.Omega.{arith}
+use Rattle.queue.specs.PollLaws.{out-words, out-frees, out-done}
+use Rattle.queue.proofs.hand_out.Statement.{statement}
+use Rattle.queue.proofs.hand_out.Tie as tie
+
+mul-key : tie.Need-mul-key
+mul-key c = search needs
+
+slice-read-key : tie.Need-slice-read-key
+slice-read-key c = out-words (c .before .before .before .before .before .before .before .pre .0) (c .before .before .before .before .before .before .before .pre .1) .2
+
+mul-key-2 : tie.Need-mul-key-2
+mul-key-2 c = omega (arith, out-words (c .before .before .before .before .before .before .before .pre .0) (c .before .before .before .before .before .before .before .pre .1) .3)
+
+add-key : tie.Need-add-key
+add-key c = omega (arith, out-words (c .before .before .before .before .before .before .before .pre .0) (c .before .before .before .before .before .before .before .pre .1) .3)
+
+mul-value : tie.Need-mul-value
+mul-value c = search needs
+
+shared-slice-read-value : tie.Need-shared-slice-read-value
+shared-slice-read-value c = out-words (c .before .before .before .before .before .before .before .before .pre .0) (c .before .before .before .before .before .before .before .before .pre .1) .0
+
+mul-deadline : tie.Need-mul-deadline
+mul-deadline c = search needs
+
+shared-slice-read-deadline : tie.Need-shared-slice-read-deadline
+shared-slice-read-deadline c = out-words (c .before .before .before .before .before .before .before .before .before .pre .0) (c .before .before .before .before .before .before .before .before .before .pre .1) .1
+
+leave-requires : tie.Need-leave-requires
+leave-requires c κs = out-frees (c .before .before .before .before .before .before .before .before .before .before .before .before .before .before .pre .0) (c .before .before .before .before .before .before .before .before .before .before .before .before .before .before .pre .1)
+
+same-length : tie.Need-same-length
+same-length c = search needs
+
+same-length-2 : tie.Need-same-length-2
+same-length-2 c = search needs
+
+same-length-3 : tie.Need-same-length-3
+same-length-3 c = search needs
+
+same-length-4 : tie.Need-same-length-4
+same-length-4 c = search needs
+
+returns : tie.Need-returns
+returns c = out-done (c .before .before .before .before .before .before .before .before .before .before .before .before .before .before .before .before .before .before .before .before .before .before .before .pre .0) (c .before .before .before .before .before .before .before .before .before .before .before .before .before .before .before .before .before .before .before .before .before .before .before .pre .1) _ _ (c .before .before .before .before .before .before .before .before .leave .ensures)
+
+pub hand-out-spec : {M : Type 1} → statement M
+hand-out-spec =
+    tie.close
+    (tie.spec
+    mul-key
+    slice-read-key
+    mul-key-2
+    add-key
+    mul-value
+    shared-slice-read-value
+    mul-deadline
+    shared-slice-read-deadline
+    leave-requires
+    same-length
+    same-length-2
+    same-length-3
+    same-length-4
+    returns)

@@ -1,0 +1,99 @@
+-- What the functions of the code say, and the laws that their proofs cite.
+use mathlib.Core.Path.{_≡_, refl, sym, ap, _∙_, subst}
+use mathlib.Core.Logic.{_≢_}
+use mathlib.Core.Bool.{true, false}
+use mathlib.Core.List.{List}
+use Prim.Native.Nat.{ℕ, _-_, _/_, _%_, _≤_, _<_}
+use native.Mathlib.Omega.{arith}
+use lib.ListN.{length}
+use lib.Dec.{eqb, ltb}
+use borrow.Author.Tests.{eqb-true, eqb-false, ltb-true, ltb-false}
+use Rattle.times.specs.Times.{maxDuration, block}
+use Rattle.links.specs.Links.{at}
+use Rattle.stack.specs.Places.{free}
+use Rattle.stack.specs.Laws as stack
+use Rattle.queue.specs.declared.Found.{Found}
+use Rattle.queue.specs.declared.Found.the-variants as F
+use Rattle.queue.specs.Steps.{At, Names, TooFar, OtherBlock, Near}
+use Rattle.queue.specs.Words.{QueueWords, count, markOf, view, Sound}
+
+-- ---- refusals 4 and 5
+
+-- 4 where the deadline is too far, 5 where it lies in another block, and 0 just where it is near
+pub record DeadlineNo (e w r : ℕ) : Type 0 where
+  pub far : TooFar e w → r ≡ 4
+  pub other : OtherBlock e w → r ≡ 5
+  pub near : Near e w → r ≡ 0
+  pub taken : r ≡ 0 → Near e w
+
+module _ (e w : ℕ) where
+  pub no-past : w ≤ e → DeadlineNo e w 0
+  no-past h = record { far = λ f. absurd (omega (arith, f)); other = λ f. absurd (omega (arith, f)); near = λ n. refl; taken = λ z g. absurd (omega (arith, g)) }
+
+  pub no-far : e < w → true ≡ ltb maxDuration (w - e) → DeadlineNo e w 4
+  no-far h t =
+      let f : maxDuration < w - e = ltb-true maxDuration (w - e) (sym t) in
+      record { far = λ g. refl; other = λ g. absurd (omega (arith, f, g .1)); near = λ n. absurd (omega (arith, f, n h)); taken = λ z. absurd (omega arith) }
+
+  pub no-near : e < w → false ≡ ltb maxDuration (w - e) → true ≡ eqb (block w) (block e) → DeadlineNo e w 0
+  no-near h f t =
+      let n : w - e ≤ maxDuration = ltb-false maxDuration (w - e) (sym f) in
+      let b : block w ≡ block e = eqb-true (block w) (block e) (sym t) in
+      record { far = λ g. absurd (omega (arith, n, g .1)); other = λ g. absurd (g .2 b); near = λ g. refl; taken = λ z g. b }
+
+  pub no-other : e < w → false ≡ ltb maxDuration (w - e) → false ≡ eqb (block w) (block e) → DeadlineNo e w 5
+  no-other h f t =
+      let n : w - e ≤ maxDuration = ltb-false maxDuration (w - e) (sym f) in
+      let b : block w ≢ block e = eqb-false (block w) (block e) (sym t) in
+      record { far = λ g. absurd (omega (arith, n, g .1)); other = λ g. refl; near = λ g. absurd (b (g h)); taken = λ z. absurd (omega arith) }
+
+-- ---- a key
+
+pub record Roomed (n : ℕ) (ts ms : List ℕ) : Type 0 where
+  pub turns : n ≤ length ts
+  pub marks : n ≤ length ms
+
+-- the key's record, by the words
+pub record KeyIs (n : ℕ) (ts ms : List ℕ) (key i : ℕ) : Type 0 where
+  pub number : i ≡ key % 65536
+  pub below : i < n
+  pub pending : at ms i < free
+  pub turn : at ts i ≡ key / 65536
+
+abbrev pub FindIs : ℕ → List ℕ → List ℕ → ℕ → Found → Type 0
+FindIs n ts ms key F.Nowhere = (i : ℕ) → KeyIs n ts ms key i → ⊥
+FindIs n ts ms key (F.At i) = KeyIs n ts ms key i
+
+module _ {s : QueueWords} (S : Sound s) (key : ℕ) where
+  -- and by the view
+  pub key-names : {i : ℕ} → KeyIs (count s) (s .turns) (s .wheel .stack .links .marks) key i → Names (view s) key i (markOf s i)
+  key-names {i} K =
+      record {
+        number = K .number;
+        below = K .below;
+        pending = record { timed = K .pending; member = stack.marked-member (S .whole .stack) i (K .below) (omega (arith, K .pending)) };
+        turn = K .turn;
+      }
+
+  pub names-key : {i p : ℕ} → Names (view s) key i p → KeyIs (count s) (s .turns) (s .wheel .stack .links .marks) key i
+  names-key {i} {p} N =
+      record {
+        number = N .number;
+        below = N .below;
+        pending = omega (arith, stack.member-mark (S .whole .stack) p i (N .pending .member), N .pending .timed);
+        turn = N .turn;
+      }
+
+module _ {n : ℕ} {ts ms : List ℕ} {key : ℕ} where
+  pub find-mark : free ≤ at ms (key % 65536) → (i : ℕ) → KeyIs n ts ms key i → ⊥
+  find-mark h i K = omega (arith, h, K .pending, ap (at ms) (K .number))
+
+  pub find-turn : at ts (key % 65536) ≢ key / 65536 → (i : ℕ) → KeyIs n ts ms key i → ⊥
+  find-turn h i K = h (ap (at ts) (sym (K .number)) ∙ K .turn)
+
+  -- by the answer's case
+  pub find-at : {r : Found} → FindIs n ts ms key r → (i : ℕ) → r ≡ F.At i → KeyIs n ts ms key i
+  find-at G i e = subst (FindIs n ts ms key) e G
+
+  pub find-nowhere : {r : Found} → FindIs n ts ms key r → r ≡ F.Nowhere → (i : ℕ) → KeyIs n ts ms key i → ⊥
+  find-nowhere G e = subst (FindIs n ts ms key) e G

@@ -1,0 +1,340 @@
+-- Poll, next wake, length and clear: what the proofs of the functions cite.
+use mathlib.Core.Path.{_≡_, refl, sym, ap, _∙_, subst}
+use mathlib.Core.Logic.{_≢_, by-cases}
+use mathlib.Core.Bool.{Bool, true, false}
+use mathlib.Core.List.{List, [], _∷_}
+use mathlib.Core.Option.{Option, none, some}
+use Prim.Native.Nat.{ℕ, suc, _+_, _*_, _^_, _≤_, _<_}
+use native.Mathlib.Decide.{ℕ-discrete, decLt}
+use native.Mathlib.Omega.{arith}
+use native.Mathlib.Numerals.{add-one}
+use lib.ListN.{length}
+use lib.Dec.{ltb}
+use borrow.Author.Tests.{eq-eqb, ne-eqb, lt-ltb, le-ltb}
+use Rattle.times.specs.Times.{startAt}
+use Rattle.links.specs.Lists.{nobody, Mem, without, change, change-same, change-other}
+use Rattle.links.specs.Links.{at}
+use Rattle.links.specs.Laws.{kept-refl}
+use Rattle.links.specs.Count.{cnt, elem, cnt-ext, cnt-elem, mem-elem, elem-mem}
+use Rattle.links.specs.Judge.{cat, mem-cat, cat-mem, cat-nodup}
+use Rattle.stack.specs.Places.{expired, free}
+use Rattle.stack.specs.Laws as stack
+use Rattle.wheel.specs.Wheel.{Lists, Polls}
+use Rattle.wheel.specs.Sums.{total-zero, total-scale, mem-left}
+use Rattle.wheel.specs.Between.{rule-less}
+use Rattle.wheel.specs.declared.Wake.{Wake}
+use Rattle.wheel.specs.declared.Wake.the-variants.{At as Wake·At, Never}
+use Rattle.wheel.specs.Expiration.{WakeIs}
+use Rattle.wheel.specs.Words.{WheelWords, wheelWords, Becomes, Pops, CanLeave, Leaves, lists as listsIn, count as countIn}
+use Rattle.wheel.specs.Turns.{CanPoll, PollsTo, gotten, popped-empty, popped-cons}
+use Rattle.queue.specs.declared.Answer.{Answer}
+use Rattle.queue.specs.declared.Answer.the-variants as A
+use Rattle.queue.specs.Told.{told, out, wake, never}
+use Rattle.queue.specs.Told as T
+use Rattle.queue.specs.View.{View, view-eq, withElapsed, withLists}
+use Rattle.queue.specs.Steps.{lastTurn, keyOf, At, left, freed, QueuePolls, popped, handed, nothing, Wakes, sleeps, starts, pending, Clears, begun, kept, gave}
+use Rattle.queue.specs.Words.{QueueWords, queueWords, count, elapsed, markOf, view, Sound, AllKept, all-refl, all-trans}
+use Rattle.queue.specs.Calls.{PollOn, ClearOn}
+use Rattle.queue.specs.Laws.{Goes, LooseAt, loose-out, goes-lists, can-leave, mem-without, goes-left, CanFree, LeavesTo, goes-freed}
+use Rattle.queue.specs.CallLaws.{goes-then}
+
+-- ---- a loose record is handed out and freed
+
+pub record HandsOut (s : QueueWords) (i moves drains : ℕ) (a : Answer) (s′ : QueueWords) : Type 0 where
+  pub told : told a ≡ out (keyOf (view s) i) (view s .value i) (view s .deadline i) moves drains
+  pub goes : Goes s (freed i (view s)) s′
+
+module _ {s : QueueWords} (S : Sound s) {i : ℕ} (o : LooseAt s i) where
+  pub out-words : (i < length (s .values)) × (i < length (s .deadlines)) × (i < length (s .turns)) × (at (s .turns) i * 65536 + i < 2 ^ 64)
+  out-words = (
+    omega (arith, o .below, S .roomy .values),
+    omega (arith, o .below, S .roomy .deadlines),
+    omega (arith, o .below, S .roomy .turns),
+    omega (arith, S .turns i (o .below) .1, o .below, stack.small (S .whole .stack)),
+  )
+
+  pub out-frees : CanFree (s .wheel) (s .turns) i
+  out-frees = record { whole = S .whole; item = o; word = out-words .2; turn = S .turns i (o .below) .1 }
+
+  pub out-done : (moves drains : ℕ) {t : WheelWords} {ts : List ℕ} → LeavesTo (s .wheel) (s .turns) i t ts
+      → HandsOut s i moves drains (A.Out (at (s .turns) i * 65536 + i) (at (s .values) i) (at (s .deadlines) i) moves drains) (queueWords t (s .values) (s .deadlines) ts)
+  out-done moves drains P = record { told = refl; goes = goes-freed S o P }
+
+-- ---- poll
+
+module _ {s : QueueWords} (S : Sound s) (time : ℕ) where
+  pub poll-back : time < elapsed s → PollOn s time (A.No 7) s
+  poll-back h = record { back = λ g. record { told = refl; same = refl }; done = λ g. absurd (omega arith) }
+
+  module _ (not-back : elapsed s ≤ time) where
+    polled : {a : Answer} {s′ : QueueWords} → Sound s′ → QueuePolls (view s) time (told a) (view s′) → AllKept s s′ → PollOn s time a s′
+    polled W r K = record { back = λ h. absurd (omega arith); done = λ h. (W, r, K) }
+
+    module _ {item : ℕ} {t : WheelWords} (Q : Pops (s .wheel) expired item t) where
+      abbrev s₁ : QueueWords
+      s₁ = queueWords t (s .values) (s .deadlines) (s .turns)
+
+      -- the expired stack has a first
+      module _ (some : item ≢ nobody) where
+        was : (l : List ℕ) × (view s .lists expired ≡ item ∷ l)
+        was = popped-cons (S .whole) Q some
+
+        G₁ : Goes s (withLists (change (view s .lists) expired (was .0)) (view s)) s₁
+        G₁ = goes-lists S (Q .some item (was .0) (was .1) .2) (rule-less (S .rule) (mem-left (view s .lists) expired item (was .0) (was .1)))
+
+        pub stack-loose : Sound s₁ × LooseAt s₁ item
+        stack-loose = (G₁ .sound, Q .some item (was .0) (was .1) .1)
+
+        pub poll-popped : {a : Answer} {s′ : QueueWords} → HandsOut s₁ item 0 0 a s′ → PollOn s time a s′
+        poll-popped {a} {s′} H =
+            let G = goes-then (freed item) G₁ (H .goes) in
+            polled (G .sound) (rw (H .told, G .view) (popped (was .1))) (G .kept)
+
+      -- it is empty
+      module _ (absent : item ≡ nobody) where
+        empty : view s .lists expired ≡ []
+        empty = popped-empty (S .whole) Q absent
+
+        B : Becomes (s .wheel) (view s .lists) t
+        B = Q .none empty .1
+
+        G₂ : Goes s (view s) s₁
+        G₂ = goes-lists S B (S .rule)
+
+        pub wheel-can : CanPoll t (s .deadlines) time
+        wheel-can =
+            record {
+              whole = B .whole;
+              rule = G₂ .sound .rule;
+              stack = ap (λ (L : Lists). L expired) (B .lists) ∙ empty;
+              not-back = omega (arith, B .elapsed);
+              deadlines = G₂ .sound .roomy .deadlines;
+            }
+
+        module _ {i m n : ℕ} {u : WheelWords} (R : PollsTo (at (s .deadlines)) time t i m n u) where
+          abbrev s₂ : QueueWords
+          s₂ = queueWords u (s .values) (s .deadlines) (s .turns)
+
+          size : countIn u ≡ count s
+          size = R .kept .size ∙ B .kept .size
+
+          G₃ : Goes s (withElapsed (u .elapsed) (withLists (listsIn u) (view s))) s₂
+          G₃ =
+              record {
+                sound = record {
+                  some = omega (arith, S .some, size);
+                  few = omega (arith, S .few, size);
+                  roomy = record {
+                    values = omega (arith, S .roomy .values, size);
+                    deadlines = omega (arith, S .roomy .deadlines, size);
+                    turns = omega (arith, S .roomy .turns, size);
+                  };
+                  whole = R .whole;
+                  turns = λ j h. S .turns j (omega (arith, h, size));
+                  rule = R .rule;
+                };
+                view = view-eq size refl refl refl refl refl;
+                kept = record {
+                  links = stack.kept-trans (B .kept) (R .kept);
+                  values = kept-refl (count s) (s .values);
+                  deadlines = kept-refl (count s) (s .deadlines);
+                  turns = kept-refl (count s) (s .turns);
+                };
+              }
+
+          polls : (o : Option ℕ) → gotten i ≡ o → Polls (view s .deadline) time (view s .elapsed) (view s .lists) o m n (u .elapsed) (listsIn u)
+          polls o e = rw (B .elapsed, B .lists, e) at (R .polls)
+
+          pub poll-none : i ≡ nobody → PollOn s time (A.Nothing m n) s₂
+          poll-none z = polled (G₃ .sound) (rw (G₃ .view) (nothing empty (polls none (rw (eq-eqb i nobody z))))) (G₃ .kept)
+
+          pub wheel-loose : i ≢ nobody → Sound s₂ × LooseAt s₂ i
+          wheel-loose d = (G₃ .sound, R .loose d)
+
+          pub poll-handed : i ≢ nobody → {a : Answer} {s′ : QueueWords} → HandsOut s₂ i m n a s′ → PollOn s time a s′
+          poll-handed d {a} {s′} H =
+              let G = goes-then (freed i) G₃ (H .goes) in
+              polled (G .sound) (rw (H .told, G .view) (handed empty (polls (some i) (rw (ne-eqb i nobody d))))) (G .kept)
+
+-- ---- next wake
+
+module _ (v : View) {e : ℕ} (h : v .elapsed ≡ e) {r : Wake} (W : WakeIs e (v .lists) r) where
+  pub wake-never : r ≡ Never → Wakes v never
+  wake-never q = sleeps (subst (WakeIs e (v .lists)) q W)
+
+  pub wake-at : {t : ℕ} → r ≡ Wake·At t → Wakes v (wake t)
+  wake-at {t} q =
+      let x = subst (WakeIs e (v .lists)) q W in
+      subst (λ (y : ℕ). Wakes v (wake y)) (sym (x .3 ∙ ap (λ (z : ℕ). startAt z (x .0) (x .1)) (sym h))) (starts (rw h (x .2)))
+
+-- ---- length
+
+-- the records whose mark is a slot or the expired stack
+unfoldable pub pendingIn : (ℕ → ℕ) → ℕ → ℕ
+pendingIn mk n = cnt (λ i. ltb (mk i) free) n
+
+pub pending-zero : (mk : ℕ → ℕ) → pendingIn mk 0 ≡ 0
+unfolding pendingIn
+pending-zero mk = refl
+
+pub pending-more : (mk : ℕ → ℕ) (i : ℕ) → mk i < free → pendingIn mk (i + 1) ≡ pendingIn mk i + 1
+unfolding pendingIn
+pending-more mk i h = rw (add-one, lt-ltb (mk i) free h)
+
+pub pending-same : (mk : ℕ → ℕ) (i : ℕ) → free ≤ mk i → pendingIn mk (i + 1) ≡ pendingIn mk i
+unfolding pendingIn
+pending-same mk i h = rw (add-one, le-ltb (mk i) free h) (omega arith)
+
+-- they are as many as the lists have members
+pub pending-is : {s : QueueWords} → Sound s → pendingIn (markOf s) (count s) ≡ pending (view s)
+unfolding pendingIn pending
+pending-is {s} S =
+    let L : Lists = view s .lists in
+    let W = S .whole .stack in
+    let c : List ℕ = cat L free 0 in
+    let below : (i : ℕ) → Mem i c → i < count s = λ i m. let r = mem-cat L free 0 i m in stack.member-below W (r .0) i (r .3) in
+    let same : (i : ℕ) → i < count s → ltb (markOf s i) free ≡ elem i c
+    = λ i h.
+    by-cases (decLt (markOf s i) free)
+    (λ g.
+    lt-ltb (markOf s i) free g
+    ∙ sym (mem-elem i c (cat-mem L free 0 (markOf s i) i (omega arith) (omega arith) (stack.marked-member W i h (omega (arith, g))))))
+    (λ g.
+    le-ltb (markOf s i) free (omega (arith, g))
+    ∙ sym (not-in (elem i c) (λ e.
+    let r = mem-cat L free 0 i (elem-mem i c e) in
+    g (omega (arith, stack.member-mark W (r .0) i (r .3), r .2))))) in
+    cnt-ext (λ i. ltb (markOf s i) free) (λ i. elem i c) (count s) same
+    ∙ cnt-elem c (count s) (cat-nodup L (markOf s) free 0 (λ q. stack.list-nodup W q) (λ q i m. stack.member-mark W q i m)) below
+    ∙ sym (omega (arith, total-scale 1 free L 0 free (omega arith), total-zero (λ p x. 1) L))
+  where
+    not-in : (b : Bool) → (b ≡ true → ⊥) → b ≡ false
+    not-in true h = absurd (h refl)
+    not-in false h = refl
+
+-- ---- clear
+
+-- a record that is pending leaves; another stays
+pub record ClearsOne (s : QueueWords) (i : ℕ) (s′ : QueueWords) : Type 0 where
+  pub stays : ((p : ℕ) → At (view s) i p → ⊥) → s′ ≡ s
+  pub goes : (p : ℕ) → At (view s) i p → Goes s (freed i (left p i (view s))) s′
+  pub gone : (p : ℕ) → At (view s′) i p → ⊥
+  pub others : (j p : ℕ) → At (view s′) j p → At (view s) j p
+  pub sound : Sound s′
+  pub kept : AllKept s s′
+
+at-mark : {s : QueueWords} → Sound s → {i : ℕ} → i < count s → markOf s i < free → At (view s) i (markOf s i)
+at-mark S {i} h g = record { timed = g; member = stack.marked-member (S .whole .stack) i h (omega (arith, g)) }
+
+-- in a slot or on the expired stack after it, and so before it
+freed-at : (i : ℕ) (v : View) (j p : ℕ) → At (freed i v) j p → At v j p
+unfolding freed
+freed-at i v j p a =
+    by-cases (ℕ-discrete (v .turn i) lastTurn)
+    (λ z. rw (eq-eqb (v .turn i) lastTurn z) at a)
+    (λ z.
+    let b = rw (ne-eqb (v .turn i) lastTurn z) at a in
+    record { timed = b .timed; member = rw (change-other (v .lists) free _ p (omega (arith, b .timed))) at (b .member) })
+
+left-at : (q i : ℕ) (v : View) (j p : ℕ) → At (left q i v) j p → At v j p
+unfolding left
+left-at q i v j p a =
+    record {
+      timed = a .timed;
+      member =
+          by-cases (ℕ-discrete p q)
+          (λ (e : p ≡ q). rw e (mem-without i j (v .lists q) (rw (e, change-same) at (a .member))))
+          (λ d. rw (change-other (v .lists) q (without i (v .lists q)) p d) at (a .member));
+    }
+
+module _ {s : QueueWords} (S : Sound s) {i : ℕ} (h : i < count s) where
+  pub clear-stays : free ≤ markOf s i → ClearsOne s i s
+  clear-stays g =
+      let out : (p : ℕ) → At (view s) i p → ⊥ = λ p a. omega (arith, g, stack.member-mark (S .whole .stack) p i (a .member), a .timed) in
+      record {
+        stays = λ f. refl;
+        goes = λ p a. absurd (out p a);
+        gone = out;
+        others = λ j p a. a;
+        sound = S;
+        kept = all-refl s;
+      }
+
+  module _ (g : markOf s i < free) where
+    pub clear-leaves : CanLeave (s .wheel) i
+    clear-leaves = can-leave S (at-mark S h g)
+
+    module _ {t : WheelWords} (Q : Leaves (s .wheel) i t) where
+      abbrev s₃ : QueueWords
+      s₃ = queueWords t (s .values) (s .deadlines) (s .turns)
+
+      G₄ : Goes s (left (markOf s i) i (view s)) s₃
+      G₄ = goes-left S (at-mark S h g) Q
+
+      pub clear-frees : CanFree t (s .turns) i
+      clear-frees = record { whole = G₄ .sound .whole; item = Q .item; word = omega (arith, h, S .roomy .turns); turn = S .turns i h .1 }
+
+      pub clear-goes : {u : WheelWords} {ts : List ℕ} → LeavesTo t (s .turns) i u ts → ClearsOne s i (queueWords u (s .values) (s .deadlines) ts)
+      clear-goes {u} {ts} P =
+          let H = goes-freed (G₄ .sound) (Q .item) P in
+          let G = goes-then (freed i) G₄ H in
+          let before : (j p : ℕ) → At (view (queueWords u (s .values) (s .deadlines) ts)) j p → At (view s₃) j p
+          = λ j p a. freed-at i (view s₃) j p (rw (H .view) at a) in
+          record {
+            stays = λ f. absurd (f (markOf s i) (at-mark S h g));
+            goes = λ p a. let e : markOf s i ≡ p = stack.member-mark (S .whole .stack) p i (a .member) in rw (← e) G;
+            gone = λ p a. loose-out (G₄ .sound) (Q .item) p (before i p a .member);
+            others = λ j p a. left-at (markOf s i) i (view s) j p (rw (G₄ .view) at (before j p a));
+            sound = G .sound;
+            kept = G .kept;
+          }
+
+-- the first i records are done
+pub record ClearedSo (s : QueueWords) (i : ℕ) (s′ : QueueWords) : Type 0 where
+  pub sound : Sound s′
+  pub kept : AllKept s s′
+  pub clears : Clears (view s) i (view s′)
+  pub gone : (j : ℕ) → j < i → (p : ℕ) → At (view s′) j p → ⊥
+
+pub clear-none : {s : QueueWords} → Sound s → ClearedSo s 0 s
+clear-none {s} S = record { sound = S; kept = all-refl s; clears = begun; gone = λ j h. absurd (omega arith) }
+
+pub clear-turn : {s s₁ s₂ : QueueWords} {i : ℕ} → ClearedSo s i s₁ → i < count s₁ → ClearsOne s₁ i s₂ → ClearedSo s (i + 1) s₂
+clear-turn {s} {s₁} {s₂} {i} C h Q =
+    record {
+      sound = Q .sound;
+      kept = all-trans (C .kept) (Q .kept);
+      clears = rw (add-one i) (by (decLt (markOf s₁ i) free));
+      gone = λ j g p a. by-cases (ℕ-discrete j i) (λ (e : j ≡ i). Q .gone p (rw e at a)) (λ d. C .gone j (omega (arith, g, d)) p (Q .others j p a));
+    }
+  where
+    by : Dec (markOf s₁ i < free) → Clears (view s) (suc i) (view s₂)
+    by (yes g) = let a = at-mark (C .sound) h g in rw (Q .goes (markOf s₁ i) a .view) (gave (C .clears) a)
+    by (no g) =
+        let out : (p : ℕ) → At (view s₁) i p → ⊥ = λ p a. g (omega (arith, stack.member-mark (C .sound .whole .stack) p i (a .member), a .timed)) in
+        rw (Q .stays out) (kept (C .clears) out)
+
+-- nobody is pending, and elapsed is 0
+pub clear-done : {s s₁ : QueueWords} {i : ℕ} → ClearedSo s i s₁ → i ≡ count s
+    → ClearOn s A.Done (queueWords (wheelWords 0 (s₁ .wheel .occupied) (s₁ .wheel .stack)) (s₁ .values) (s₁ .deadlines) (s₁ .turns))
+clear-done {s} {s₁} {i} C e =
+    let S = C .sound in
+    let out : (p x : ℕ) → p < free → Mem x (view s₁ .lists p) → ⊥
+    = λ p x h m. C .gone x (omega (arith, stack.member-below (S .whole .stack) p x m, C .kept .links .size, e)) p (record { timed = h; member = m }) in
+    record {
+      cleared = view s₁;
+      clears = subst (λ (k : ℕ). Clears (view s) k (view s₁)) e (C .clears);
+      done = record {
+        told = refl;
+        sound = record {
+          some = S .some;
+          few = S .few;
+          roomy = record { values = S .roomy .values; deadlines = S .roomy .deadlines; turns = S .roomy .turns };
+          whole = record { stack = S .whole .stack; rows = S .whole .rows };
+          turns = S .turns;
+          rule = record { wheel = λ p x h m. absurd (out p x (omega (arith, h)) m); stack = λ x m. absurd (out expired x (omega arith) m) };
+        };
+        view = refl;
+        kept = record { links = C .kept .links; values = C .kept .values; deadlines = C .kept .deadlines; turns = C .kept .turns };
+      };
+    }

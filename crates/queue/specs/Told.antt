@@ -1,0 +1,28 @@
+-- An answer in document 01's words: its number, and its values.
+use Prim.Native.Nat.{ℕ}
+use Rattle.queue.specs.declared.Answer.{Answer}
+use Rattle.queue.specs.declared.Answer.the-variants as A
+
+-- "Answers: `ok` (f, s, c), `key K`, `gone value deadline`, `out key value deadline moves drains`, `none moves drains`, `wake T` or `wake -`,
+-- `len n`, `no number`."
+pub data Told : Type 0 where
+  ok : Told
+  key : ℕ → Told
+  gone : ℕ → ℕ → Told
+  out : ℕ → ℕ → ℕ → ℕ → ℕ → Told
+  none : ℕ → ℕ → Told
+  wake : ℕ → Told
+  never : Told
+  len : ℕ → Told
+  no : ℕ → Told
+
+abbrev pub told : Answer → Told
+told A.Done = ok
+told (A.Key k) = key k
+told (A.Gone v d) = gone v d
+told (A.Out k v d m n) = out k v d m n
+told (A.Nothing m n) = none m n
+told (A.Wake t) = wake t
+told A.NoWake = never
+told (A.Length n) = len n
+told (A.No n) = no n

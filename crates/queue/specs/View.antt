@@ -1,0 +1,42 @@
+-- A store as document 01 speaks of it: elapsed, the list of each place, and each record's value, deadline and turn.
+use mathlib.Core.Path.{_≡_}
+use mathlib.Core.Bool.{cond}
+use Prim.Native.Nat.{ℕ}
+use lib.Dec.{eqb}
+use Rattle.wheel.specs.Wheel.{Lists}
+
+pub record View : Type 0 where
+  pub n : ℕ
+  pub elapsed : ℕ
+  pub lists : Lists
+  pub value : ℕ → ℕ
+  pub deadline : ℕ → ℕ
+  pub turn : ℕ → ℕ
+
+abbrev pub viewOf : ℕ → ℕ → Lists → (ℕ → ℕ) → (ℕ → ℕ) → (ℕ → ℕ) → View
+viewOf n e L v d t = record { n = n; elapsed = e; lists = L; value = v; deadline = d; turn = t }
+
+-- one thing changed, the rest kept
+abbrev pub withElapsed : ℕ → View → View
+withElapsed e v = viewOf (v .n) e (v .lists) (v .value) (v .deadline) (v .turn)
+
+abbrev pub withLists : Lists → View → View
+withLists L v = viewOf (v .n) (v .elapsed) L (v .value) (v .deadline) (v .turn)
+
+abbrev pub withValue : (ℕ → ℕ) → View → View
+withValue f v = viewOf (v .n) (v .elapsed) (v .lists) f (v .deadline) (v .turn)
+
+abbrev pub withDeadline : (ℕ → ℕ) → View → View
+withDeadline f v = viewOf (v .n) (v .elapsed) (v .lists) (v .value) f (v .turn)
+
+abbrev pub withTurn : (ℕ → ℕ) → View → View
+withTurn f v = viewOf (v .n) (v .elapsed) (v .lists) (v .value) (v .deadline) f
+
+-- two are equal by their parts
+pub view-eq : {n n′ e e′ : ℕ} {L L′ : Lists} {v v′ d d′ t t′ : ℕ → ℕ} → n ≡ n′ → e ≡ e′ → L ≡ L′ → v ≡ v′ → d ≡ d′ → t ≡ t′
+    → viewOf n e L v d t ≡ viewOf n′ e′ L′ v′ d′ t′
+view-eq a b c f g h = λ i. record { n = a i; elapsed = b i; lists = c i; value = f i; deadline = g i; turn = h i }
+
+-- f with x at i
+unfoldable pub upd : (ℕ → ℕ) → ℕ → ℕ → ℕ → ℕ
+upd f i x j = cond (eqb j i) x (f j)

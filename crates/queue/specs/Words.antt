@@ -1,0 +1,120 @@
+-- The words of a store, when they are sound, their view, and what is kept of them.
+use mathlib.Core.Path.{_≡_, refl, sym, ap, _∙_, fun-ext}
+use mathlib.Core.Logic.{_≢_, by-cases}
+use mathlib.Core.List.{List}
+use Prim.Native.Nat.{ℕ, _^_, _≤_, _<_}
+use native.Mathlib.Decide.{ℕ-discrete}
+use lib.ListN.{length, set}
+use lib.Seq.{ext-getD, getD-set-same, getD-set-other}
+use borrow.Author.Tests.{eq-eqb, ne-eqb}
+use Rattle.links.specs.Links.{at}
+use Rattle.links.specs.Laws.{Kept, kept-refl, kept-trans}
+use Rattle.stack.specs.Laws as stack
+use Rattle.wheel.specs.Wheel.{Rule}
+use Rattle.wheel.specs.declared.Wheel.{Wheel}
+use Rattle.wheel.specs.Rows.{rows-fixed}
+use Rattle.wheel.specs.Words.{WheelWords, wheelWords, WheelWhole, words as wheeled, lists as listsIn, count as countIn, markOf as markIn}
+use Rattle.queue.specs.View.{View, viewOf, upd}
+
+pub record QueueWords : Type 0 where
+  pub wheel : WheelWords
+  pub values : List ℕ
+  pub deadlines : List ℕ
+  pub turns : List ℕ
+
+abbrev pub queueWords : WheelWords → List ℕ → List ℕ → List ℕ → QueueWords
+queueWords w vs ds ts = record { wheel = w; values = vs; deadlines = ds; turns = ts }
+
+-- as the functions have them
+abbrev pub words : Wheel → List (List ℕ) → List ℕ → List ℕ → List ℕ → List ℕ → List ℕ → List ℕ → QueueWords
+words w hh vs ds ns ps ts ms = queueWords (wheeled w hh ns ps ms) vs ds ts
+
+abbrev pub count : QueueWords → ℕ
+count s = countIn (s .wheel)
+
+abbrev pub elapsed : QueueWords → ℕ
+elapsed s = s .wheel .elapsed
+
+abbrev pub markOf : QueueWords → ℕ → ℕ
+markOf s i = markIn (s .wheel) i
+
+abbrev pub view : QueueWords → View
+view s = viewOf (count s) (elapsed s) (listsIn (s .wheel)) (at (s .values)) (at (s .deadlines)) (at (s .turns))
+
+-- "N from 1 to 1,024"
+abbrev pub limit : ℕ
+limit = 1024
+
+-- the slices are long enough for N records. Those of the links are in `whole`
+pub record Roomy (s : QueueWords) : Type 0 where
+  pub values : count s ≤ length (s .values)
+  pub deadlines : count s ≤ length (s .deadlines)
+  pub turns : count s ≤ length (s .turns)
+
+-- "A store is sound when every record is in exactly one place .., links agree both ways, occupied bits name exactly the non-empty slots, marks tell the
+-- true place, all pending deadlines obey the rules below, and N and turns are in range."
+pub record Sound (s : QueueWords) : Type 0 where
+  pub some : 0 < count s
+  pub few : count s ≤ limit
+  pub roomy : Roomy s
+  pub whole : WheelWhole (s .wheel)
+  pub turns : (i : ℕ) → i < count s → (0 < at (s .turns) i) × (at (s .turns) i < 2 ^ 48)
+  pub rule : Rule (at (s .deadlines)) (elapsed s) (listsIn (s .wheel))
+
+-- "Words of a slice past what N records need are never changed by any call": those, and all lengths
+pub record AllKept (s s′ : QueueWords) : Type 0 where
+  pub links : stack.StackKept (s .wheel .stack) (s′ .wheel .stack)
+  pub values : Kept (count s) (s .values) (s′ .values)
+  pub deadlines : Kept (count s) (s .deadlines) (s′ .deadlines)
+  pub turns : Kept (count s) (s .turns) (s′ .turns)
+
+pub all-refl : (s : QueueWords) → AllKept s s
+all-refl s =
+    record {
+      links = stack.kept-refl (s .wheel .stack);
+      values = kept-refl (count s) (s .values);
+      deadlines = kept-refl (count s) (s .deadlines);
+      turns = kept-refl (count s) (s .turns);
+    }
+
+pub all-trans : {s t u : QueueWords} → AllKept s t → AllKept t u → AllKept s u
+all-trans A B =
+    record {
+      links = stack.kept-trans (A .links) (B .links);
+      values = kept-trans (A .values) (rw (A .links .size) at (B .values));
+      deadlines = kept-trans (A .deadlines) (rw (A .links .size) at (B .deadlines));
+      turns = kept-trans (A .turns) (rw (A .links .size) at (B .turns));
+    }
+
+-- ---- a store in a slice, as a change of what stands at an index
+
+pub upd-same : (f : ℕ → ℕ) (i x : ℕ) → upd f i x i ≡ x
+unfolding upd
+upd-same f i x = rw (eq-eqb i i refl)
+
+pub upd-other : (f : ℕ → ℕ) (i x j : ℕ) → j ≢ i → upd f i x j ≡ f j
+unfolding upd
+upd-other f i x j d = rw (ne-eqb j i d)
+
+pub at-set : (l : List ℕ) (i x : ℕ) → i < length l → at (set l i x) ≡ upd (at l) i x
+at-set l i x h =
+    fun-ext (λ j.
+    by-cases (ℕ-discrete j i)
+    (λ (e : j ≡ i). rw e (getD-set-same l i x 0 h ∙ sym (upd-same (at l) i x)))
+    (λ d. getD-set-other l i j x 0 d ∙ sym (upd-other (at l) i x j d)))
+
+-- ---- a view, and the words past N, fix the words of a sound store
+
+words-same : (l m : List ℕ) → length m ≡ length l → at m ≡ at l → m ≡ l
+words-same l m n e = ext-getD 0 m l n (λ i h. ap (λ (f : ℕ → ℕ). f i) e)
+
+pub view-fixed : {s s′ : QueueWords} → Sound s → Sound s′ → view s′ ≡ view s → AllKept s s′ → s′ ≡ s
+view-fixed {s} {s′} S S′ e K =
+    let l : listsIn (s′ .wheel) ≡ listsIn (s .wheel) = ap (λ (v : View). v .lists) e in
+    let t : s′ .wheel .stack ≡ s .wheel .stack = stack.lists-fixed (S .whole .stack) (S′ .whole .stack) l (K .links) in
+    let o : s′ .wheel .occupied ≡ s .wheel .occupied = rows-fixed (S .whole .rows) (rw l at (S′ .whole .rows)) in
+    let c : elapsed s′ ≡ elapsed s = ap (λ (v : View). v .elapsed) e in
+    let a = words-same (s .values) (s′ .values) (K .values .size) (ap (λ (v : View). v .value) e) in
+    let b = words-same (s .deadlines) (s′ .deadlines) (K .deadlines .size) (ap (λ (v : View). v .deadline) e) in
+    let f = words-same (s .turns) (s′ .turns) (K .turns .size) (ap (λ (v : View). v .turn) e) in
+    λ i. queueWords (wheelWords (c i) (o i) (t i)) (a i) (b i) (f i)

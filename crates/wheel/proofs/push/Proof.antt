@@ -1,0 +1,23 @@
+-- `push` meets its contract: one list changes that has no flag (`push-aside`).
+use borrow.Author.Needs.{needs}
+use Rattle.wheel.specs.Words.{push-asks, push-aside}
+use Rattle.wheel.proofs.push.Statement.{statement}
+use Rattle.wheel.proofs.push.Tie as tie
+
+push-requires : tie.Need-push-requires
+push-requires c κs = push-asks (c .before .before .before .before .before .before .before .before .pre)
+
+same-length : tie.Need-same-length
+same-length c = search needs
+
+same-length-2 : tie.Need-same-length-2
+same-length-2 c = search needs
+
+same-length-3 : tie.Need-same-length-3
+same-length-3 c = search needs
+
+returns : tie.Need-returns
+returns c = push-aside (c .before .before .before .before .before .before .before .before .before .before .before .before .before .before .before .pre) (c .before .before .before .before .before .before .push .ensures)
+
+pub push-spec : {M : Type 1} → statement M
+push-spec = tie.close (tie.spec push-requires same-length same-length-2 same-length-3 returns)
