@@ -19,6 +19,9 @@ ghost use Rattle.wheel.specs.Expiration.{NotPassed};
 // The last turn: a record that leaves at it is retired.
 pub const LAST_TURN: u64 = (1 << 48) - 1;
 
+// The most records that a store may have.
+pub const LIMIT: u16 = 1024;
+
 // An answer.
 pub enum Answer {
     // format, reset and clear

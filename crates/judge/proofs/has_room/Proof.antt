@@ -1,0 +1,37 @@
+-- `has_room` meets its contract, slice by slice.
+use native.Mathlib.Omega.{arith}
+use Rattle.judge.specs.Judge.{tells-no, tells-le, tells-by}
+use Rattle.judge.proofs.has_room.Statement.{statement}
+use Rattle.judge.proofs.has_room.Tie as tie
+
+returns : tie.Need-returns
+returns c = tells-no (λ R. omega (arith, R .values))
+
+returns-2 : tie.Need-returns-2
+returns-2 c = tells-no (λ R. omega (arith, R .deadlines))
+
+returns-3 : tie.Need-returns-3
+returns-3 c = tells-no (λ R. omega (arith, R .nexts))
+
+returns-4 : tie.Need-returns-4
+returns-4 c = tells-no (λ R. omega (arith, R .prevs))
+
+returns-5 : tie.Need-returns-5
+returns-5 c = tells-no (λ R. omega (arith, R .turns))
+
+returns-6 : tie.Need-returns-6
+returns-6 c =
+    tells-by (tells-le _ _)
+    (λ h.
+    record {
+      values = omega arith;
+      deadlines = omega arith;
+      nexts = omega arith;
+      prevs = omega arith;
+      turns = omega arith;
+      marks = h;
+    })
+    (λ R. R .marks)
+
+pub has-room-spec : {M : Type 1} → statement M
+has-room-spec = tie.close (tie.spec returns returns-2 returns-3 returns-4 returns-5 returns-6)

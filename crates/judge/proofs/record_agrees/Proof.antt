@@ -1,0 +1,28 @@
+-- `record_agrees` meets its contract: by the turn, and then by the place that the mark tells.
+use borrow.Author.Needs.{needs}
+use native.Mathlib.Omega.{arith}
+use Rattle.judge.specs.Judge.{tells-yes, tells-no, record-slot, record-stack, record-aside}
+use Rattle.judge.proofs.record_agrees.Statement.{statement}
+use Rattle.judge.proofs.record_agrees.Tie as tie
+
+returns : tie.Need-returns
+returns c = tells-no (λ R. omega (arith, R .some))
+
+returns-2 : tie.Need-returns-2
+returns-2 c = tells-no (λ R. omega (arith, R .last))
+
+is-place-requires : tie.Need-is-place-requires
+is-place-requires c κs = search needs
+
+returns-3 : tie.Need-returns-3
+returns-3 c = record-slot (c .before .before .before .if1 .left) (c .before .before .if2 .left) (c .before .if3 .taken) (c .is-place .ensures)
+
+returns-4 : tie.Need-returns-4
+returns-4 c = record-stack (c .before .before .before .if1 .left) (c .before .before .if2 .left) (c .if4 .taken)
+
+returns-5 : tie.Need-returns-5
+returns-5 c = tells-yes (record-aside (c .before .before .before .if1 .left) (c .before .before .if2 .left) (c .before .if3 .left) (c .if4 .left))
+
+pub record-agrees-spec : {M : Type 1} → statement M
+record-agrees-spec =
+    tie.close (tie.spec returns returns-2 is-place-requires returns-3 returns-4 returns-5)

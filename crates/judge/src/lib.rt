@@ -1,0 +1,154 @@
+// Whether a store is sound: what every call but format judges first.
+use wheel::Wheel;
+ghost use mathlib.Core.Path.{_≡_};
+ghost use Prim.Native.Nat.{ℕ, _≤_, _<_};
+ghost use lib.ListN.{length};
+ghost use Rattle.row.specs.Row.{rowOf};
+ghost use Rattle.queue.specs.Words.{words, Sound};
+ghost use Rattle.wheel.specs.Wheel.{OnWheel};
+ghost use Rattle.judge.specs.Judge.{Tells, Room, held, RowsAgree, RecordAgrees, RecordsAgree};
+
+// Whether the slices are long enough for n records.
+pub fn has_room(
+    n: u16,
+    values: &[u64],
+    deadlines: &[u64],
+    nexts: &[u16],
+    prevs: &[u16],
+    turns: &[u64],
+    marks: &[u16],
+) -> bool
+    ensures { λ r. ⌜ Tells (Room n (now (values .entry)) (now (deadlines .entry)) (now (nexts .entry)) (now (prevs .entry)) (now (turns .entry)) (now (marks .entry))) r ⌝ }
+{
+    let k = n as usize;
+    if values.len() < k {
+        return false;
+    }
+    if deadlines.len() < k {
+        return false;
+    }
+    if nexts.len() < k {
+        return false;
+    }
+    if prevs.len() < k {
+        return false;
+    }
+    if turns.len() < k {
+        return false;
+    }
+    k <= marks.len()
+}
+
+// The row of the slots of the level that have a head.
+fn row_of(heads: &[[u16; 64]; 6], level: usize) -> u64
+    requires { ⌜ level < 6 ⌝ }
+    ensures { λ r. ⌜ r ≡ rowOf (held (now (heads .entry)) level) ⌝ }
+{
+    let mut bits = 0u64;
+    let mut slot: usize = 0;
+    while slot < 64 {
+        if heads[level][slot] != links::NOBODY {
+            bits = row::set(bits, slot);
+        }
+        slot += 1;
+    }
+    bits
+}
+
+// Whether the occupied rows name exactly the slots that have a head.
+fn rows_agree(occupied: [u64; 6], heads: &[[u16; 64]; 6]) -> bool
+    ensures { λ r. ⌜ Tells (RowsAgree occupied (now (heads .entry))) r ⌝ }
+{
+    let mut level: usize = 0;
+    while level < 6 {
+        if occupied[level] != row_of(heads, level) {
+            return false;
+        }
+        level += 1;
+    }
+    true
+}
+
+// Whether a timer with the deadline belongs in the slot p.
+fn is_place(elapsed: u64, when: u64, p: u16) -> bool
+    ensures { λ r. ⌜ Tells (OnWheel p elapsed when) r ⌝ }
+{
+    if when < elapsed {
+        return false;
+    }
+    if !times::same_block(elapsed, when) {
+        return false;
+    }
+    let level = times::level_for(elapsed, when);
+    let slot = times::slot_for(when, level);
+    p == stack::slot_place(level, slot)
+}
+
+// Whether the turn is in range, and the deadline obeys the rule of the place that the mark tells.
+fn record_agrees(elapsed: u64, when: u64, turn: u64, mark: u16) -> bool
+    ensures { λ r. ⌜ Tells (RecordAgrees elapsed when turn mark) r ⌝ }
+{
+    if turn == 0 {
+        return false;
+    }
+    if queue::LAST_TURN < turn {
+        return false;
+    }
+    if mark < stack::EXPIRED {
+        return is_place(elapsed, when, mark);
+    }
+    if mark == stack::EXPIRED {
+        return when == elapsed;
+    }
+    true
+}
+
+// Whether this holds of all n records.
+fn records_agree(elapsed: u64, n: u16, deadlines: &[u64], turns: &[u64], marks: &[u16]) -> bool
+    requires { ⌜ (n ≤ length (now deadlines)) × (n ≤ length (now turns)) × (n ≤ length (now marks)) ⌝ }
+    ensures { λ r. ⌜ Tells (RecordsAgree elapsed n (now (deadlines .entry)) (now (turns .entry)) (now (marks .entry))) r ⌝ }
+{
+    let mut i = 0u16;
+    while i < n {
+        let k = i as usize;
+        if !record_agrees(elapsed, deadlines[k], turns[k], marks[k]) {
+            return false;
+        }
+        i += 1;
+    }
+    true
+}
+
+// Whether the store is sound.
+pub fn is_sound(
+    state: Wheel,
+    heads: [[u16; 64]; 6],
+    values: &[u64],
+    deadlines: &[u64],
+    nexts: &[u16],
+    prevs: &[u16],
+    turns: &[u64],
+    marks: &[u16],
+) -> bool
+    ensures { λ r. ⌜ Tells (Sound (words state heads (now (values .entry)) (now (deadlines .entry)) (now (nexts .entry)) (now (prevs .entry)) (now (turns .entry)) (now (marks .entry)))) r ⌝ }
+{
+    let stacks = state.stacks;
+    let n = stacks.n;
+    if n == 0 {
+        return false;
+    }
+    if queue::LIMIT < n {
+        return false;
+    }
+    if !has_room(n, values, deadlines, nexts, prevs, turns, marks) {
+        return false;
+    }
+    if !stack::is_whole(stacks, &heads, nexts, prevs, marks) {
+        return false;
+    }
+    let occupied = state.occupied;
+    if !rows_agree(occupied, &heads) {
+        return false;
+    }
+    records_agree(state.elapsed, n, deadlines, turns, marks)
+}
