@@ -60,7 +60,7 @@ over-kept n (suc k) f l h = kept-trans (over-kept n k f l (omega arith)) (kept-s
 pub length-over : (k : ℕ) (f : ℕ → ℕ) (l : List ℕ) → length (over k f l) ≡ length l
 length-over k f l = over-kept k k f l (omega arith) .size
 
-over-at : (k : ℕ) (f : ℕ → ℕ) (l : List ℕ) → k ≤ length l → (i : ℕ) → i < k → at (over k f l) i ≡ f i
+pub over-at : (k : ℕ) (f : ℕ → ℕ) (l : List ℕ) → k ≤ length l → (i : ℕ) → i < k → at (over k f l) i ≡ f i
 unfolding over
 over-at zero f l h i hi = absurd (omega arith)
 over-at (suc k) f l h i hi =

@@ -1,0 +1,75 @@
+-- `insert` meets its claim: the judge's answer decides, and on a sound store it is what `queue::insert` does.
+use borrow.Author.Needs.{needs}
+use Rattle.queue.specs.Calls.{InsertOn}
+use Rattle.delay_queue.specs.Back.{back, turned-down, is-sound, taken-up}
+use Rattle.delay_queue.proofs.insert.Statement.{statement}
+use Rattle.delay_queue.proofs.insert.Tie as tie
+
+is-sound-requires : tie.Need-is-sound-requires
+is-sound-requires c κs = search needs
+
+refused-requires : tie.Need-refused-requires
+refused-requires c κs = search needs
+
+same-length : tie.Need-same-length
+same-length c = search needs
+
+same-length-2 : tie.Need-same-length-2
+same-length-2 c = search needs
+
+same-length-3 : tie.Need-same-length-3
+same-length-3 c = search needs
+
+same-length-4 : tie.Need-same-length-4
+same-length-4 c = search needs
+
+same-length-5 : tie.Need-same-length-5
+same-length-5 c = search needs
+
+returns : tie.Need-returns
+returns c = turned-down _ _ _ _ _ _ (c .before .before .is-sound .ensures) (c .before .if1 .taken) (c .refused .ensures)
+
+insert-requires : tie.Need-insert-requires
+insert-requires c κs = is-sound (c .before .before .before .before .before .before .before .is-sound .ensures) (c .before .before .before .before .before .before .if1 .left)
+
+answered-requires : tie.Need-answered-requires
+answered-requires c κs = search needs
+
+same-length-6 : tie.Need-same-length-6
+same-length-6 c = search needs
+
+same-length-7 : tie.Need-same-length-7
+same-length-7 c = search needs
+
+same-length-8 : tie.Need-same-length-8
+same-length-8 c = search needs
+
+same-length-9 : tie.Need-same-length-9
+same-length-9 c = search needs
+
+same-length-10 : tie.Need-same-length-10
+same-length-10 c = search needs
+
+returns-2 : tie.Need-returns-2
+returns-2 c = taken-up (is-sound (c .before .before .before .before .before .before .before .before .before .before .before .before .before .before .before .before .before .before .before .is-sound .ensures) (c .before .before .before .before .before .before .before .before .before .before .before .before .before .before .before .before .before .before .if1 .left)) (back _ _ _ _ _ _ (c .answered .ensures) (InsertOn _ _ _) (c .before .before .before .before .before .before .before .before .before .before .before .insert .ensures))
+
+pub insert-spec : {M : Type 1} → statement M
+insert-spec =
+    tie.close
+    (tie.spec
+    is-sound-requires
+    refused-requires
+    same-length
+    same-length-2
+    same-length-3
+    same-length-4
+    same-length-5
+    returns
+    insert-requires
+    answered-requires
+    same-length-6
+    same-length-7
+    same-length-8
+    same-length-9
+    same-length-10
+    returns-2)

@@ -1,0 +1,20 @@
+-- `next_wake` meets its claim: the judge's answer decides, and on a sound store it is what `queue::next_wake` answers.
+use borrow.Author.Needs.{needs}
+use Rattle.delay_queue.specs.Back.{no-answer, is-sound, taken-up, not-passed, wake-done}
+use Rattle.delay_queue.proofs.next_wake.Statement.{statement}
+use Rattle.delay_queue.proofs.next_wake.Tie as tie
+
+is-sound-requires : tie.Need-is-sound-requires
+is-sound-requires c κs = search needs
+
+returns : tie.Need-returns
+returns c = no-answer (c .before .is-sound .ensures) (c .if1 .taken)
+
+next-wake-requires : tie.Need-next-wake-requires
+next-wake-requires c κs = not-passed (is-sound (c .before .is-sound .ensures) (c .if1 .left))
+
+returns-2 : tie.Need-returns-2
+returns-2 c = let S = is-sound (c .before .before .is-sound .ensures) (c .before .if1 .left) in taken-up S (wake-done S (c .next-wake .ensures))
+
+pub next-wake-spec : {M : Type 1} → statement M
+next-wake-spec = tie.close (tie.spec is-sound-requires returns next-wake-requires returns-2)

@@ -1,0 +1,67 @@
+-- `poll` meets its claim: the judge's answer decides, and on a sound store it is what `queue::poll` does.
+use borrow.Author.Needs.{needs}
+use Rattle.queue.specs.Calls.{PollOn}
+use Rattle.delay_queue.specs.Back.{back, turned-down, is-sound, taken-up}
+use Rattle.delay_queue.proofs.poll.Statement.{statement}
+use Rattle.delay_queue.proofs.poll.Tie as tie
+
+is-sound-requires : tie.Need-is-sound-requires
+is-sound-requires c κs = search needs
+
+refused-requires : tie.Need-refused-requires
+refused-requires c κs = search needs
+
+same-length : tie.Need-same-length
+same-length c = search needs
+
+same-length-2 : tie.Need-same-length-2
+same-length-2 c = search needs
+
+same-length-3 : tie.Need-same-length-3
+same-length-3 c = search needs
+
+same-length-4 : tie.Need-same-length-4
+same-length-4 c = search needs
+
+returns : tie.Need-returns
+returns c = turned-down _ _ _ _ _ _ (c .before .before .is-sound .ensures) (c .before .if1 .taken) (c .refused .ensures)
+
+poll-requires : tie.Need-poll-requires
+poll-requires c κs = is-sound (c .before .before .before .before .before .before .is-sound .ensures) (c .before .before .before .before .before .if1 .left)
+
+answered-requires : tie.Need-answered-requires
+answered-requires c κs = search needs
+
+same-length-5 : tie.Need-same-length-5
+same-length-5 c = search needs
+
+same-length-6 : tie.Need-same-length-6
+same-length-6 c = search needs
+
+same-length-7 : tie.Need-same-length-7
+same-length-7 c = search needs
+
+same-length-8 : tie.Need-same-length-8
+same-length-8 c = search needs
+
+returns-2 : tie.Need-returns-2
+returns-2 c = taken-up (is-sound (c .before .before .before .before .before .before .before .before .before .before .before .before .before .before .before .before .is-sound .ensures) (c .before .before .before .before .before .before .before .before .before .before .before .before .before .before .before .if1 .left)) (back _ _ _ _ _ _ (c .answered .ensures) (PollOn _ _) (c .before .before .before .before .before .before .before .before .before .poll .ensures))
+
+pub poll-spec : {M : Type 1} → statement M
+poll-spec =
+    tie.close
+    (tie.spec
+    is-sound-requires
+    refused-requires
+    same-length
+    same-length-2
+    same-length-3
+    same-length-4
+    returns
+    poll-requires
+    answered-requires
+    same-length-5
+    same-length-6
+    same-length-7
+    same-length-8
+    returns-2)

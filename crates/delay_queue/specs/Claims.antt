@@ -1,0 +1,87 @@
+-- What every call answers and leaves, for any input at all, in document 01's words. `Sound`, `Refused` and what a call does on a sound store stand in
+-- `queue`: its specs/Words.antt, specs/Steps.antt and specs/Calls.antt.
+use mathlib.Core.Path.{_≡_}
+use mathlib.Core.Bool.{cond}
+use mathlib.Core.List.{[]}
+use Prim.Native.Nat.{ℕ, _^_, _≤_, _<_}
+use lib.Dec.{ltb}
+use Rattle.links.specs.Lists.{change}
+use Rattle.links.specs.Laws.{Kept, LinksKept}
+use Rattle.stack.specs.Places.{free}
+use Rattle.stack.specs.Format.{range}
+use Rattle.judge.specs.Judge.{Room}
+use Rattle.queue.specs.Told.{told, ok}
+use Rattle.queue.specs.View.{View, viewOf}
+use Rattle.queue.specs.declared.Answer.{Answer}
+use Rattle.queue.specs.Words.{QueueWords, Sound, limit, view}
+use Rattle.queue.specs.Calls.{Refused, InsertOn, ResetOn, RemoveOn, PollOn, WakeOn, LengthOn, ClearOn}
+
+-- ---- format
+
+-- number 1 is not given: "N from 1 to 1,024", and no lent slice is too short for N
+pub record Fits (s : QueueWords) (n : ℕ) : Type 0 where
+  pub some : 0 < n
+  pub few : n ≤ limit
+  pub room : Room n (s .values) (s .deadlines) (s .wheel .stack .links .nexts) (s .wheel .stack .links .prevs) (s .turns) (s .wheel .stack .links .marks)
+
+-- number 8 is not given: "a first turn (1 to 2^48-1)"
+pub record InRange (turn : ℕ) : Type 0 where
+  pub some : 0 < turn
+  pub last : turn < 2 ^ 48
+
+-- f with x at 0, .., n - 1
+unfoldable pub first : ℕ → ℕ → (ℕ → ℕ) → ℕ → ℕ
+first n x f i = cond (ltb i n) x (f i)
+
+-- "Format sets values, deadlines and elapsed to 0 and makes every record free", "a first turn .., given to every record", "Fresh records are taken as
+-- 0, 1, 2 and so on"
+abbrev pub fresh : ℕ → ℕ → View → View
+fresh n turn v = viewOf n 0 (change (λ p. []) free (range n 0)) (first n 0 (v .value)) (first n 0 (v .deadline)) (first n turn (v .turn))
+
+-- "Words of a slice past what N records need are never changed by any call": those, and all lengths
+pub record PastKept (n : ℕ) (s s′ : QueueWords) : Type 0 where
+  pub links : LinksKept n (s .wheel .stack .links) (s′ .wheel .stack .links)
+  pub values : Kept n (s .values) (s′ .values)
+  pub deadlines : Kept n (s .deadlines) (s′ .deadlines)
+  pub turns : Kept n (s .turns) (s′ .turns)
+
+pub record Formatted (s : QueueWords) (n turn : ℕ) (a : Answer) (s′ : QueueWords) : Type 0 where
+  pub told : told a ≡ ok
+  pub sound : Sound s′
+  pub view : view s′ ≡ fresh n turn (view s)
+  pub kept : PastKept n s s′
+
+-- "format 1, 8"
+pub record FormatClaim (s : QueueWords) (n turn : ℕ) (a : Answer) (s′ : QueueWords) : Type 0 where
+  pub short : (Fits s n → ⊥) → Refused 1 s a s′
+  pub outside : Fits s n → (InRange turn → ⊥) → Refused 8 s a s′
+  pub done : Fits s n → InRange turn → Formatted s n turn a s′
+
+-- ---- the other calls
+
+-- "Every call but format judges this first": number 2 with nothing changed, or else what the call does on a sound store
+pub record Judging (s : QueueWords) (a : Answer) (s′ : QueueWords) (On : Type 0) : Type 0 where
+  pub bad : (Sound s → ⊥) → Refused 2 s a s′
+  pub good : Sound s → On
+
+abbrev pub InsertClaim : QueueWords → ℕ → ℕ → Answer → QueueWords → Type 0
+InsertClaim s value when a s′ = Judging s a s′ (InsertOn s value when a s′)
+
+abbrev pub ResetClaim : QueueWords → ℕ → ℕ → Answer → QueueWords → Type 0
+ResetClaim s key when a s′ = Judging s a s′ (ResetOn s key when a s′)
+
+abbrev pub RemoveClaim : QueueWords → ℕ → Answer → QueueWords → Type 0
+RemoveClaim s key a s′ = Judging s a s′ (RemoveOn s key a s′)
+
+abbrev pub PollClaim : QueueWords → ℕ → Answer → QueueWords → Type 0
+PollClaim s now a s′ = Judging s a s′ (PollOn s now a s′)
+
+abbrev pub ClearClaim : QueueWords → Answer → QueueWords → Type 0
+ClearClaim s a s′ = Judging s a s′ (ClearOn s a s′)
+
+-- next wake and length change nothing: they lend nothing to be changed, and answer alone
+abbrev pub WakeClaim : QueueWords → Answer → Type 0
+WakeClaim s a = Judging s a s (WakeOn s a)
+
+abbrev pub LengthClaim : QueueWords → Answer → Type 0
+LengthClaim s a = Judging s a s (LengthOn s a)
