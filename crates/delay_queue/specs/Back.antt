@@ -18,7 +18,8 @@ use Rattle.queue.specs.Calls.{WakeOn, LengthOn}
 use Rattle.queue.specs.PollLaws.{pendingIn, pending-is}
 use Rattle.queue.specs.Words.{QueueWords, words, Sound, count, elapsed, markOf, view}
 use Rattle.judge.specs.Judge.{Tells, denied, granted}
-use Rattle.delay_queue.specs.Claims.{Judging}
+use Rattle.delay_queue.specs.declared.Call.{Call}
+use Rattle.delay_queue.specs.Claims.{Judging, CallClaim}
 
 -- what goes out is a with w and hh
 abbrev pub Goes : Answer → Wheel → List (List ℕ) → Answer → Wheel → List (List ℕ) → Type 0
@@ -28,6 +29,11 @@ module _ (vs ds ns ps ts ms : List ℕ) where
   pub back : {a a′ : Answer} {w w′ : Wheel} {hh hh′ : List (List ℕ)} → Goes a′ w′ hh′ a w hh → (On : Answer → QueueWords → Type 0)
       → On a (words w hh vs ds ns ps ts ms) → On a′ (words w′ hh′ vs ds ns ps ts ms)
   back G On x = subst (λ (z : Answer × Wheel × List (List ℕ)). On (z .0) (words (z .1) (z .2) vs ds ns ps ts ms)) (sym (λ i. (G .0 i, G .1 i, G .2 i))) x
+
+  -- an answer alone
+  pub back-same : {a a′ : Answer} {w w′ : Wheel} {hh hh′ : List (List ℕ)} → Goes a′ w′ hh′ a w hh → (On : Answer → Type 0) → On a
+      → On a′ × (words w′ hh′ vs ds ns ps ts ms ≡ words w hh vs ds ns ps ts ms)
+  back-same G On x = (subst On (sym (G .0)) x, λ i. words (G .1 i) (G .2 i) vs ds ns ps ts ms)
 
   -- not sound
   pub turned-down : {a : Answer} {w w′ : Wheel} {hh hh′ : List (List ℕ)} {b : Bool} {On : Type 0} → Tells (Sound (words w hh vs ds ns ps ts ms)) b → not b ≡ true
@@ -62,3 +68,8 @@ marks-long S = stack.deep (S .whole .stack) .marks
 
 pub length-done : {s : QueueWords} {n : ℕ} → Sound s → n ≡ pendingIn (markOf s) (count s) → LengthOn s (A.Length n)
 length-done S e = record { done = ap len (e ∙ pending-is S) }
+
+-- ---- any call
+
+pub by-call : {c k : Call} (s s′ : QueueWords) (a : Answer) → c ≡ k → CallClaim k s a s′ → CallClaim c s a s′
+by-call s s′ a e x = subst (λ (z : Call). CallClaim z s a s′) (sym e) x

@@ -13,6 +13,8 @@ use Rattle.judge.specs.Judge.{Room}
 use Rattle.queue.specs.Told.{told, ok}
 use Rattle.queue.specs.View.{View, viewOf}
 use Rattle.queue.specs.declared.Answer.{Answer}
+use Rattle.delay_queue.specs.declared.Call.{Call}
+use Rattle.delay_queue.specs.declared.Call.the-variants as C
 use Rattle.queue.specs.Words.{QueueWords, Sound, limit, view}
 use Rattle.queue.specs.Calls.{Refused, InsertOn, ResetOn, RemoveOn, PollOn, WakeOn, LengthOn, ClearOn}
 
@@ -85,3 +87,15 @@ WakeClaim s a = Judging s a s (WakeOn s a)
 
 abbrev pub LengthClaim : QueueWords → Answer → Type 0
 LengthClaim s a = Judging s a s (LengthOn s a)
+
+-- ---- any call
+
+abbrev pub CallClaim : Call → QueueWords → Answer → QueueWords → Type 0
+CallClaim (C.Format n turn) s a s′ = FormatClaim s n turn a s′
+CallClaim (C.Insert value when) s a s′ = InsertClaim s value when a s′
+CallClaim (C.Reset key when) s a s′ = ResetClaim s key when a s′
+CallClaim (C.Remove key) s a s′ = RemoveClaim s key a s′
+CallClaim (C.Poll now) s a s′ = PollClaim s now a s′
+CallClaim C.Wake s a s′ = WakeClaim s a × (s′ ≡ s)
+CallClaim C.Length s a s′ = LengthClaim s a × (s′ ≡ s)
+CallClaim C.Clear s a s′ = ClearClaim s a s′
