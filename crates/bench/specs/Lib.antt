@@ -8,4 +8,5 @@ pub mod Answering
 pub mod Reading
 pub mod Finding
 pub mod Writing
+pub mod Step
 pub mod Examples

@@ -1,0 +1,40 @@
+-- One step of the bench: a line, the store and what is written before it; the store and what is written after it.
+use mathlib.Core.Path.{_≡_, subst}
+use mathlib.Core.List.{List}
+use Prim.Native.Nat.{ℕ}
+use Rattle.wheel.specs.declared.Wheel.{Wheel}
+use Rattle.queue.specs.declared.Answer.{Answer}
+use Rattle.queue.specs.Words.{QueueWords, words}
+use Rattle.delay_queue.specs.declared.Call.{Call}
+use Rattle.delay_queue.specs.Claims.{CallClaim}
+use Rattle.bench.specs.declared.read.Line.{Line}
+use Rattle.bench.specs.declared.read.Line.the-variants as L
+use Rattle.bench.specs.Text.{Says, ReadClaim, WriteClaim, BadClaim}
+use Rattle.bench.specs.Asking.{one-call}
+
+-- what was asked is done, and its answer is written
+pub record Answers (c : Call) (s : QueueWords) (o : List ℕ) (at : ℕ) (s′ : QueueWords) (o′ : List ℕ) (end : ℕ) : Type 0 where
+  pub answer : Answer
+  pub done : CallClaim c s answer s′
+  pub written : WriteClaim answer o at end o′
+
+-- "A program reads lines and answers each with one": a line that says a call, and any other line
+pub record LineClaim (l : List ℕ) (s : QueueWords) (o : List ℕ) (at : ℕ) (s′ : QueueWords) (o′ : List ℕ) (end : ℕ) : Type 0 where
+  pub asks : (c : Call) → Says l c → Answers c s o at s′ o′ end
+  pub bad : ((c : Call) → Says l c → ⊥) → (s′ ≡ s) × BadClaim o at end o′
+
+module _ {l o : List ℕ} {s : QueueWords} {at : ℕ} {o′ : List ℕ} {end : ℕ} where
+  -- the line was read as a call
+  pub line-asks : {s′ : QueueWords} {r : Line} (c : Call) → ReadClaim l r → r ≡ L.Asks c → (a : Answer) → CallClaim c s a s′ → WriteClaim a o at end o′ → LineClaim l s o at s′ o′ end
+  line-asks {s′} c R e a x w =
+      let y : Says l c = R .asks c .0 e in
+      record {
+        asks = λ d z. record { answer = a; done = subst (λ (k : Call). CallClaim k s a s′) (one-call y z) x; written = w };
+        bad = λ f. absurd (f c y);
+      }
+
+-- it says no call
+pub line-bad : {l o o′ : List ℕ} {at end : ℕ} {r : Line} (w : Wheel) {hh hh′ : List (List ℕ)} (vs ds ns ps ts ms : List ℕ) → ReadClaim l r → r ≡ L.Bad → hh′ ≡ hh
+    → BadClaim o at end o′ → LineClaim l (words w hh vs ds ns ps ts ms) o at (words w hh′ vs ds ns ps ts ms) o′ end
+line-bad w vs ds ns ps ts ms R e q x =
+    record { asks = λ c z. absurd (R .bad .0 e c z); bad = λ f. (λ i. words w (q i) vs ds ns ps ts ms, x) }
