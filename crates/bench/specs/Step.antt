@@ -1,7 +1,10 @@
 -- One step of the bench: a line, the store and what is written before it; the store and what is written after it.
 use mathlib.Core.Path.{_≡_, subst}
+use mathlib.Core.Logic.{by-cases}
 use mathlib.Core.List.{List}
-use Prim.Native.Nat.{ℕ}
+use Prim.Native.Nat.{ℕ, _≤_}
+use native.Mathlib.Decide.{decLe}
+use lib.ListN.{length}
 use Rattle.wheel.specs.declared.Wheel.{Wheel}
 use Rattle.queue.specs.declared.Answer.{Answer}
 use Rattle.queue.specs.Words.{QueueWords, words}
@@ -11,6 +14,7 @@ use Rattle.bench.specs.declared.read.Line.{Line}
 use Rattle.bench.specs.declared.read.Line.the-variants as L
 use Rattle.bench.specs.Text.{Says, ReadClaim, WriteClaim, BadClaim}
 use Rattle.bench.specs.Asking.{one-call}
+use Rattle.bench.specs.Answering.{within}
 
 -- what was asked is done, and its answer is written
 pub record Answers (c : Call) (s : QueueWords) (o : List ℕ) (at : ℕ) (s′ : QueueWords) (o′ : List ℕ) (end : ℕ) : Type 0 where
@@ -38,3 +42,8 @@ pub line-bad : {l o o′ : List ℕ} {at end : ℕ} {r : Line} (w : Wheel) {hh h
     → BadClaim o at end o′ → LineClaim l (words w hh vs ds ns ps ts ms) o at (words w hh′ vs ds ns ps ts ms) o′ end
 line-bad w vs ds ns ps ts ms R e q x =
     record { asks = λ c z. absurd (R .bad .0 e c z); bad = λ f. (λ i. words w (q i) vs ds ns ps ts ms, x) }
+
+-- the place that comes back lies within what was lent
+pub line-within : {l o o′ : List ℕ} {s s′ : QueueWords} {at end : ℕ} → LineClaim l s o at s′ o′ end → at ≤ length o → end ≤ length o
+line-within {l} {o} {o′} {s} {s′} {at} {end} C h =
+    by-cases (decLe end (length o)) (λ k. k) (λ k. absurd (k (within (C .bad (λ c x. k (within (C .asks c x .written) h .1)) .1) h .1)))
