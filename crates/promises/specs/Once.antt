@@ -20,9 +20,9 @@ use Rattle.queue.specs.Steps.{At, freed, left, QueuePolls, popped, handed, noth
 use Rattle.queue.specs.Words.{QueueWords, words, count, elapsed, view, Sound, AllKept, view-fixed}
 use Rattle.queue.specs.Laws.{mark-at}
 use Rattle.queue.specs.Calls.{Refused, Answered, InsertOn, ResetOn, RemoveOn, PollOn, ClearOn}
-use Rattle.delay_queue.specs.Decided.{sound-dec, fits-dec, range-dec, by-deadline, by-key}
-use Rattle.delay_queue.specs.Met.{clear-one}
+use Rattle.promises.specs.Decided.{sound-dec, fits-dec, range-dec, by-deadline, by-key}
+use Rattle.promises.specs.Met.{clear-one}
 use Rattle.delay_queue.specs.Claims.{PastKept, Formatted, FormatClaim, Judging, InsertClaim, ResetClaim, RemoveClaim, PollClaim, WakeClaim, LengthClaim, ClearClaim}
 
 -- ---- an answer is what it tells: `told` loses nothing
 

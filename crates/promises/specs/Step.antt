@@ -21,13 +21,13 @@ use Rattle.queue.specs.View.{View}
 use Rattle.queue.specs.Steps.{QueuePolls, popped, handed, nothing, Wakes, sleeps, starts}
 use Rattle.queue.specs.Words.{QueueWords, queueWords, words, count, elapsed, view, Sound, all-refl}
 use Rattle.queue.specs.Calls.{Refused, Answered, InsertOn, ResetOn, RemoveOn, PollOn}
 use Rattle.delay_queue.specs.declared.Call.{Call}
 use Rattle.delay_queue.specs.declared.Call.the-variants as C
 use Rattle.delay_queue.specs.Claims.{Fits, PastKept, Formatted, FormatClaim, Judging, InsertClaim, CallClaim}
-use Rattle.delay_queue.specs.Decided.{sound-dec, fits-dec, range-dec, by-deadline, by-key}
+use Rattle.promises.specs.Decided.{sound-dec, fits-dec, range-dec, by-deadline, by-key}
 use Rattle.delay_queue.specs.Format.{formats}
-use Rattle.delay_queue.specs.Met.{Met, format-met, insert-met, reset-met, remove-met, poll-met, wake-met, length-met, clear-met}
-use Rattle.delay_queue.specs.Once.{told-one, all-past, format-once, insert-once, reset-once, remove-once, poll-once, wake-once, length-once, clear-once}
+use Rattle.promises.specs.Met.{Met, format-met, insert-met, reset-met, remove-met, poll-met, wake-met, length-met, clear-met}
+use Rattle.promises.specs.Once.{told-one, all-past, format-once, insert-once, reset-once, remove-once, poll-once, wake-once, length-once, clear-once}
 
 -- "For every input, each public call's claim determines its answer and the final content of everything lent, refused calls too."
 pub step-once : (c : Call) (s : QueueWords) (a a′ : Answer) (t t′ : QueueWords) → CallClaim c s a t → CallClaim c s a′ t′ → (a ≡ a′) × (t ≡ t′)

@@ -1,0 +1,4 @@
+pub mod Decided
+pub mod Met
+pub mod Once
+pub mod Step

@@ -1,0 +1,1 @@
+// What follows from the claims alone, over any call. There is no code here: see specs/.
