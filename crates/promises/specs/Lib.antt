@@ -1,4 +1,5 @@
 pub mod Decided
 pub mod Met
 pub mod Once
+pub mod Runs
 pub mod Step

@@ -1,0 +1,93 @@
+-- Runs of any calls from any store, each answered as its claim says: refused calls, clear and format again among them.
+use mathlib.Core.Path.{_≡_}
+use mathlib.Core.Bool.{Bool, true, false, not, _&&_, cond}
+use mathlib.Core.List.{List, [], _∷_}
+use Prim.Native.Nat.{ℕ, _+_}
+use Rattle.queue.specs.declared.Answer.{Answer}
+use Rattle.queue.specs.Told.{Told, told}
+use Rattle.queue.specs.Told as T
+use Rattle.queue.specs.Words.{QueueWords, Sound}
+use Rattle.delay_queue.specs.declared.Call.{Call}
+use Rattle.delay_queue.specs.declared.Call.the-variants as C
+use Rattle.delay_queue.specs.Claims.{CallClaim}
+use Rattle.promises.specs.Step.{isNo, step-sound}
+
+-- a call with its answer
+pub record Asked : Type 0 where
+  pub call : Call
+  pub answer : Answer
+
+pub data Runs : QueueWords → List Asked → QueueWords → Type 0 where
+  rest : {s : QueueWords} → Runs s [] s
+  next : {s t u : QueueWords} {x : Asked} {l : List Asked} → CallClaim (x .call) s (x .answer) t → Runs t l u → Runs s (x ∷ l) u
+
+-- "Every call on a sound store leaves a sound one": so does a run
+pub run-sound : {s t : QueueWords} {l : List Asked} → Sound s → Runs s l t → Sound t
+run-sound S rest = S
+run-sound S (next {s} {t} {x = x} c r) = run-sound (step-sound (x .call) s (x .answer) t c S) r
+
+-- ---- which calls a run has
+
+abbrev pub accepted : Asked → Bool
+accepted x = not (isNo (told (x .answer)))
+
+abbrev pub isFormat : Call → Bool
+isFormat (C.Format n turn) = true
+isFormat (C.Insert value when) = false
+isFormat (C.Reset key when) = false
+isFormat (C.Remove key) = false
+isFormat (C.Poll now) = false
+isFormat C.Wake = false
+isFormat C.Length = false
+isFormat C.Clear = false
+
+-- insert or reset
+abbrev pub isPlacing : Call → Bool
+isPlacing (C.Format n turn) = false
+isPlacing (C.Insert value when) = true
+isPlacing (C.Reset key when) = true
+isPlacing (C.Remove key) = false
+isPlacing (C.Poll now) = false
+isPlacing C.Wake = false
+isPlacing C.Length = false
+isPlacing C.Clear = false
+
+abbrev pub isPoll : Call → Bool
+isPoll (C.Format n turn) = false
+isPoll (C.Insert value when) = false
+isPoll (C.Reset key when) = false
+isPoll (C.Remove key) = false
+isPoll (C.Poll now) = true
+isPoll C.Wake = false
+isPoll C.Length = false
+isPoll C.Clear = false
+
+-- every call of the run is such a one
+abbrev pub All : (Asked → Type 0) → List Asked → Type 0
+All P [] = Unit {0}
+All P (x ∷ l) = P x × All P l
+
+-- how many accepted calls of a run are of a kind
+abbrev pub tally : (Call → Bool) → List Asked → ℕ
+tally f [] = 0
+tally f (x ∷ l) = cond (f (x .call) && accepted x) 1 0 + tally f l
+
+-- the moves that an answer reports, and those of a run
+abbrev pub movesOf : Told → ℕ
+movesOf T.ok = 0
+movesOf (T.key k) = 0
+movesOf (T.gone v d) = 0
+movesOf (T.out k v d m n) = m
+movesOf (T.none m n) = m
+movesOf (T.wake t) = 0
+movesOf T.never = 0
+movesOf (T.len n) = 0
+movesOf (T.no n) = 0
+
+abbrev pub moves : List Asked → ℕ
+moves [] = 0
+moves (x ∷ l) = movesOf (told (x .answer)) + moves l
+
+-- no format of the run is accepted: "until the next format"
+abbrev pub NoFormat : List Asked → Type 0
+NoFormat l = All (λ x. (isFormat (x .call) && accepted x) ≡ false) l
