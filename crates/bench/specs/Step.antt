@@ -10,11 +10,12 @@ use Rattle.queue.specs.declared.Answer.{Answer}
 use Rattle.queue.specs.Words.{QueueWords, words}
 use Rattle.delay_queue.specs.declared.Call.{Call}
 use Rattle.delay_queue.specs.Claims.{CallClaim}
-use Rattle.bench.specs.declared.read.Line.{Line}
-use Rattle.bench.specs.declared.read.Line.the-variants as L
-use Rattle.bench.specs.Text.{Says, ReadClaim, WriteClaim, BadClaim}
-use Rattle.bench.specs.Asking.{one-call}
-use Rattle.bench.specs.Answering.{within}
+use Rattle.asking.specs.declared.Line.{Line}
+use Rattle.asking.specs.declared.Line.the-variants as L
+use Rattle.asking.specs.Text.{Says, ReadClaim}
+use Rattle.answering.specs.Text.{WriteClaim, BadClaim}
+use Rattle.asking.specs.Asking.{one-call}
+use Rattle.answering.specs.Answering.{within}
 
 -- what was asked is done, and its answer is written
 pub record Answers (c : Call) (s : QueueWords) (o : List ℕ) (at : ℕ) (s′ : QueueWords) (o′ : List ℕ) (end : ℕ) : Type 0 where

@@ -1,11 +1,76 @@
-// The replay bench: lines to calls, answers to lines, and one step, all on slices.
-mod read;
-mod step;
-mod write;
+// One step of the bench: a line is read, asked of the store, and answered with a line.
+use answering::write_answer;
+use answering::write_bad;
+use asking::Line;
+use asking::read_line;
+use delay_queue::Heads;
+use wheel::Wheel;
+ghost use Rattle.queue.specs.Words.{words};
+ghost use Rattle.bench.specs.Step.{LineClaim};
 
-pub use read::Line;
-pub use read::read_line;
-pub use step::Step;
-pub use step::answer_line;
-pub use write::write_answer;
-pub use write::write_bad;
+// Where the answer ends in what is written, and the state and the heads after the step.
+pub struct Step {
+    pub at: usize,
+    pub state: Wheel,
+    pub heads: Heads,
+}
+
+// Answers the line, which comes without its newline, into out from at on.
+pub fn answer_line(
+    line: &[u8],
+    state: Wheel,
+    heads: [[u16; 64]; 6],
+    values: &mut [u64],
+    deadlines: &mut [u64],
+    nexts: &mut [u16],
+    prevs: &mut [u16],
+    turns: &mut [u64],
+    marks: &mut [u16],
+    out: &mut [u8],
+    at: usize,
+) -> Step
+    ensures { λ r. ⌜
+        LineClaim
+        (now (line .entry))
+        (words state heads (now (values .entry)) (now (deadlines .entry)) (now (nexts .entry)) (now (prevs .entry)) (now (turns .entry)) (now (marks .entry)))
+        (now (out .entry))
+        at
+        (words (r .state) (r .heads .rows) (now (values .exit)) (now (deadlines .exit)) (now (nexts .exit)) (now (prevs .exit)) (now (turns .exit)) (now (marks .exit)))
+        (now (out .exit))
+        (r .at) ⌝ }
+{
+    let asked = read_line(line);
+    match asked {
+        Line::Asks(call) => {
+            let reply = step::step(
+                state,
+                heads,
+                &mut *values,
+                &mut *deadlines,
+                &mut *nexts,
+                &mut *prevs,
+                &mut *turns,
+                &mut *marks,
+                call,
+            );
+            let answer = reply.answer;
+            let after = reply.state;
+            let rows = reply.heads;
+            let end = write_answer(&mut *out, at, answer);
+            Step {
+                at: end,
+                state: after,
+                heads: rows,
+            }
+        }
+        Line::Bad => {
+            let end = write_bad(&mut *out, at);
+            let rows = delay_queue::heads_of(heads);
+            Step {
+                at: end,
+                state,
+                heads: rows,
+            }
+        }
+    }
+}

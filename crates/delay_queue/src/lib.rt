@@ -7,7 +7,7 @@ ghost use Prim.Native.Nat.{ℕ, _≤_, _<_};
 ghost use lib.ListN.{length};
 ghost use Rattle.stack.specs.Format.{over};
 ghost use Rattle.queue.specs.Words.{words};
-ghost use Rattle.delay_queue.specs.Claims.{InRange, FormatClaim, InsertClaim, ResetClaim, RemoveClaim, PollClaim, WakeClaim, LengthClaim, ClearClaim, CallClaim};
+ghost use Rattle.delay_queue.specs.Claims.{InRange, FormatClaim, InsertClaim, ResetClaim, RemoveClaim, PollClaim, WakeClaim, LengthClaim, ClearClaim};
 ghost use Rattle.delay_queue.specs.Format.{FormatNo, FitsIn, Makes};
 
 // A call, with its arguments in document 01's order.
@@ -59,7 +59,8 @@ fn refused(number: u64, state: Wheel, heads: [[u16; 64]; 6]) -> Reply
     unchanged(answer, state, heads)
 }
 
-fn unchanged(answer: Answer, state: Wheel, heads: [[u16; 64]; 6]) -> Reply
+// An answer, and everything handed back as it is.
+pub fn unchanged(answer: Answer, state: Wheel, heads: [[u16; 64]; 6]) -> Reply
     ensures { λ r. ⌜ (r .answer ≡ answer) × (r .state ≡ state) × (r .heads .rows ≡ heads) ⌝ }
 {
     let h = heads_of(heads);
@@ -487,121 +488,4 @@ pub fn clear(
         &mut *marks,
     );
     answered(out, rows)
-}
-
-// Any call.
-pub fn step(
-    state: Wheel,
-    heads: [[u16; 64]; 6],
-    values: &mut [u64],
-    deadlines: &mut [u64],
-    nexts: &mut [u16],
-    prevs: &mut [u16],
-    turns: &mut [u64],
-    marks: &mut [u16],
-    call: Call,
-) -> Reply
-    ensures { λ r. ⌜
-        CallClaim
-        call
-        (words state heads (now (values .entry)) (now (deadlines .entry)) (now (nexts .entry)) (now (prevs .entry)) (now (turns .entry)) (now (marks .entry)))
-        (r .answer)
-        (words (r .state) (r .heads .rows) (now (values .exit)) (now (deadlines .exit)) (now (nexts .exit)) (now (prevs .exit)) (now (turns .exit)) (now (marks .exit))) ⌝ }
-{
-    match call {
-        Call::Format(n, turn) => format(
-            state,
-            heads,
-            &mut *values,
-            &mut *deadlines,
-            &mut *nexts,
-            &mut *prevs,
-            &mut *turns,
-            &mut *marks,
-            n,
-            turn,
-        ),
-        Call::Insert(value, when) => insert(
-            state,
-            heads,
-            &mut *values,
-            &mut *deadlines,
-            &mut *nexts,
-            &mut *prevs,
-            &*turns,
-            &mut *marks,
-            value,
-            when,
-        ),
-        Call::Reset(key, when) => reset(
-            state,
-            heads,
-            &*values,
-            &mut *deadlines,
-            &mut *nexts,
-            &mut *prevs,
-            &*turns,
-            &mut *marks,
-            key,
-            when,
-        ),
-        Call::Remove(key) => remove(
-            state,
-            heads,
-            &*values,
-            &*deadlines,
-            &mut *nexts,
-            &mut *prevs,
-            &mut *turns,
-            &mut *marks,
-            key,
-        ),
-        Call::Poll(time) => poll(
-            state,
-            heads,
-            &*values,
-            &*deadlines,
-            &mut *nexts,
-            &mut *prevs,
-            &mut *turns,
-            &mut *marks,
-            time,
-        ),
-        Call::Wake => {
-            let answer = next_wake(
-                state,
-                heads,
-                &*values,
-                &*deadlines,
-                &*nexts,
-                &*prevs,
-                &*turns,
-                &*marks,
-            );
-            unchanged(answer, state, heads)
-        }
-        Call::Length => {
-            let answer = length(
-                state,
-                heads,
-                &*values,
-                &*deadlines,
-                &*nexts,
-                &*prevs,
-                &*turns,
-                &*marks,
-            );
-            unchanged(answer, state, heads)
-        }
-        Call::Clear => clear(
-            state,
-            heads,
-            &*values,
-            &*deadlines,
-            &mut *nexts,
-            &mut *prevs,
-            &mut *turns,
-            &mut *marks,
-        ),
-    }
 }

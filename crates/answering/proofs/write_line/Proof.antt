@@ -1,0 +1,104 @@
+-- `write_line` makes the line at the end of its buffer (`made`), and then leaves out as it is (`no-room`) or copies the line into it (`placed`).
+use borrow.Author.Needs.{needs}
+use mathlib.Core.List.{List}
+use Prim.Native.Nat.{ℕ, _-_, _≤_}
+use native.Mathlib.Omega.{arith}
+use lib.ListN.{length}
+use Rattle.decimals.specs.Spacing.{at-most-21}
+use Rattle.answering.specs.Writing.{Made, made, no-room, placed}
+use Rattle.answering.proofs.write_line.Statement.{statement}
+use Rattle.answering.proofs.write_line.Tie as tie
+
+-- five numbers leave six bytes for the word
+short : (c : tie.After-numbers-before) → length (c .before .before .before .before .before .before .args .word .now) ≤ c .numbers-before .result
+short c =
+    let n = c .numbers-before .ensures in
+    omega (arith, n .start, at-most-21 _ _ (n .is), c .before .before .before .before .before .before .pre)
+
+-- the line in the buffer
+abbrev word : tie.After-copy → List ℕ
+word c = c .before .before .before .before .before .before .before .before .before .args .word .now
+
+abbrev numbers : tie.After-copy → List ℕ
+numbers c = c .before .before .before .before .before .before .before .before .before .args .numbers .now
+
+line : (c : tie.After-copy) → Made (word c) (numbers c) (c .before .before .before .numbers-before .result - length (word c)) (c .copy .last .0)
+line c =
+    let n = c .before .before .before in
+    made (word c) (numbers c) (n .before .before .blank .ensures) (n .numbers-before .ensures) (n .numbers-before .kept .0) (short n) (c .copy .ensures) (c .copy .kept .0)
+
+blank-requires : tie.Need-blank-requires
+blank-requires c κs = search needs
+
+slice-aggregate-numbers-before : tie.Need-slice-aggregate-numbers-before
+slice-aggregate-numbers-before c = search needs
+
+numbers-before-requires : tie.Need-numbers-before-requires
+numbers-before-requires c κs = search needs
+
+sub-start : tie.Need-sub-start
+sub-start c = short (c .before)
+
+slice-aggregate-copy : tie.Need-slice-aggregate-copy
+slice-aggregate-copy c = search needs
+
+copy-requires : tie.Need-copy-requires
+copy-requires c κs = search needs
+
+returns : tie.Need-returns
+returns c = no-room (line (c .before .before)) (omega arith)
+
+sub-size : tie.Need-sub-size
+sub-size c = search needs
+
+sub-if2 : tie.Need-sub-if2
+sub-if2 c = search needs
+
+returns-2 : tie.Need-returns-2
+returns-2 c = no-room (line (c .before .before .before)) (omega arith)
+
+sub-copy : tie.Need-sub-copy
+sub-copy c = search needs
+
+part-copy-start : tie.Need-part-copy-start
+part-copy-start c = search needs
+
+part-copy-end : tie.Need-part-copy-end
+part-copy-end c = search needs
+
+copy-requires-2 : tie.Need-copy-requires-2
+copy-requires-2 c κs = search needs
+
+add-result : tie.Need-add-result
+add-result c = search needs
+
+same-length : tie.Need-same-length
+same-length c = search needs
+
+returns-3 : tie.Need-returns-3
+returns-3 c =
+    let d = c .before .before in
+    let i = d .before .before .before .before in
+    placed (line (i .before .before .before)) (omega (arith, i .if2 .left)) (d .copy2 .ensures)
+
+pub write-line-spec : {M : Type 1} → statement M
+write-line-spec =
+    tie.close
+    (tie.spec
+    blank-requires
+    slice-aggregate-numbers-before
+    numbers-before-requires
+    sub-start
+    slice-aggregate-copy
+    copy-requires
+    returns
+    sub-size
+    sub-if2
+    returns-2
+    sub-copy
+    part-copy-start
+    part-copy-end
+    copy-requires-2
+    add-result
+    same-length
+    returns-3)

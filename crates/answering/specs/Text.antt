@@ -1,0 +1,60 @@
+-- The line of an answer, in document 01's words, and the claims of `write_answer` and `write_bad`.
+use mathlib.Core.Path.{_≡_}
+use mathlib.Core.List.{List, [], _∷_, _++_}
+use Prim.Native.Nat.{ℕ, _+_, _≤_, _<_}
+use Prim.Native.Char.{code}
+use lib.ListN.{length, take, drop}
+use Rattle.queue.specs.declared.Answer.{Answer}
+use Rattle.queue.specs.declared.Answer.the-variants as A
+use Rattle.decimals.specs.Text.{bytes, Spaced}
+
+-- ---- "Answers: `ok` (f, s, c), `key K`, `gone value deadline`, `out key value deadline moves drains`, `none moves drains`,
+-- `wake T` or `wake -`, `len n`, `no number`"
+
+abbrev pub word : Answer → List ℕ
+word A.Done = bytes "ok"
+word (A.Key k) = bytes "key"
+word (A.Gone value deadline) = bytes "gone"
+word (A.Out key value deadline moves drains) = bytes "out"
+word (A.Nothing moves drains) = bytes "none"
+word (A.Wake t) = bytes "wake"
+word A.NoWake = bytes "wake -"
+word (A.Length n) = bytes "len"
+word (A.No number) = bytes "no"
+
+abbrev pub shown : Answer → List ℕ
+shown A.Done = []
+shown (A.Key k) = k ∷ []
+shown (A.Gone value deadline) = value ∷ deadline ∷ []
+shown (A.Out key value deadline moves drains) = key ∷ value ∷ deadline ∷ moves ∷ drains ∷ []
+shown (A.Nothing moves drains) = moves ∷ drains ∷ []
+shown (A.Wake t) = t ∷ []
+shown A.NoWake = []
+shown (A.Length n) = n ∷ []
+shown (A.No number) = number ∷ []
+
+-- l is the line of the word w and the numbers ns, with its newline
+pub record Written (w ns l : List ℕ) : Type 0 where
+  pub rest : List ℕ
+  pub fields : Spaced rest ns
+  pub line : l ≡ w ++ (rest ++ code "\n" ∷ [])
+
+-- o with l written over it from at on
+abbrev pub put : List ℕ → ℕ → List ℕ → List ℕ
+put o at l = take at o ++ (l ++ drop (at + length l) o)
+
+-- the line of w and ns is to go into o from at on: r is the place behind it and o′ is what o becomes, or, where o has no
+-- room for it, r is at and o′ is o
+pub record PutClaim (w ns o : List ℕ) (at r : ℕ) (o′ : List ℕ) : Type 0 where
+  pub line : List ℕ
+  pub written : Written w ns line
+  pub room : at + length line ≤ length o → (r ≡ at + length line) × (o′ ≡ put o at line)
+  pub full : length o < at + length line → (r ≡ at) × (o′ ≡ o)
+
+-- the line of an answer
+abbrev pub WriteClaim : Answer → List ℕ → ℕ → ℕ → List ℕ → Type 0
+WriteClaim a = PutClaim (word a) (shown a)
+
+-- the line `bad`
+abbrev pub BadClaim : List ℕ → ℕ → ℕ → List ℕ → Type 0
+BadClaim = PutClaim (bytes "bad") []

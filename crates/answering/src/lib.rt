@@ -1,0 +1,107 @@
+// Answers to lines.
+use queue::Answer;
+ghost use mathlib.Core.Path.{_≡_};
+ghost use mathlib.Core.List.{[], _∷_};
+ghost use Prim.Native.Nat.{_+_, _*_, _≤_};
+ghost use lib.ListN.{length, drop};
+ghost use Rattle.decimals.specs.Text.{Decimal, Spaced};
+ghost use Rattle.answering.specs.Text.{put, PutClaim, WriteClaim, BadClaim};
+ghost use Rattle.answering.specs.Parts.{Before};
+
+// Room for a line: a word of six letters, five numbers of twenty digits with a space each, and the newline, which is there
+// already.
+fn blank() -> [u8; 112]
+    ensures { λ r. ⌜ (length r ≡ 112) × (drop 111 r ≡ 10 ∷ []) ⌝ }
+{
+    [b'\n'; 112]
+}
+
+// Copies src into dst from at on.
+fn copy(dst: &mut [u8], at: usize, src: &[u8])
+    requires { ⌜ at + length (now src) ≤ length (now dst) ⌝ }
+    ensures { λ _. ⌜ now (dst .exit) ≡ put (now (dst .entry)) at (now (src .entry)) ⌝ }
+{
+    let mut i = 0;
+    while i < src.len() {
+        dst[at + i] = src[i];
+        i += 1;
+    }
+}
+
+// Writes the decimal of n so that it ends before end, and says where it begins. The last digit comes first, so that nothing
+// has to be counted beforehand.
+fn decimal_before(buf: &mut [u8], end: usize, n: u64) -> usize
+    requires { ⌜ (20 ≤ end) × (end ≤ length (now buf)) ⌝ }
+    ensures { λ r. ⌜ Before (λ l. Decimal l n) (now (buf .entry)) end r (now (buf .exit)) ⌝ }
+{
+    let mut i = end;
+    let mut m = n;
+    loop {
+        i -= 1;
+        buf[i] = b'0' + (m % 10) as u8;
+        m = m / 10;
+        if m == 0 {
+            return i;
+        }
+    }
+}
+
+// Writes numbers so that they end before end, each with a space in front, and says where they begin.
+fn numbers_before(buf: &mut [u8], end: usize, numbers: &[u64]) -> usize
+    requires { ⌜ (21 * length (now numbers) ≤ end) × (end ≤ length (now buf)) ⌝ }
+    ensures { λ r. ⌜ Before (λ l. Spaced l (now (numbers .entry))) (now (buf .entry)) end r (now (buf .exit)) ⌝ }
+{
+    let mut e = end;
+    let mut i = numbers.len();
+    while 0 < i {
+        i -= 1;
+        e = decimal_before(buf, e, numbers[i]) - 1;
+        buf[e] = b' ';
+    }
+    e
+}
+
+// Writes the line of a word and numbers into out from at on, and says where it ends. Whether out has room for it is known
+// only once it is made, so it is made in a buffer of its own.
+fn write_line(out: &mut [u8], at: usize, word: &[u8], numbers: &[u64]) -> usize
+    requires { ⌜ (length (now word) ≤ 6) × (length (now numbers) ≤ 5) ⌝ }
+    ensures { λ r. ⌜ PutClaim (now (word .entry)) (now (numbers .entry)) (now (out .entry)) at r (now (out .exit)) ⌝ }
+{
+    let mut buf = blank();
+    let e = numbers_before(&mut buf, 111, numbers);
+    let start = e - word.len();
+    copy(&mut buf, start, word);
+    if out.len() < at {
+        return at;
+    }
+    let size = 112 - start;
+    if out.len() - at < size {
+        return at;
+    }
+    copy(out, at, &buf[start..]);
+    at + size
+}
+
+// Writes the line of an answer into out from at on, and says where it ends: at at, with out unchanged, where there is no room.
+pub fn write_answer(out: &mut [u8], at: usize, a: Answer) -> usize
+    ensures { λ r. ⌜ WriteClaim a (now (out .entry)) at r (now (out .exit)) ⌝ }
+{
+    match a {
+        Answer::Done => write_line(out, at, b"ok", &[]),
+        Answer::Key(k) => write_line(out, at, b"key", &[k]),
+        Answer::Gone(v, d) => write_line(out, at, b"gone", &[v, d]),
+        Answer::Out(k, v, d, m, n) => write_line(out, at, b"out", &[k, v, d, m, n]),
+        Answer::Nothing(m, n) => write_line(out, at, b"none", &[m, n]),
+        Answer::Wake(t) => write_line(out, at, b"wake", &[t]),
+        Answer::NoWake => write_line(out, at, b"wake -", &[]),
+        Answer::Length(n) => write_line(out, at, b"len", &[n]),
+        Answer::No(n) => write_line(out, at, b"no", &[n]),
+    }
+}
+
+// The same for the line `bad`.
+pub fn write_bad(out: &mut [u8], at: usize) -> usize
+    ensures { λ r. ⌜ BadClaim (now (out .entry)) at r (now (out .exit)) ⌝ }
+{
+    write_line(out, at, b"bad", &[])
+}

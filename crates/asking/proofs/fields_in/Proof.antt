@@ -1,0 +1,45 @@
+-- `fields_in` finds the numbers: none in nothing, and any others behind a space (`no-space`, `a-space`).
+use borrow.Author.Needs.{needs}
+use native.Mathlib.Omega.{arith}
+use Rattle.asking.specs.Reading.{no-numbers, no-space, a-space}
+use Rattle.asking.proofs.fields_in.Statement.{statement}
+use Rattle.asking.proofs.fields_in.Tie as tie
+
+returns : tie.Need-returns
+returns c = no-numbers _ (c .if1 .taken)
+
+shared-slice-read-if2 : tie.Need-shared-slice-read-if2
+shared-slice-read-if2 c = search needs
+
+returns-2 : tie.Need-returns-2
+returns-2 c = no-space _ (omega arith) (c .if2 .taken)
+
+sub-one-or-two : tie.Need-sub-one-or-two
+sub-one-or-two c = search needs
+
+part-one-or-two-start : tie.Need-part-one-or-two-start
+part-one-or-two-start c = search needs
+
+part-one-or-two-end : tie.Need-part-one-or-two-end
+part-one-or-two-end c = search needs
+
+one-or-two-requires : tie.Need-one-or-two-requires
+one-or-two-requires c κs = search needs
+
+returns-3 : tie.Need-returns-3
+returns-3 c =
+    let i = c .before .before in
+    a-space (i .before .before .before .before .args .s .now) (c .one-or-two .result) (omega (arith, i .before .before .if1 .left)) (i .if2 .left) (c .one-or-two .ensures)
+
+pub fields-in-spec : {M : Type 1} → statement M
+fields-in-spec =
+    tie.close
+    (tie.spec
+    returns
+    shared-slice-read-if2
+    returns-2
+    sub-one-or-two
+    part-one-or-two-start
+    part-one-or-two-end
+    one-or-two-requires
+    returns-3)

@@ -1,0 +1,78 @@
+-- `answer_line` meets its claim: read, done and written, or `bad` written and nothing else touched.
+use borrow.Author.Needs.{needs}
+use Rattle.bench.specs.Step.{line-asks, line-bad}
+use Rattle.bench.proofs.answer_line.Statement.{statement}
+use Rattle.bench.proofs.answer_line.Tie as tie
+
+read-line-requires : tie.Need-read-line-requires
+read-line-requires c κs = search needs
+
+enum-known-asked : tie.Need-enum-known-asked
+enum-known-asked c = search needs
+
+step-requires : tie.Need-step-requires
+step-requires c κs = search needs
+
+write-answer-requires : tie.Need-write-answer-requires
+write-answer-requires c κs = search needs
+
+enum-told : tie.Need-enum-told
+enum-told c = search needs
+
+write-bad-requires : tie.Need-write-bad-requires
+write-bad-requires c κs = search needs
+
+heads-of-requires : tie.Need-heads-of-requires
+heads-of-requires c κs = search needs
+
+same-length : tie.Need-same-length
+same-length c = search needs
+
+same-length-2 : tie.Need-same-length-2
+same-length-2 c = search needs
+
+same-length-3 : tie.Need-same-length-3
+same-length-3 c = search needs
+
+same-length-4 : tie.Need-same-length-4
+same-length-4 c = search needs
+
+same-length-5 : tie.Need-same-length-5
+same-length-5 c = search needs
+
+same-length-6 : tie.Need-same-length-6
+same-length-6 c = search needs
+
+same-length-7 : tie.Need-same-length-7
+same-length-7 c = search needs
+
+returns : tie.Need-returns
+returns c = line-asks _ (c .before .before .before .before .before .before .before .before .before .before .before .before .before .before .before .before .before .before .before .before .before .before .before .before .before .before .before .before .read-line .ensures) (c .before .before .before .before .before .before .before .before .before .before .before .before .before .before .before .before .before .before .before .before .before .before .before .before .before .before .asked .given .1) _ (c .before .before .before .before .before .before .before .before .before .before .before .before .before .before .before .before .before .before .step .ensures) (c .before .before .write-answer .ensures)
+
+same-length-8 : tie.Need-same-length-8
+same-length-8 c = search needs
+
+returns-2 : tie.Need-returns-2
+returns-2 c = line-bad _ _ _ _ _ _ _ (c .before .before .before .before .before .before .before .read-line .ensures) (c .before .before .before .before .before .enum-told .given .1) (c .heads-of .ensures) (c .before .before .before .write-bad .ensures)
+
+pub answer-line-spec : {M : Type 1} → statement M
+answer-line-spec =
+    tie.close
+    (tie.spec
+    read-line-requires
+    enum-known-asked
+    step-requires
+    write-answer-requires
+    enum-told
+    write-bad-requires
+    heads-of-requires
+    same-length
+    same-length-2
+    same-length-3
+    same-length-4
+    same-length-5
+    same-length-6
+    same-length-7
+    returns
+    same-length-8
+    returns-2)

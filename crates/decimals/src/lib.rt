@@ -1,0 +1,1 @@
+// Decimals and fields of the bench, as definitions and laws: specs/.

@@ -1,0 +1,122 @@
+// Any call of the queue, by one function.
+use delay_queue::Call;
+use delay_queue::Reply;
+use wheel::Wheel;
+ghost use Rattle.queue.specs.Words.{words};
+ghost use Rattle.delay_queue.specs.Claims.{CallClaim};
+
+pub fn step(
+    state: Wheel,
+    heads: [[u16; 64]; 6],
+    values: &mut [u64],
+    deadlines: &mut [u64],
+    nexts: &mut [u16],
+    prevs: &mut [u16],
+    turns: &mut [u64],
+    marks: &mut [u16],
+    call: Call,
+) -> Reply
+    ensures { λ r. ⌜
+        CallClaim
+        call
+        (words state heads (now (values .entry)) (now (deadlines .entry)) (now (nexts .entry)) (now (prevs .entry)) (now (turns .entry)) (now (marks .entry)))
+        (r .answer)
+        (words (r .state) (r .heads .rows) (now (values .exit)) (now (deadlines .exit)) (now (nexts .exit)) (now (prevs .exit)) (now (turns .exit)) (now (marks .exit))) ⌝ }
+{
+    match call {
+        Call::Format(n, turn) => delay_queue::format(
+            state,
+            heads,
+            &mut *values,
+            &mut *deadlines,
+            &mut *nexts,
+            &mut *prevs,
+            &mut *turns,
+            &mut *marks,
+            n,
+            turn,
+        ),
+        Call::Insert(value, when) => delay_queue::insert(
+            state,
+            heads,
+            &mut *values,
+            &mut *deadlines,
+            &mut *nexts,
+            &mut *prevs,
+            &*turns,
+            &mut *marks,
+            value,
+            when,
+        ),
+        Call::Reset(key, when) => delay_queue::reset(
+            state,
+            heads,
+            &*values,
+            &mut *deadlines,
+            &mut *nexts,
+            &mut *prevs,
+            &*turns,
+            &mut *marks,
+            key,
+            when,
+        ),
+        Call::Remove(key) => delay_queue::remove(
+            state,
+            heads,
+            &*values,
+            &*deadlines,
+            &mut *nexts,
+            &mut *prevs,
+            &mut *turns,
+            &mut *marks,
+            key,
+        ),
+        Call::Poll(time) => delay_queue::poll(
+            state,
+            heads,
+            &*values,
+            &*deadlines,
+            &mut *nexts,
+            &mut *prevs,
+            &mut *turns,
+            &mut *marks,
+            time,
+        ),
+        Call::Wake => {
+            let answer = delay_queue::next_wake(
+                state,
+                heads,
+                &*values,
+                &*deadlines,
+                &*nexts,
+                &*prevs,
+                &*turns,
+                &*marks,
+            );
+            delay_queue::unchanged(answer, state, heads)
+        }
+        Call::Length => {
+            let answer = delay_queue::length(
+                state,
+                heads,
+                &*values,
+                &*deadlines,
+                &*nexts,
+                &*prevs,
+                &*turns,
+                &*marks,
+            );
+            delay_queue::unchanged(answer, state, heads)
+        }
+        Call::Clear => delay_queue::clear(
+            state,
+            heads,
+            &*values,
+            &*deadlines,
+            &mut *nexts,
+            &mut *prevs,
+            &mut *turns,
+            &mut *marks,
+        ),
+    }
+}
