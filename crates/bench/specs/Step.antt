@@ -7,7 +7,7 @@ use native.Mathlib.Decide.{decLe}
 use lib.ListN.{length}
 use Rattle.wheel.specs.declared.Wheel.{Wheel}
 use Rattle.queue.specs.declared.Answer.{Answer}
-use Rattle.queue.specs.Words.{QueueWords, words}
+use Rattle.records.specs.Words.{QueueWords, words}
 use Rattle.delay_queue.specs.declared.Call.{Call}
 use Rattle.delay_queue.specs.Claims.{CallClaim}
 use Rattle.asking.specs.declared.Line.{Line}

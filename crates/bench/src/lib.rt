@@ -5,7 +5,7 @@ use asking::Line;
 use asking::read_line;
 use delay_queue::Heads;
 use wheel::Wheel;
-ghost use Rattle.queue.specs.Words.{words};
+ghost use Rattle.records.specs.Words.{words};
 ghost use Rattle.bench.specs.Step.{LineClaim};
 
 // Where the answer ends in what is written, and the state and the heads after the step.

@@ -12,11 +12,11 @@ use Rattle.wheel.specs.declared.Wheel.{Wheel}
 use Rattle.queue.specs.declared.Answer.{Answer}
 use Rattle.queue.specs.declared.Answer.the-variants as A
 use Rattle.queue.specs.Told.{told, len}
-use Rattle.queue.specs.View.{View}
+use Rattle.records.specs.View.{View}
 use Rattle.queue.specs.Steps.{Wakes}
 use Rattle.queue.specs.Calls.{WakeOn, LengthOn}
 use Rattle.queue.specs.PollLaws.{pendingIn, pending-is}
-use Rattle.queue.specs.Words.{QueueWords, words, Sound, count, elapsed, markOf, view}
+use Rattle.records.specs.Words.{QueueWords, words, Sound, count, elapsed, markOf, view}
 use Rattle.judge.specs.Judge.{Tells, denied, granted}
 use Rattle.delay_queue.specs.declared.Call.{Call}
 use Rattle.delay_queue.specs.Claims.{Judging, CallClaim}

@@ -11,11 +11,11 @@ use Rattle.stack.specs.Places.{free}
 use Rattle.stack.specs.Format.{range}
 use Rattle.judge.specs.Judge.{Room}
 use Rattle.queue.specs.Told.{told, ok}
-use Rattle.queue.specs.View.{View, viewOf}
+use Rattle.records.specs.View.{View, viewOf}
 use Rattle.queue.specs.declared.Answer.{Answer}
 use Rattle.delay_queue.specs.declared.Call.{Call}
 use Rattle.delay_queue.specs.declared.Call.the-variants as C
-use Rattle.queue.specs.Words.{QueueWords, Sound, limit, view}
+use Rattle.records.specs.Words.{QueueWords, Sound, limit, view}
 use Rattle.queue.specs.Calls.{Refused, InsertOn, ResetOn, RemoveOn, PollOn, WakeOn, LengthOn, ClearOn}
 
 -- ---- format

@@ -21,8 +21,8 @@ use Rattle.wheel.specs.Words.{wheelWords}
 use Rattle.queue.specs.declared.Answer.{Answer}
 use Rattle.queue.specs.declared.Answer.the-variants as A
 use Rattle.queue.specs.Told.{told}
-use Rattle.queue.specs.View.{view-eq}
-use Rattle.queue.specs.Words.{QueueWords, queueWords, words, limit, Sound}
+use Rattle.records.specs.View.{view-eq}
+use Rattle.records.specs.Words.{QueueWords, queueWords, words, limit, Sound}
 use Rattle.judge.specs.Judge.{Room}
 use Rattle.delay_queue.specs.Claims.{Fits, InRange, first, Formatted, FormatClaim}
 use Rattle.delay_queue.specs.Back.{Goes}

@@ -3,10 +3,10 @@ use queue::Answer;
 use queue::Out;
 use wheel::Wheel;
 ghost use mathlib.Core.Path.{_≡_};
-ghost use Prim.Native.Nat.{ℕ, _≤_, _<_};
+ghost use Prim.Native.Nat.{_≤_, _<_};
 ghost use lib.ListN.{length};
 ghost use Rattle.stack.specs.Format.{over};
-ghost use Rattle.queue.specs.Words.{words};
+ghost use Rattle.records.specs.Words.{words};
 ghost use Rattle.delay_queue.specs.Claims.{InRange, FormatClaim, InsertClaim, ResetClaim, RemoveClaim, PollClaim, WakeClaim, LengthClaim, ClearClaim};
 ghost use Rattle.delay_queue.specs.Format.{FormatNo, FitsIn, Makes};
 
@@ -112,7 +112,7 @@ fn format_no(
     if n == 0 {
         return 1;
     }
-    if (queue::LIMIT as u64) < n {
+    if (records::LIMIT as u64) < n {
         return 1;
     }
     if !judge::has_room(n as u16, values, deadlines, nexts, prevs, turns, marks) {
@@ -121,7 +121,7 @@ fn format_no(
     if turn == 0 {
         return 8;
     }
-    if queue::LAST_TURN < turn {
+    if records::LAST_TURN < turn {
         return 8;
     }
     0

@@ -22,8 +22,8 @@ use Rattle.wheel.specs.Wheel.{OnWheel, placeFor}
 use Rattle.wheel.specs.Rows.{flags}
 use Rattle.wheel.specs.Words.{headAt, lists as listsIn}
 use Rattle.wheel.specs.Between.{place-level, place-slot}
-use Rattle.queue.specs.Steps.{lastTurn}
-use Rattle.queue.specs.Words.{QueueWords, count, elapsed, markOf, limit, Sound}
+use Rattle.records.specs.Records.{lastTurn}
+use Rattle.records.specs.Words.{QueueWords, count, elapsed, markOf, limit, Sound}
 
 -- b tells whether P holds
 pub record Tells (P : Type 0) (b : Bool) : Type 0 where

@@ -1,10 +1,10 @@
 // Whether a store is sound: what every call but format judges first.
 use wheel::Wheel;
 ghost use mathlib.Core.Path.{_≡_};
-ghost use Prim.Native.Nat.{ℕ, _≤_, _<_};
+ghost use Prim.Native.Nat.{_≤_, _<_};
 ghost use lib.ListN.{length};
 ghost use Rattle.row.specs.Row.{rowOf};
-ghost use Rattle.queue.specs.Words.{words, Sound};
+ghost use Rattle.records.specs.Words.{words, Sound};
 ghost use Rattle.wheel.specs.Wheel.{OnWheel};
 ghost use Rattle.judge.specs.Judge.{Tells, Room, held, RowsAgree, RecordAgrees, RecordsAgree};
 
@@ -91,7 +91,7 @@ fn record_agrees(elapsed: u64, when: u64, turn: u64, mark: u16) -> bool
     if turn == 0 {
         return false;
     }
-    if queue::LAST_TURN < turn {
+    if records::LAST_TURN < turn {
         return false;
     }
     if mark < stack::EXPIRED {
@@ -137,7 +137,7 @@ pub fn is_sound(
     if n == 0 {
         return false;
     }
-    if queue::LIMIT < n {
+    if records::LIMIT < n {
         return false;
     }
     if !has_room(n, values, deadlines, nexts, prevs, turns, marks) {

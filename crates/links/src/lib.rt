@@ -1,6 +1,5 @@
 // The links of the records: doubly linked lists of record numbers in lent slices. The heads are the caller's.
 ghost use mathlib.Core.Path.{_≡_};
-ghost use Prim.Native.Nat.{ℕ};
 ghost use Rattle.links.specs.Links.{links, at, setN, joined, cutOut, headAfter, Deep, Inside, CanJoin, CanCut};
 ghost use Rattle.links.specs.Judge.{scan, bare, looseIn};
 

@@ -14,9 +14,9 @@ use Rattle.stack.specs.Places.{slots, expired, free}
 use Rattle.stack.specs.Heads.{Shape}
 use Rattle.stack.specs.Words.{judged}
 use Rattle.wheel.specs.Wheel.{placeFor, OnWheel}
-use Rattle.queue.specs.Steps.{Names, TooFar, OtherBlock, Near}
-use Rattle.queue.specs.Words.{QueueWords, count, elapsed, markOf, limit, view, Sound}
-use Rattle.queue.specs.Code.{key-names, names-key, find-mark, find-turn}
+use Rattle.records.specs.Records.{Names, TooFar, OtherBlock, Near}
+use Rattle.records.specs.Words.{QueueWords, count, elapsed, markOf, limit, view, Sound}
+use Rattle.records.specs.Code.{key-names, names-key, find-mark, find-turn}
 use Rattle.judge.specs.Judge.{Room, held, RowsAgree, RecordAgrees, Judged, sound-judged, judged-sound}
 use Rattle.delay_queue.specs.Claims.{Fits, InRange}
 
@@ -96,30 +96,3 @@ sound-dec s =
     by-dec (Dec·and (shape-dec (s .wheel .stack .heads)) (judged-dec s))
     (λ x. judged-sound (x .0) (x .1))
     (λ S. (S .whole .stack .shape, sound-judged S))
-
--- ---- the cases of the table
-
--- a deadline is too far, in another block, or near
-pub by-deadline : {P : Type 0} (e w : ℕ) → (TooFar e w → P) → (OtherBlock e w → P) → (Near e w → P) → P
-by-deadline e w f g h =
-    by-cases (decLt e w)
-    (λ l.
-    by-cases (decLt maxDuration (w - e))
-    (λ k. f (l, k))
-    (λ k. by-cases (ℕ-discrete (block w) (block e)) (λ b. h (λ z. b)) (λ d. g (l, omega (arith, k), d))))
-    (λ l. h (λ k. absurd (l k)))
-
--- a key names a record or it does not
-pub by-key : {P : Type 0} {s : QueueWords} → Sound s → (key : ℕ) → ((r p : ℕ) → Names (view s) key r p → P)
-    → (((r p : ℕ) → Names (view s) key r p → ⊥) → P) → P
-by-key {P} {s} S key f g =
-    let i : ℕ = key % 65536 in
-    by-cases (decLt i (count s))
-    (λ b.
-    by-cases (decLt (markOf s i) free)
-    (λ m.
-    by-cases (ℕ-discrete (at (s .turns) i) (key / 65536))
-    (λ t. f i (markOf s i) (key-names S key (record { number = refl; below = b; pending = m; turn = t })))
-    (λ d. g (λ r p N. find-turn d r (names-key S key N))))
-    (λ m. g (λ r p N. find-mark (omega (arith, m)) r (names-key S key N))))
-    (λ b. g (λ r p N. b (omega (arith, N .number, N .below))))

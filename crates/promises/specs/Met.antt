@@ -21,17 +21,19 @@ use Rattle.wheel.specs.Turns.{insert-adds, CanMove, MovesOne, moved-none, move-
 use Rattle.wheel.specs.Drain.{heights}
 use Rattle.queue.specs.declared.Answer.{Answer}
 use Rattle.queue.specs.declared.Answer.the-variants as A
-use Rattle.queue.specs.Steps.{lastTurn, sleeps, starts}
-use Rattle.queue.specs.Words.{QueueWords, queueWords, count, elapsed, markOf, view, Sound}
+use Rattle.records.specs.Records.{lastTurn}
+use Rattle.queue.specs.Steps.{sleeps, starts}
+use Rattle.records.specs.Words.{QueueWords, queueWords, count, elapsed, markOf, view, Sound}
 use Rattle.queue.specs.Calls.{Refused, InsertOn, ResetOn, RemoveOn, PollOn, WakeOn}
-use Rattle.queue.specs.Code.{DeadlineNo, no-past, no-far, no-near, no-other, key-names, names-key}
-use Rattle.queue.specs.Laws.{LooseAt, CanPlace, PlacesTo, place-push, place-insert, placed-now, placed-later, CanFree, LeavesTo, free-push, freed-last, freed-given}
+use Rattle.records.specs.Code.{DeadlineNo, no-past, no-far, no-near, no-other, key-names, names-key}
+use Rattle.records.specs.Laws.{LooseAt, CanPlace, PlacesTo, place-push, place-insert, placed-now, placed-later, CanFree, LeavesTo, free-push, freed-last, freed-given}
 use Rattle.queue.specs.CallLaws.{insert-full, insert-refused, insert-place, insert-done, reset-dead, remove-dead, found-leaves, reset-refused, reset-place, reset-done, remove-frees, remove-done}
 use Rattle.queue.specs.PollLaws.{HandsOut, out-frees, out-done, poll-back, stack-loose, poll-popped, wheel-can, poll-none, wheel-loose, poll-handed, pendingIn, ClearsOne, clear-stays, clear-leaves, clear-frees, clear-goes, ClearedSo, clear-none, clear-turn, clear-done}
 use Rattle.delay_queue.specs.Claims.{FormatClaim, Judging, InsertClaim, ResetClaim, RemoveClaim, PollClaim, WakeClaim, LengthClaim, ClearClaim}
 use Rattle.delay_queue.specs.Back.{taken-up, length-done}
 use Rattle.delay_queue.specs.Format.{formats}
-use Rattle.promises.specs.Decided.{sound-dec, fits-dec, range-dec, by-key}
+use Rattle.records.specs.Cases.{by-key}
+use Rattle.promises.specs.Decided.{sound-dec, fits-dec, range-dec}
 
 -- some answer and some final content satisfy P
 abbrev pub Met : (Answer → QueueWords → Type 0) → Type 0

@@ -15,12 +15,14 @@ use Rattle.queue.specs.declared.Answer.{Answer}
 use Rattle.queue.specs.declared.Answer.the-variants as A
 use Rattle.queue.specs.Told.{Told, told}
 use Rattle.queue.specs.Told as T
-use Rattle.queue.specs.View.{View}
-use Rattle.queue.specs.Steps.{At, freed, left, QueuePolls, popped, handed, nothing, Wakes, sleeps, starts, Clears, begun, kept, gave}
-use Rattle.queue.specs.Words.{QueueWords, words, count, elapsed, view, Sound, AllKept, view-fixed}
-use Rattle.queue.specs.Laws.{mark-at}
+use Rattle.records.specs.View.{View}
+use Rattle.records.specs.Records.{At, freed, left}
+use Rattle.queue.specs.Steps.{QueuePolls, popped, handed, nothing, Wakes, sleeps, starts, Clears, begun, kept, gave}
+use Rattle.records.specs.Words.{QueueWords, words, count, elapsed, view, Sound, AllKept, view-fixed}
+use Rattle.records.specs.Laws.{mark-at}
 use Rattle.queue.specs.Calls.{Refused, Answered, InsertOn, ResetOn, RemoveOn, PollOn, ClearOn}
-use Rattle.promises.specs.Decided.{sound-dec, fits-dec, range-dec, by-deadline, by-key}
+use Rattle.records.specs.Cases.{by-deadline, by-key}
+use Rattle.promises.specs.Decided.{sound-dec, fits-dec, range-dec}
 use Rattle.promises.specs.Met.{clear-one}
 use Rattle.delay_queue.specs.Claims.{PastKept, Formatted, FormatClaim, Judging, InsertClaim, ResetClaim, RemoveClaim, PollClaim, WakeClaim, LengthClaim, ClearClaim}
 

@@ -17,14 +17,15 @@ use Rattle.queue.specs.declared.Answer.{Answer}
 use Rattle.queue.specs.declared.Answer.the-variants as A
 use Rattle.queue.specs.Told.{Told, told}
 use Rattle.queue.specs.Told as T
-use Rattle.queue.specs.View.{View}
+use Rattle.records.specs.View.{View}
 use Rattle.queue.specs.Steps.{QueuePolls, popped, handed, nothing, Wakes, sleeps, starts}
-use Rattle.queue.specs.Words.{QueueWords, queueWords, words, count, elapsed, view, Sound, all-refl}
+use Rattle.records.specs.Words.{QueueWords, queueWords, words, count, elapsed, view, Sound, all-refl}
 use Rattle.queue.specs.Calls.{Refused, Answered, InsertOn, ResetOn, RemoveOn, PollOn}
 use Rattle.delay_queue.specs.declared.Call.{Call}
 use Rattle.delay_queue.specs.declared.Call.the-variants as C
 use Rattle.delay_queue.specs.Claims.{Fits, PastKept, Formatted, FormatClaim, Judging, InsertClaim, CallClaim}
-use Rattle.promises.specs.Decided.{sound-dec, fits-dec, range-dec, by-deadline, by-key}
+use Rattle.records.specs.Cases.{by-deadline, by-key}
+use Rattle.promises.specs.Decided.{sound-dec, fits-dec, range-dec}
 use Rattle.delay_queue.specs.Format.{formats}
 use Rattle.promises.specs.Met.{Met, format-met, insert-met, reset-met, remove-met, poll-met, wake-met, length-met, clear-met}
 use Rattle.promises.specs.Once.{told-one, all-past, format-once, insert-once, reset-once, remove-once, poll-once, wake-once, length-once, clear-once}

@@ -17,12 +17,13 @@ use Rattle.queue.specs.declared.Answer.{Answer}
 use Rattle.queue.specs.declared.Answer.the-variants as A
 use Rattle.queue.specs.Told.{Told, told, no}
 use Rattle.queue.specs.Told as T
-use Rattle.queue.specs.View.{View, withValue, upd}
-use Rattle.queue.specs.Steps.{Names, Near, taken, left, placed, freed, kept}
-use Rattle.queue.specs.Words.{QueueWords, queueWords, count, elapsed, markOf, view, Sound, all-trans}
+use Rattle.records.specs.View.{View, withValue, upd}
+use Rattle.records.specs.Records.{Names, Near, taken, left, placed, freed}
+use Rattle.queue.specs.Steps.{kept}
+use Rattle.records.specs.Words.{QueueWords, queueWords, count, elapsed, markOf, view, Sound, all-trans}
 use Rattle.queue.specs.Calls.{Answered, InsertOn, ResetOn, RemoveOn}
-use Rattle.queue.specs.Laws.{Goes, LooseAt, goes-taken, goes-valued, can-leave, goes-left, CanPlace, PlacesTo, goes-placed, CanFree, LeavesTo, goes-freed}
-use Rattle.queue.specs.Code.{DeadlineNo, Roomed, KeyIs, key-names, names-key}
+use Rattle.records.specs.Laws.{Goes, LooseAt, goes-taken, goes-valued, can-leave, goes-left, CanPlace, PlacesTo, goes-placed, CanFree, LeavesTo, goes-freed}
+use Rattle.records.specs.Code.{DeadlineNo, Roomed, KeyIs, key-names, names-key}
 
 cons-not : {x : ℕ} {l : List ℕ} → [] ≡ x ∷ l → ⊥
 cons-not e = let z : _≡_ {A = ℕ} 0 1 = cc in omega arith

@@ -5,9 +5,10 @@ use Prim.Native.Nat.{ℕ, _≤_, _<_}
 use Rattle.stack.specs.Places.{free}
 use Rattle.queue.specs.declared.Answer.{Answer}
 use Rattle.queue.specs.Told.{Told, told, ok, key, gone, len, no}
-use Rattle.queue.specs.View.{View, withElapsed, withValue, upd}
-use Rattle.queue.specs.Steps.{keyOf, Names, TooFar, OtherBlock, Near, taken, left, placed, freed, QueuePolls, Wakes, pending, Clears}
-use Rattle.queue.specs.Words.{QueueWords, Sound, AllKept, view, elapsed}
+use Rattle.records.specs.View.{View, withElapsed, withValue, upd}
+use Rattle.records.specs.Records.{keyOf, Names, TooFar, OtherBlock, Near, taken, left, placed, freed}
+use Rattle.queue.specs.Steps.{QueuePolls, Wakes, pending, Clears}
+use Rattle.records.specs.Words.{QueueWords, Sound, AllKept, view, elapsed}
 
 -- "A refusal answers its number alone; every lent slice stays word for word the same, and the state that went in by value is handed back equal."
 pub record Refused (number : ℕ) (s : QueueWords) (a : Answer) (s′ : QueueWords) : Type 0 where

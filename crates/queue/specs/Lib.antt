@@ -1,9 +1,5 @@
 pub mod Told
-pub mod View
 pub mod Steps
-pub mod Words
 pub mod Calls
-pub mod Laws
-pub mod Code
 pub mod CallLaws
 pub mod PollLaws

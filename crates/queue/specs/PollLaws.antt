@@ -31,11 +31,12 @@ use Rattle.queue.specs.declared.Answer.{Answer}
 use Rattle.queue.specs.declared.Answer.the-variants as A
 use Rattle.queue.specs.Told.{told, out, wake, never}
 use Rattle.queue.specs.Told as T
-use Rattle.queue.specs.View.{View, view-eq, withElapsed, withLists}
-use Rattle.queue.specs.Steps.{lastTurn, keyOf, At, left, freed, QueuePolls, popped, handed, nothing, Wakes, sleeps, starts, pending, Clears, begun, kept, gave}
-use Rattle.queue.specs.Words.{QueueWords, queueWords, count, elapsed, markOf, view, Sound, AllKept, all-refl, all-trans}
+use Rattle.records.specs.View.{View, view-eq, withElapsed, withLists}
+use Rattle.records.specs.Records.{lastTurn, keyOf, At, left, freed}
+use Rattle.queue.specs.Steps.{QueuePolls, popped, handed, nothing, Wakes, sleeps, starts, pending, Clears, begun, kept, gave}
+use Rattle.records.specs.Words.{QueueWords, queueWords, count, elapsed, markOf, view, Sound, AllKept, all-refl, all-trans}
 use Rattle.queue.specs.Calls.{PollOn, ClearOn}
-use Rattle.queue.specs.Laws.{Goes, LooseAt, loose-out, goes-lists, can-leave, mem-without, goes-left, CanFree, LeavesTo, goes-freed}
+use Rattle.records.specs.Laws.{Goes, LooseAt, loose-out, goes-lists, can-leave, mem-without, goes-left, CanFree, LeavesTo, goes-freed}
 use Rattle.queue.specs.CallLaws.{goes-then}
 
 -- ---- a loose record is handed out and freed

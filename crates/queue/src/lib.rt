@@ -1,26 +1,18 @@
 // The delay queue on a sound store: records, keys and turns over the wheel.
 use wheel::Wheel;
 ghost use mathlib.Core.Path.{_≡_};
-ghost use Prim.Native.Nat.{ℕ, _≤_, _<_};
+ghost use Prim.Native.Nat.{_≤_, _<_};
 ghost use lib.ListN.{length};
-ghost use Rattle.wheel.specs.Words.{words as wheeled};
-ghost use Rattle.queue.specs.Words.{words, count, Sound};
+ghost use Rattle.records.specs.Words.{words, count, Sound};
 ghost use Rattle.queue.specs.Calls.{InsertOn, ResetOn, RemoveOn, PollOn, ClearOn};
-ghost use Rattle.queue.specs.Laws.{LooseAt, PlacesTo, CanPlace, LeavesTo, CanFree};
-ghost use Rattle.queue.specs.Code.{DeadlineNo, Roomed, FindIs};
+ghost use Rattle.records.specs.Laws.{LooseAt};
 ghost use Rattle.queue.specs.PollLaws.{HandsOut, pendingIn, ClearsOne};
 ghost use Rattle.queue.specs.Told.{told};
-ghost use Rattle.queue.specs.View.{View};
+ghost use Rattle.records.specs.View.{View};
 ghost use Rattle.queue.specs.Steps.{Wakes};
 ghost use Rattle.links.specs.Links.{at};
 ghost use Rattle.wheel.specs.Rows.{Rows};
 ghost use Rattle.wheel.specs.Expiration.{NotPassed};
-
-// The last turn: a record that leaves at it is retired.
-pub const LAST_TURN: u64 = (1 << 48) - 1;
-
-// The most records that a store may have.
-pub const LIMIT: u16 = 1024;
 
 // An answer.
 pub enum Answer {
@@ -47,127 +39,6 @@ pub enum Answer {
 pub struct Out {
     pub answer: Answer,
     pub wheel: Wheel,
-}
-
-// The record that a key names.
-enum Found {
-    At(u16),
-    Nowhere,
-}
-
-// 4 or 5 for a deadline that is refused, 0 for one that is taken.
-fn deadline_no(elapsed: u64, when: u64) -> u64
-    ensures { λ r. ⌜ DeadlineNo elapsed when r ⌝ }
-{
-    if when <= elapsed {
-        return 0;
-    }
-    if times::too_far(elapsed, when) {
-        return 4;
-    }
-    if times::same_block(elapsed, when) {
-        return 0;
-    }
-    5
-}
-
-// The loose record `item` is placed: on the expired stack if its deadline is not over elapsed, else in its slot.
-fn place(
-    wheel: Wheel,
-    heads: &mut [[u16; 64]; 6],
-    deadlines: &mut [u64],
-    nexts: &mut [u16],
-    prevs: &mut [u16],
-    marks: &mut [u16],
-    item: u16,
-    when: u64,
-) -> Wheel
-    requires { ⌜ CanPlace (wheeled wheel (now heads) (now nexts) (now prevs) (now marks)) (now deadlines) item when ⌝ }
-    ensures { λ r. ⌜
-        PlacesTo
-        (wheeled wheel (now (heads .entry)) (now (nexts .entry)) (now (prevs .entry)) (now (marks .entry)))
-        (now (deadlines .entry))
-        item
-        when
-        (wheeled r (now (heads .exit)) (now (nexts .exit)) (now (prevs .exit)) (now (marks .exit)))
-        (now (deadlines .exit)) ⌝ }
-{
-    let elapsed = wheel.elapsed;
-    if when <= elapsed {
-        deadlines[item as usize] = elapsed;
-        return wheel::push(
-            wheel,
-            &mut *heads,
-            &mut *nexts,
-            &mut *prevs,
-            &mut *marks,
-            stack::EXPIRED,
-            item,
-        );
-    }
-    deadlines[item as usize] = when;
-    wheel::insert(
-        wheel,
-        &mut *heads,
-        &mut *nexts,
-        &mut *prevs,
-        &mut *marks,
-        when,
-        item,
-    )
-}
-
-// The loose record `item` is freed, its turn raised by one; at the last turn it is retired.
-fn leave(
-    wheel: Wheel,
-    heads: &mut [[u16; 64]; 6],
-    nexts: &mut [u16],
-    prevs: &mut [u16],
-    turns: &mut [u64],
-    marks: &mut [u16],
-    item: u16,
-) -> Wheel
-    requires { ⌜ CanFree (wheeled wheel (now heads) (now nexts) (now prevs) (now marks)) (now turns) item ⌝ }
-    ensures { λ r. ⌜
-        LeavesTo
-        (wheeled wheel (now (heads .entry)) (now (nexts .entry)) (now (prevs .entry)) (now (marks .entry)))
-        (now (turns .entry))
-        item
-        (wheeled r (now (heads .exit)) (now (nexts .exit)) (now (prevs .exit)) (now (marks .exit)))
-        (now (turns .exit)) ⌝ }
-{
-    let turn = turns[item as usize];
-    if turn == LAST_TURN {
-        return wheel;
-    }
-    turns[item as usize] = turn + 1;
-    wheel::push(
-        wheel,
-        &mut *heads,
-        &mut *nexts,
-        &mut *prevs,
-        &mut *marks,
-        stack::FREE,
-        item,
-    )
-}
-
-// The record number is the key's low 16 bits, the turn the rest.
-fn find(n: u16, turns: &[u64], marks: &[u16], key: u64) -> Found
-    requires { ⌜ Roomed n (now turns) (now marks) ⌝ }
-    ensures { λ r. ⌜ FindIs n (now (turns .entry)) (now (marks .entry)) key r ⌝ }
-{
-    let item = (key % 65536) as u16;
-    if n <= item {
-        return Found::Nowhere;
-    }
-    if stack::FREE <= marks[item as usize] {
-        return Found::Nowhere;
-    }
-    if turns[item as usize] != key / 65536 {
-        return Found::Nowhere;
-    }
-    Found::At(item)
 }
 
 // A record is taken for the value and placed at the deadline.
@@ -199,7 +70,7 @@ pub fn insert(
             wheel,
         };
     }
-    let no = deadline_no(wheel.elapsed, when);
+    let no = records::deadline_no(wheel.elapsed, when);
     if no != 0 {
         return Out {
             answer: Answer::No(no),
@@ -218,7 +89,7 @@ pub fn insert(
     let taken = popped.wheel;
     values[item as usize] = value;
     let key = turns[item as usize] * 65536 + item as u64;
-    let placed = place(
+    let placed = records::place(
         taken,
         &mut *heads,
         &mut *deadlines,
@@ -257,14 +128,14 @@ pub fn reset(
         (words (r .wheel) (now (heads .exit)) (now (values .entry)) (now (deadlines .exit)) (now (nexts .exit)) (now (prevs .exit)) (now (turns .entry)) (now (marks .exit))) ⌝ }
 {
     let stacks = wheel.stacks;
-    let found = find(stacks.n, turns, &*marks, key);
-    let Found::At(item) = found else {
+    let found = records::find(stacks.n, turns, &*marks, key);
+    let records::Found::At(item) = found else {
         return Out {
             answer: Answer::No(6),
             wheel,
         };
     };
-    let no = deadline_no(wheel.elapsed, when);
+    let no = records::deadline_no(wheel.elapsed, when);
     if no != 0 {
         return Out {
             answer: Answer::No(no),
@@ -279,7 +150,7 @@ pub fn reset(
         &mut *marks,
         item,
     );
-    let placed = place(
+    let placed = records::place(
         left,
         &mut *heads,
         &mut *deadlines,
@@ -316,8 +187,8 @@ pub fn remove(
         (words (r .wheel) (now (heads .exit)) (now (values .entry)) (now (deadlines .entry)) (now (nexts .exit)) (now (prevs .exit)) (now (turns .exit)) (now (marks .exit))) ⌝ }
 {
     let stacks = wheel.stacks;
-    let found = find(stacks.n, &*turns, &*marks, key);
-    let Found::At(item) = found else {
+    let found = records::find(stacks.n, &*turns, &*marks, key);
+    let records::Found::At(item) = found else {
         return Out {
             answer: Answer::No(6),
             wheel,
@@ -333,7 +204,7 @@ pub fn remove(
         &mut *marks,
         item,
     );
-    let freed = leave(
+    let freed = records::leave(
         left,
         &mut *heads,
         &mut *nexts,
@@ -376,7 +247,7 @@ fn hand_out(
     let key = turns[k] * 65536 + item as u64;
     let value = values[k];
     let deadline = deadlines[k];
-    let freed = leave(
+    let freed = records::leave(
         wheel,
         &mut *heads,
         &mut *nexts,
@@ -534,7 +405,7 @@ fn clear_one(
         &mut *marks,
         item,
     );
-    leave(
+    records::leave(
         left,
         &mut *heads,
         &mut *nexts,

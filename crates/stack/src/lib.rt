@@ -1,6 +1,6 @@
 // The lists of the places: the slots of the six levels, the expired stack and the free list.
 ghost use mathlib.Core.Path.{_≡_};
-ghost use Prim.Native.Nat.{ℕ, _+_, _*_, _<_};
+ghost use Prim.Native.Nat.{_+_, _*_, _<_};
 ghost use Rattle.links.specs.Links.{links, at, CanJoin, CanCut, Deep};
 ghost use Rattle.stack.specs.Places.{places, slotPlace};
 ghost use Rattle.stack.specs.Heads.{headOf, rowsWith, stacksWith};

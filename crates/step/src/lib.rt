@@ -2,7 +2,7 @@
 use delay_queue::Call;
 use delay_queue::Reply;
 use wheel::Wheel;
-ghost use Rattle.queue.specs.Words.{words};
+ghost use Rattle.records.specs.Words.{words};
 ghost use Rattle.delay_queue.specs.Claims.{CallClaim};
 
 pub fn step(

@@ -1,7 +1,6 @@
 // The timer wheel: six levels of 64 slots.
 use stack::Stacks;
-ghost use mathlib.Core.Path.{_≡_};
-ghost use Prim.Native.Nat.{ℕ, _-_, _≤_, _<_};
+ghost use Prim.Native.Nat.{_-_, _≤_, _<_};
 ghost use Rattle.times.specs.Times.{levelOf};
 ghost use Rattle.links.specs.Links.{at};
 ghost use Rattle.wheel.specs.Wheel.{Lists, arrive};

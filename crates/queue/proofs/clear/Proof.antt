@@ -3,7 +3,7 @@ use borrow.Author.Needs.{needs}
 use mathlib.Core.Path.{_≡_, refl, sym, _∙_}
 use Prim.Native.Nat.{ℕ, _≤_, _-_}
 use native.Mathlib.Omega.{arith}
-use Rattle.queue.specs.Words.{words, count}
+use Rattle.records.specs.Words.{words, count}
 use Rattle.queue.specs.PollLaws.{ClearedSo, clear-none, clear-turn, clear-done}
 use Rattle.queue.proofs.clear.Statement.{statement}
 use Rattle.queue.proofs.clear.Tie as tie

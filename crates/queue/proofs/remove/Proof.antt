@@ -1,7 +1,7 @@
 -- `remove` meets its contract: a dead key, or unlinked and freed (`remove-done`).
 use borrow.Author.Needs.{needs}
 use mathlib.Core.Path.{refl}
-use Rattle.queue.specs.Code.{find-at, find-nowhere}
+use Rattle.records.specs.Code.{find-at, find-nowhere}
 use Rattle.queue.specs.CallLaws.{found-roomed, remove-dead, found-leaves, found-words, remove-frees, remove-done}
 use Rattle.queue.proofs.remove.Statement.{statement}
 use Rattle.queue.proofs.remove.Tie as tie

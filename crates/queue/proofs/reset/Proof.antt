@@ -1,6 +1,6 @@
 -- `reset` meets its contract: a dead key, a deadline that is refused, or unlinked and placed (`reset-done`).
 use borrow.Author.Needs.{needs}
-use Rattle.queue.specs.Code.{find-at, find-nowhere}
+use Rattle.records.specs.Code.{find-at, find-nowhere}
 use Rattle.queue.specs.CallLaws.{found-roomed, reset-dead, found-leaves, reset-refused, reset-place, reset-done}
 use Rattle.queue.proofs.reset.Statement.{statement}
 use Rattle.queue.proofs.reset.Tie as tie

@@ -1,8 +1,8 @@
 -- `place` meets its contract: on the expired stack (`placed-now`) or in a slot (`placed-later`).
 use borrow.Author.Needs.{needs}
-use Rattle.queue.specs.Laws.{place-push, placed-now, place-insert, placed-later}
-use Rattle.queue.proofs.place.Statement.{statement}
-use Rattle.queue.proofs.place.Tie as tie
+use Rattle.records.specs.Laws.{place-push, placed-now, place-insert, placed-later}
+use Rattle.records.proofs.place.Statement.{statement}
+use Rattle.records.proofs.place.Tie as tie
 
 mul-deadlines : tie.Need-mul-deadlines
 mul-deadlines c = search needs

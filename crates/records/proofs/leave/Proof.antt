@@ -1,8 +1,8 @@
 -- `leave` meets its contract: retired (`freed-last`) or free (`freed-given`).
 use borrow.Author.Needs.{needs}
-use Rattle.queue.specs.Laws.{free-push, freed-last, freed-given}
-use Rattle.queue.proofs.leave.Statement.{statement}
-use Rattle.queue.proofs.leave.Tie as tie
+use Rattle.records.specs.Laws.{free-push, freed-last, freed-given}
+use Rattle.records.proofs.leave.Statement.{statement}
+use Rattle.records.proofs.leave.Tie as tie
 
 mul-turn : tie.Need-mul-turn
 mul-turn c = search needs

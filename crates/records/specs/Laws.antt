@@ -21,9 +21,9 @@ use Rattle.wheel.specs.Sums.{mem-joined}
 use Rattle.wheel.specs.Between.{rule-less}
 use Rattle.wheel.specs.Words.{WheelWords, WheelWhole, Becomes, LooseIn, CanPush, CanLeave, Leaves, lists as listsIn}
 use Rattle.wheel.specs.Turns.{CanInsert}
-use Rattle.queue.specs.View.{View, view-eq, withLists, withValue, upd}
-use Rattle.queue.specs.Steps.{lastTurn, At, Near, taken, left, target, placed, freed}
-use Rattle.queue.specs.Words.{QueueWords, queueWords, count, elapsed, markOf, view, Roomy, Sound, AllKept, all-refl, upd-same, upd-other, at-set}
+use Rattle.records.specs.View.{View, view-eq, withLists, withValue, upd}
+use Rattle.records.specs.Records.{lastTurn, At, Near, taken, left, target, placed, freed}
+use Rattle.records.specs.Words.{QueueWords, queueWords, count, elapsed, markOf, view, Roomy, Sound, AllKept, all-refl, upd-same, upd-other, at-set}
 
 -- the store is sound and has the view v now, and words past N are kept
 pub record Goes (s : QueueWords) (v : View) (s′ : QueueWords) : Type 0 where

@@ -1,9 +1,9 @@
 -- `deadline_no` meets its contract, test by test.
 use borrow.Author.Needs.{needs}
 use mathlib.Core.Path.{sym, _∙_}
-use Rattle.queue.specs.Code.{no-past, no-far, no-near, no-other}
-use Rattle.queue.proofs.deadline_no.Statement.{statement}
-use Rattle.queue.proofs.deadline_no.Tie as tie
+use Rattle.records.specs.Code.{no-past, no-far, no-near, no-other}
+use Rattle.records.proofs.deadline_no.Statement.{statement}
+use Rattle.records.proofs.deadline_no.Tie as tie
 
 returns : tie.Need-returns
 returns c = no-past _ _ (c .if1 .taken)

@@ -12,10 +12,10 @@ use Rattle.times.specs.Times.{maxDuration, block}
 use Rattle.links.specs.Links.{at}
 use Rattle.stack.specs.Places.{free}
 use Rattle.stack.specs.Laws as stack
-use Rattle.queue.specs.declared.Found.{Found}
-use Rattle.queue.specs.declared.Found.the-variants as F
-use Rattle.queue.specs.Steps.{At, Names, TooFar, OtherBlock, Near}
-use Rattle.queue.specs.Words.{QueueWords, count, markOf, view, Sound}
+use Rattle.records.specs.declared.Found.{Found}
+use Rattle.records.specs.declared.Found.the-variants as F
+use Rattle.records.specs.Records.{At, Names, TooFar, OtherBlock, Near}
+use Rattle.records.specs.Words.{QueueWords, count, markOf, view, Sound}
 
 -- ---- refusals 4 and 5
 

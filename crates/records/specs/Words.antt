@@ -14,7 +14,7 @@ use Rattle.wheel.specs.Wheel.{Rule}
 use Rattle.wheel.specs.declared.Wheel.{Wheel}
 use Rattle.wheel.specs.Rows.{rows-fixed}
 use Rattle.wheel.specs.Words.{WheelWords, wheelWords, WheelWhole, words as wheeled, lists as listsIn, count as countIn, markOf as markIn}
-use Rattle.queue.specs.View.{View, viewOf, upd}
+use Rattle.records.specs.View.{View, viewOf, upd}
 
 pub record QueueWords : Type 0 where
   pub wheel : WheelWords

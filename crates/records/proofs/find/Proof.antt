@@ -1,8 +1,8 @@
 -- `find` meets its contract, test by test.
 use borrow.Author.Needs.{needs}
-use Rattle.queue.specs.Code.{find-mark, find-turn}
-use Rattle.queue.proofs.find.Statement.{statement}
-use Rattle.queue.proofs.find.Tie as tie
+use Rattle.records.specs.Code.{find-mark, find-turn}
+use Rattle.records.proofs.find.Statement.{statement}
+use Rattle.records.proofs.find.Tie as tie
 
 cast-item : tie.Need-cast-item
 cast-item c = search needs

@@ -1,0 +1,6 @@
+pub mod View
+pub mod Records
+pub mod Words
+pub mod Laws
+pub mod Code
+pub mod Cases

@@ -1,0 +1,72 @@
+-- Records and their keys, and what happens to one record, in document 01's words. What stands between quotation marks is its text.
+use mathlib.Core.Path.{_≡_}
+use mathlib.Core.Logic.{_≢_}
+use mathlib.Core.Bool.{cond}
+use mathlib.Core.List.{List}
+use Prim.Native.Nat.{ℕ, _+_, _-_, _*_, _/_, _%_, _^_, _≤_, _<_, max}
+use lib.Dec.{eqb}
+use Rattle.times.specs.Times.{maxDuration, block}
+use Rattle.links.specs.Lists.{Mem, without, change}
+use Rattle.stack.specs.Places.{expired, free, put}
+use Rattle.wheel.specs.Wheel.{placeFor}
+use Rattle.records.specs.View.{View, withLists, withDeadline, withTurn, upd}
+
+-- ---- keys and records
+
+-- "A key is a u64 of packed fields, most significant first: turn in 48 bits, record number in 16."
+abbrev pub keyOf : View → ℕ → ℕ
+keyOf v r = v .turn r * 65536 + r
+
+-- "first turn (1 to 2^48-1)"
+abbrev pub lastTurn : ℕ
+lastTurn = 2 ^ 48 - 1
+
+-- r waits in the place p, a slot or the expired stack
+pub record At (v : View) (r p : ℕ) : Type 0 where
+  pub timed : p < free
+  pub member : Mem r (v .lists p)
+
+-- refusal 6 is not given: the key names the record r, which is below N and pending, and whose turn is the key's
+pub record Names (v : View) (key r p : ℕ) : Type 0 where
+  pub number : r ≡ key % 65536
+  pub below : r < v .n
+  pub pending : At v r p
+  pub turn : v .turn r ≡ key / 65536
+
+-- ---- refusals 4 and 5: "judged only when w is over e"
+
+-- "deadline less elapsed is over 68,719,476,735"
+abbrev pub TooFar : ℕ → ℕ → Type 0
+TooFar e w = (e < w) × (maxDuration < w - e)
+
+-- "as 4, but not over, and floor(w/2^36) differs from floor(e/2^36)"
+abbrev pub OtherBlock : ℕ → ℕ → Type 0
+OtherBlock e w = (e < w) × (w - e ≤ maxDuration) × (block w ≢ block e)
+
+abbrev pub Near : ℕ → ℕ → Type 0
+Near e w = e < w → block w ≡ block e
+
+-- ---- one record moves
+
+-- r, at the head of the rest l of the free list, is taken
+abbrev pub taken : List ℕ → View → View
+taken l v = withLists (change (v .lists) free l) v
+
+-- r leaves the list of p
+unfoldable pub left : ℕ → ℕ → View → View
+left p r v = withLists (change (v .lists) p (without r (v .lists p))) v
+
+-- "Insert and reset first raise the deadline to elapsed if it is smaller. A deadline equal to elapsed goes on the expired stack, a later one at the
+-- head of its slot."
+unfoldable pub target : ℕ → ℕ → ℕ
+target e w = cond (eqb w e) expired (placeFor e w)
+
+unfoldable pub placed : ℕ → ℕ → View → View
+placed r when v =
+    let w = max when (v .elapsed) in
+    let p = target (v .elapsed) w in
+    withLists (change (v .lists) p (put p r (v .lists p))) (withDeadline (upd (v .deadline) r w) v)
+
+-- "A record that leaves (polled, removed, cleared) has its turn raised by one and is taken next. At turn 2^48-1 it is retired instead."
+unfoldable pub freed : ℕ → View → View
+freed r v = cond (eqb (v .turn r) lastTurn) v (withLists (change (v .lists) free (put free r (v .lists free))) (withTurn (upd (v .turn) r (v .turn r + 1)) v))
