@@ -1,5 +1,17 @@
+pub mod Cleared
 pub mod Decided
+pub mod Does
+pub mod Looking
 pub mod Met
+pub mod Mornings
+pub mod Moves
 pub mod Once
+pub mod Order
+pub mod Past
+pub mod Polling
+pub mod Quiet
+pub mod Refused
 pub mod Runs
+pub mod Shown
 pub mod Step
+pub mod Waiting

@@ -1,0 +1,103 @@
+-- Words of a slice past what N records need, and the lengths of all slices, over a run of any calls.
+use mathlib.Core.Path.{_≡_, sym, ap, _∙_}
+use mathlib.Core.Logic.{⊎-elim}
+use mathlib.Core.Bool.{Bool, true, false, not, _&&_, true≢false}
+use mathlib.Core.List.{List, [], _∷_}
+use Prim.Native.Nat.{ℕ, _≤_}
+use native.Mathlib.Omega.{arith}
+use Rattle.links.specs.Laws.{Kept, kept-refl, kept-trans, links-refl, links-trans}
+use Rattle.records.specs.Words.{QueueWords, count}
+use Rattle.delay_queue.specs.declared.Call.{Call}
+use Rattle.delay_queue.specs.declared.Call.the-variants as C
+use Rattle.delay_queue.specs.Claims.{PastKept, CallClaim}
+use Rattle.promises.specs.Step.{reach}
+use Rattle.promises.specs.Refused.{step-size}
+use Rattle.promises.specs.Runs.{Asked, Runs, rest, next, All, NoFormat, accepted, isFormat}
+
+-- the records that a format asks for; 0 for any other call
+abbrev pub sizeOf : Call → ℕ
+sizeOf (C.Format n turn) = n
+sizeOf (C.Insert value when) = 0
+sizeOf (C.Reset key when) = 0
+sizeOf (C.Remove key) = 0
+sizeOf (C.Poll now) = 0
+sizeOf C.Wake = 0
+sizeOf C.Length = 0
+sizeOf C.Clear = 0
+
+reach-within : (c : Call) (s : QueueWords) {m : ℕ} → count s ≤ m → sizeOf c ≤ m → reach c s ≤ m
+reach-within (C.Format n turn) s h g = g
+reach-within (C.Insert value when) s h g = h
+reach-within (C.Reset key when) s h g = h
+reach-within (C.Remove key) s h g = h
+reach-within (C.Poll now) s h g = h
+reach-within C.Wake s h g = h
+reach-within C.Length s h g = h
+reach-within C.Clear s h g = h
+
+kept-beyond : {n m : ℕ} {l k : List ℕ} → n ≤ m → Kept n l k → Kept m l k
+kept-beyond h K = record { size = K .size; past = λ j g. K .past j (omega arith) }
+
+past-beyond : {n m : ℕ} {s t : QueueWords} → n ≤ m → PastKept n s t → PastKept m s t
+past-beyond h P =
+    record {
+      links = record { nexts = kept-beyond h (P .links .nexts); prevs = kept-beyond h (P .links .prevs); marks = kept-beyond h (P .links .marks) };
+      values = kept-beyond h (P .values);
+      deadlines = kept-beyond h (P .deadlines);
+      turns = kept-beyond h (P .turns);
+    }
+
+past-refl : (m : ℕ) (s : QueueWords) → PastKept m s s
+past-refl m s =
+    record {
+      links = links-refl m (s .wheel .stack .links);
+      values = kept-refl m (s .values);
+      deadlines = kept-refl m (s .deadlines);
+      turns = kept-refl m (s .turns);
+    }
+
+past-trans : {m : ℕ} {s t u : QueueWords} → PastKept m s t → PastKept m t u → PastKept m s u
+past-trans A B =
+    record {
+      links = links-trans (A .links) (B .links);
+      values = kept-trans (A .values) (B .values);
+      deadlines = kept-trans (A .deadlines) (B .deadlines);
+      turns = kept-trans (A .turns) (B .turns);
+    }
+
+-- one call: what it leaves is no larger than m, and words past m are kept
+step-past : (m : ℕ) (s t : QueueWords) (x : Asked) → CallClaim (x .call) s (x .answer) t → count s ≤ m → (accepted x ≡ true → sizeOf (x .call) ≤ m)
+    → (count t ≤ m) × PastKept m s t
+step-past m s t x A h f =
+    ⊎-elim
+    (λ (e : t ≡ s). rw e (h, past-refl m s))
+    (λ y. let g : reach (x .call) s ≤ m = reach-within (x .call) s h (f (ap not (y .0))) in (omega (arith, y .1, g), past-beyond g (y .2)))
+    (step-size (x .call) s (x .answer) t A)
+
+-- "Words of a slice past what N records need are never changed by any call": whatever formats the run has, words past m are kept, and all lengths, where no
+-- N is over m
+pub run-past : (m : ℕ) {s t : QueueWords} {l : List Asked} → Runs s l t → count s ≤ m → All (λ x. accepted x ≡ true → sizeOf (x .call) ≤ m) l
+    → PastKept m s t
+run-past m (rest {s}) h f = past-refl m s
+run-past m (next {s} {t} {u} {x} c r) h f =
+    let p = step-past m s t x c h (f .0) in
+    past-trans (p .1) (run-past m r (p .0) (f .1))
+
+-- a call that is no accepted format asks for no records
+size-none : (c : Call) {b : Bool} {m : ℕ} → (isFormat c && b) ≡ false → b ≡ true → sizeOf c ≤ m
+size-none (C.Format n turn) e f = absurd (true≢false (sym f ∙ e))
+size-none (C.Insert value when) e f = omega arith
+size-none (C.Reset key when) e f = omega arith
+size-none (C.Remove key) e f = omega arith
+size-none (C.Poll now) e f = omega arith
+size-none C.Wake e f = omega arith
+size-none C.Length e f = omega arith
+size-none C.Clear e f = omega arith
+
+sizes-none : (m : ℕ) (l : List Asked) → NoFormat l → All (λ x. accepted x ≡ true → sizeOf (x .call) ≤ m) l
+sizes-none m [] f = tt
+sizes-none m (x ∷ l) f = (size-none (x .call) (f .0), sizes-none m l (f .1))
+
+-- "until the next format": the run has no accepted format, so m is N
+pub run-past-same : {s t : QueueWords} {l : List Asked} → Runs s l t → NoFormat l → PastKept (count s) s t
+run-past-same {s} {t} {l} r f = run-past (count s) r (omega arith) (sizes-none (count s) l f)
