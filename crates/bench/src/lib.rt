@@ -45,18 +45,18 @@ pub fn answer_line(
             let reply = step::step(
                 state,
                 heads,
-                &mut *values,
-                &mut *deadlines,
-                &mut *nexts,
-                &mut *prevs,
-                &mut *turns,
-                &mut *marks,
+                values,
+                deadlines,
+                nexts,
+                prevs,
+                turns,
+                marks,
                 call,
             );
             let answer = reply.answer;
             let after = reply.state;
             let rows = reply.heads;
-            let end = write_answer(&mut *out, at, answer);
+            let end = write_answer(out, at, answer);
             Step {
                 at: end,
                 state: after,
@@ -64,7 +64,7 @@ pub fn answer_line(
             }
         }
         Line::Bad => {
-            let end = write_bad(&mut *out, at);
+            let end = write_bad(out, at);
             let rows = delay_queue::heads_of(heads);
             Step {
                 at: end,

@@ -152,10 +152,10 @@ fn make(
         (now (marks .entry))
         (words r (now (heads .exit)) (now (values .exit)) (now (deadlines .exit)) (now (nexts .exit)) (now (prevs .exit)) (now (turns .exit)) (now (marks .exit))) ⌝ }
 {
-    let stacks = stack::format(&mut *heads, &mut *nexts, &mut *prevs, &mut *marks, n);
-    fill(&mut *values, n, 0);
-    fill(&mut *deadlines, n, 0);
-    fill(&mut *turns, n, turn);
+    let stacks = stack::format(heads, nexts, prevs, marks, n);
+    fill(values, n, 0);
+    fill(deadlines, n, 0);
+    fill(turns, n, turn);
     let occupied = [0u64; 6];
     Wheel {
         elapsed: 0,
@@ -185,28 +185,19 @@ pub fn format(
         (r .answer)
         (words (r .state) (r .heads .rows) (now (values .exit)) (now (deadlines .exit)) (now (nexts .exit)) (now (prevs .exit)) (now (turns .exit)) (now (marks .exit))) ⌝ }
 {
-    let number = format_no(
-        &*values,
-        &*deadlines,
-        &*nexts,
-        &*prevs,
-        &*turns,
-        &*marks,
-        n,
-        turn,
-    );
+    let number = format_no(values, deadlines, nexts, prevs, turns, marks, n, turn);
     if number != 0 {
         return refused(number, state, heads);
     }
     let mut rows = heads;
     let wheel = make(
         &mut rows,
-        &mut *values,
-        &mut *deadlines,
-        &mut *nexts,
-        &mut *prevs,
-        &mut *turns,
-        &mut *marks,
+        values,
+        deadlines,
+        nexts,
+        prevs,
+        turns,
+        marks,
         n as u16,
         turn,
     );
@@ -238,28 +229,19 @@ pub fn insert(
         (r .answer)
         (words (r .state) (r .heads .rows) (now (values .exit)) (now (deadlines .exit)) (now (nexts .exit)) (now (prevs .exit)) (now (turns .entry)) (now (marks .exit))) ⌝ }
 {
-    if !judge::is_sound(
-        state,
-        heads,
-        &*values,
-        &*deadlines,
-        &*nexts,
-        &*prevs,
-        turns,
-        &*marks,
-    ) {
+    if !judge::is_sound(state, heads, values, deadlines, nexts, prevs, turns, marks) {
         return refused(2, state, heads);
     }
     let mut rows = heads;
     let out = queue::insert(
         state,
         &mut rows,
-        &mut *values,
-        &mut *deadlines,
-        &mut *nexts,
-        &mut *prevs,
+        values,
+        deadlines,
+        nexts,
+        prevs,
         turns,
-        &mut *marks,
+        marks,
         value,
         when,
     );
@@ -287,16 +269,7 @@ pub fn reset(
         (r .answer)
         (words (r .state) (r .heads .rows) (now (values .entry)) (now (deadlines .exit)) (now (nexts .exit)) (now (prevs .exit)) (now (turns .entry)) (now (marks .exit))) ⌝ }
 {
-    if !judge::is_sound(
-        state,
-        heads,
-        values,
-        &*deadlines,
-        &*nexts,
-        &*prevs,
-        turns,
-        &*marks,
-    ) {
+    if !judge::is_sound(state, heads, values, deadlines, nexts, prevs, turns, marks) {
         return refused(2, state, heads);
     }
     let mut rows = heads;
@@ -304,11 +277,11 @@ pub fn reset(
         state,
         &mut rows,
         values,
-        &mut *deadlines,
-        &mut *nexts,
-        &mut *prevs,
+        deadlines,
+        nexts,
+        prevs,
         turns,
-        &mut *marks,
+        marks,
         key,
         when,
     );
@@ -334,16 +307,7 @@ pub fn remove(
         (r .answer)
         (words (r .state) (r .heads .rows) (now (values .entry)) (now (deadlines .entry)) (now (nexts .exit)) (now (prevs .exit)) (now (turns .exit)) (now (marks .exit))) ⌝ }
 {
-    if !judge::is_sound(
-        state,
-        heads,
-        values,
-        deadlines,
-        &*nexts,
-        &*prevs,
-        &*turns,
-        &*marks,
-    ) {
+    if !judge::is_sound(state, heads, values, deadlines, nexts, prevs, turns, marks) {
         return refused(2, state, heads);
     }
     let mut rows = heads;
@@ -352,10 +316,10 @@ pub fn remove(
         &mut rows,
         values,
         deadlines,
-        &mut *nexts,
-        &mut *prevs,
-        &mut *turns,
-        &mut *marks,
+        nexts,
+        prevs,
+        turns,
+        marks,
         key,
     );
     answered(out, rows)
@@ -380,16 +344,7 @@ pub fn poll(
         (r .answer)
         (words (r .state) (r .heads .rows) (now (values .entry)) (now (deadlines .entry)) (now (nexts .exit)) (now (prevs .exit)) (now (turns .exit)) (now (marks .exit))) ⌝ }
 {
-    if !judge::is_sound(
-        state,
-        heads,
-        values,
-        deadlines,
-        &*nexts,
-        &*prevs,
-        &*turns,
-        &*marks,
-    ) {
+    if !judge::is_sound(state, heads, values, deadlines, nexts, prevs, turns, marks) {
         return refused(2, state, heads);
     }
     let mut rows = heads;
@@ -398,10 +353,10 @@ pub fn poll(
         &mut rows,
         values,
         deadlines,
-        &mut *nexts,
-        &mut *prevs,
-        &mut *turns,
-        &mut *marks,
+        nexts,
+        prevs,
+        turns,
+        marks,
         time,
     );
     answered(out, rows)
@@ -464,16 +419,7 @@ pub fn clear(
         (r .answer)
         (words (r .state) (r .heads .rows) (now (values .entry)) (now (deadlines .entry)) (now (nexts .exit)) (now (prevs .exit)) (now (turns .exit)) (now (marks .exit))) ⌝ }
 {
-    if !judge::is_sound(
-        state,
-        heads,
-        values,
-        deadlines,
-        &*nexts,
-        &*prevs,
-        &*turns,
-        &*marks,
-    ) {
+    if !judge::is_sound(state, heads, values, deadlines, nexts, prevs, turns, marks) {
         return refused(2, state, heads);
     }
     let mut rows = heads;
@@ -482,10 +428,10 @@ pub fn clear(
         &mut rows,
         values,
         deadlines,
-        &mut *nexts,
-        &mut *prevs,
-        &mut *turns,
-        &mut *marks,
+        nexts,
+        prevs,
+        turns,
+        marks,
     );
     answered(out, rows)
 }

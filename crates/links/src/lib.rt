@@ -31,7 +31,7 @@ pub fn join(nexts: &mut [u16], prevs: &mut [u16], marks: &mut [u16], p: u16, i: 
 {
     nexts[i as usize] = h;
     prevs[i as usize] = NOBODY;
-    put(&mut *prevs, h, i);
+    put(prevs, h, i);
     marks[i as usize] = p;
 }
 
@@ -45,8 +45,8 @@ pub fn cut(nexts: &mut [u16], prevs: &mut [u16], marks: &mut [u16], i: u16, h: u
 {
     let before = prevs[i as usize];
     let after = nexts[i as usize];
-    put(&mut *nexts, before, after);
-    put(&mut *prevs, after, before);
+    put(nexts, before, after);
+    put(prevs, after, before);
     nexts[i as usize] = NOBODY;
     prevs[i as usize] = NOBODY;
     marks[i as usize] = NOBODY;

@@ -77,28 +77,12 @@ pub fn insert(
             wheel,
         };
     }
-    let popped = wheel::pop(
-        wheel,
-        &mut *heads,
-        &mut *nexts,
-        &mut *prevs,
-        &mut *marks,
-        stack::FREE,
-    );
+    let popped = wheel::pop(wheel, heads, nexts, prevs, marks, stack::FREE);
     let item = popped.item;
     let taken = popped.wheel;
     values[item as usize] = value;
     let key = turns[item as usize] * 65536 + item as u64;
-    let placed = records::place(
-        taken,
-        &mut *heads,
-        &mut *deadlines,
-        &mut *nexts,
-        &mut *prevs,
-        &mut *marks,
-        item,
-        when,
-    );
+    let placed = records::place(taken, heads, deadlines, nexts, prevs, marks, item, when);
     Out {
         answer: Answer::Key(key),
         wheel: placed,
@@ -128,7 +112,7 @@ pub fn reset(
         (words (r .wheel) (now (heads .exit)) (now (values .entry)) (now (deadlines .exit)) (now (nexts .exit)) (now (prevs .exit)) (now (turns .entry)) (now (marks .exit))) ⌝ }
 {
     let stacks = wheel.stacks;
-    let found = records::find(stacks.n, turns, &*marks, key);
+    let found = records::find(stacks.n, turns, marks, key);
     let records::Found::At(item) = found else {
         return Out {
             answer: Answer::No(6),
@@ -142,24 +126,8 @@ pub fn reset(
             wheel,
         };
     }
-    let left = wheel::remove(
-        wheel,
-        &mut *heads,
-        &mut *nexts,
-        &mut *prevs,
-        &mut *marks,
-        item,
-    );
-    let placed = records::place(
-        left,
-        &mut *heads,
-        &mut *deadlines,
-        &mut *nexts,
-        &mut *prevs,
-        &mut *marks,
-        item,
-        when,
-    );
+    let left = wheel::remove(wheel, heads, nexts, prevs, marks, item);
+    let placed = records::place(left, heads, deadlines, nexts, prevs, marks, item, when);
     Out {
         answer: Answer::Done,
         wheel: placed,
@@ -187,7 +155,7 @@ pub fn remove(
         (words (r .wheel) (now (heads .exit)) (now (values .entry)) (now (deadlines .entry)) (now (nexts .exit)) (now (prevs .exit)) (now (turns .exit)) (now (marks .exit))) ⌝ }
 {
     let stacks = wheel.stacks;
-    let found = records::find(stacks.n, &*turns, &*marks, key);
+    let found = records::find(stacks.n, turns, marks, key);
     let records::Found::At(item) = found else {
         return Out {
             answer: Answer::No(6),
@@ -196,23 +164,8 @@ pub fn remove(
     };
     let value = values[item as usize];
     let deadline = deadlines[item as usize];
-    let left = wheel::remove(
-        wheel,
-        &mut *heads,
-        &mut *nexts,
-        &mut *prevs,
-        &mut *marks,
-        item,
-    );
-    let freed = records::leave(
-        left,
-        &mut *heads,
-        &mut *nexts,
-        &mut *prevs,
-        &mut *turns,
-        &mut *marks,
-        item,
-    );
+    let left = wheel::remove(wheel, heads, nexts, prevs, marks, item);
+    let freed = records::leave(left, heads, nexts, prevs, turns, marks, item);
     Out {
         answer: Answer::Gone(value, deadline),
         wheel: freed,
@@ -247,15 +200,7 @@ fn hand_out(
     let key = turns[k] * 65536 + item as u64;
     let value = values[k];
     let deadline = deadlines[k];
-    let freed = records::leave(
-        wheel,
-        &mut *heads,
-        &mut *nexts,
-        &mut *prevs,
-        &mut *turns,
-        &mut *marks,
-        item,
-    );
+    let freed = records::leave(wheel, heads, nexts, prevs, turns, marks, item);
     Out {
         answer: Answer::Out(key, value, deadline, moves, drains),
         wheel: freed,
@@ -288,40 +233,25 @@ pub fn poll(
             wheel,
         };
     }
-    let popped = wheel::pop(
-        wheel,
-        &mut *heads,
-        &mut *nexts,
-        &mut *prevs,
-        &mut *marks,
-        stack::EXPIRED,
-    );
+    let popped = wheel::pop(wheel, heads, nexts, prevs, marks, stack::EXPIRED);
     let first = popped.item;
     let rest = popped.wheel;
     if first != links::NOBODY {
         return hand_out(
             rest,
-            &mut *heads,
+            heads,
             values,
             deadlines,
-            &mut *nexts,
-            &mut *prevs,
-            &mut *turns,
-            &mut *marks,
+            nexts,
+            prevs,
+            turns,
+            marks,
             first,
             0,
             0,
         );
     }
-    let polled = wheel::poll(
-        rest,
-        &mut *heads,
-        &mut *nexts,
-        &mut *prevs,
-        &mut *marks,
-        deadlines,
-        time,
-    );
+    let polled = wheel::poll(rest, heads, nexts, prevs, marks, deadlines, time);
     let item = polled.item;
     let moves = polled.moves;
     let drains = polled.drains;
@@ -334,13 +264,13 @@ pub fn poll(
     }
     hand_out(
         after,
-        &mut *heads,
+        heads,
         values,
         deadlines,
-        &mut *nexts,
-        &mut *prevs,
-        &mut *turns,
-        &mut *marks,
+        nexts,
+        prevs,
+        turns,
+        marks,
         item,
         moves,
         drains,
@@ -397,23 +327,8 @@ fn clear_one(
     if stack::FREE <= marks[item as usize] {
         return wheel;
     }
-    let left = wheel::remove(
-        wheel,
-        &mut *heads,
-        &mut *nexts,
-        &mut *prevs,
-        &mut *marks,
-        item,
-    );
-    records::leave(
-        left,
-        &mut *heads,
-        &mut *nexts,
-        &mut *prevs,
-        &mut *turns,
-        &mut *marks,
-        item,
-    )
+    let left = wheel::remove(wheel, heads, nexts, prevs, marks, item);
+    records::leave(left, heads, nexts, prevs, turns, marks, item)
 }
 
 // Every pending record leaves, in rising number, and elapsed is 0 again.
@@ -439,17 +354,7 @@ pub fn clear(
     let mut w = wheel;
     let mut i = 0u16;
     while i < n {
-        w = clear_one(
-            w,
-            &mut *heads,
-            values,
-            deadlines,
-            &mut *nexts,
-            &mut *prevs,
-            &mut *turns,
-            &mut *marks,
-            i,
-        );
+        w = clear_one(w, heads, values, deadlines, nexts, prevs, turns, marks, i);
         i += 1;
     }
     w.elapsed = 0;

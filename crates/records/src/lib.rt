@@ -57,26 +57,10 @@ pub fn place(
     let elapsed = wheel.elapsed;
     if when <= elapsed {
         deadlines[item as usize] = elapsed;
-        return wheel::push(
-            wheel,
-            &mut *heads,
-            &mut *nexts,
-            &mut *prevs,
-            &mut *marks,
-            stack::EXPIRED,
-            item,
-        );
+        return wheel::push(wheel, heads, nexts, prevs, marks, stack::EXPIRED, item);
     }
     deadlines[item as usize] = when;
-    wheel::insert(
-        wheel,
-        &mut *heads,
-        &mut *nexts,
-        &mut *prevs,
-        &mut *marks,
-        when,
-        item,
-    )
+    wheel::insert(wheel, heads, nexts, prevs, marks, when, item)
 }
 
 // The loose record `item` is freed, its turn raised by one; at the last turn it is retired.
@@ -103,15 +87,7 @@ pub fn leave(
         return wheel;
     }
     turns[item as usize] = turn + 1;
-    wheel::push(
-        wheel,
-        &mut *heads,
-        &mut *nexts,
-        &mut *prevs,
-        &mut *marks,
-        stack::FREE,
-        item,
-    )
+    wheel::push(wheel, heads, nexts, prevs, marks, stack::FREE, item)
 }
 
 // The record number is the key's low 16 bits, the turn the rest.

@@ -91,9 +91,9 @@ pub fn push(
         words r (now (heads .exit)) (now (nexts .exit)) (now (prevs .exit)) (now (marks .exit))
         ≡ push (words stacks (now (heads .entry)) (now (nexts .entry)) (now (prevs .entry)) (now (marks .entry))) p i ⌝ }
 {
-    let h = head_of(stacks, &*heads, p);
-    links::join(&mut *nexts, &mut *prevs, &mut *marks, p, i, h);
-    set_head(stacks, &mut *heads, p, i)
+    let h = head_of(stacks, heads, p);
+    links::join(nexts, prevs, marks, p, i, h);
+    set_head(stacks, heads, p, i)
 }
 
 // The record i leaves its list, wherever it stands there, and is loose.
@@ -111,9 +111,9 @@ pub fn remove(
         ≡ remove (words stacks (now (heads .entry)) (now (nexts .entry)) (now (prevs .entry)) (now (marks .entry))) i ⌝ }
 {
     let p = marks[i as usize];
-    let h = head_of(stacks, &*heads, p);
-    let left = links::cut(&mut *nexts, &mut *prevs, &mut *marks, i, h);
-    set_head(stacks, &mut *heads, p, left)
+    let h = head_of(stacks, heads, p);
+    let left = links::cut(nexts, prevs, marks, i, h);
+    set_head(stacks, heads, p, left)
 }
 
 // The head of the list of p leaves it, and is loose. From an empty list nobody does.
@@ -131,18 +131,11 @@ pub fn pop(
         words (r .stacks) (now (heads .exit)) (now (nexts .exit)) (now (prevs .exit)) (now (marks .exit))
         ≡ pop (words stacks (now (heads .entry)) (now (nexts .entry)) (now (prevs .entry)) (now (marks .entry))) p ⌝ }
 {
-    let h = head_of(stacks, &*heads, p);
+    let h = head_of(stacks, heads, p);
     if h == links::NOBODY {
         return Popped { item: h, stacks };
     }
-    let left = remove(
-        stacks,
-        &mut *heads,
-        &mut *nexts,
-        &mut *prevs,
-        &mut *marks,
-        h,
-    );
+    let left = remove(stacks, heads, nexts, prevs, marks, h);
     Popped {
         item: h,
         stacks: left,

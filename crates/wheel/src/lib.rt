@@ -57,15 +57,7 @@ fn add_entry(
     let slot = times::slot_for(when, level);
     let place = stack::slot_place(level, slot);
     let before = wheel.stacks;
-    let after = stack::push(
-        before,
-        &mut *heads,
-        &mut *nexts,
-        &mut *prevs,
-        &mut *marks,
-        place,
-        item,
-    );
+    let after = stack::push(before, heads, nexts, prevs, marks, place, item);
     let mut w = wheel;
     w.stacks = after;
     w.occupied[level] = row::set(w.occupied[level], slot);
@@ -90,15 +82,7 @@ pub fn push(
         (words (r) (now (heads .exit)) (now (nexts .exit)) (now (prevs .exit)) (now (marks .exit))) ⌝ }
 {
     let before = wheel.stacks;
-    let after = stack::push(
-        before,
-        &mut *heads,
-        &mut *nexts,
-        &mut *prevs,
-        &mut *marks,
-        place,
-        item,
-    );
+    let after = stack::push(before, heads, nexts, prevs, marks, place, item);
     let mut w = wheel;
     w.stacks = after;
     w
@@ -122,14 +106,7 @@ pub fn pop(
         (words (r .wheel) (now (heads .exit)) (now (nexts .exit)) (now (prevs .exit)) (now (marks .exit))) ⌝ }
 {
     let before = wheel.stacks;
-    let popped = stack::pop(
-        before,
-        &mut *heads,
-        &mut *nexts,
-        &mut *prevs,
-        &mut *marks,
-        place,
-    );
+    let popped = stack::pop(before, heads, nexts, prevs, marks, place);
     let item = popped.item;
     let after = popped.stacks;
     let mut w = wheel;
@@ -157,14 +134,7 @@ fn pop_entry(
 {
     let place = stack::slot_place(level, slot);
     let before = wheel.stacks;
-    let popped = stack::pop(
-        before,
-        &mut *heads,
-        &mut *nexts,
-        &mut *prevs,
-        &mut *marks,
-        place,
-    );
+    let popped = stack::pop(before, heads, nexts, prevs, marks, place);
     let item = popped.item;
     let after = popped.stacks;
     let mut w = wheel;
@@ -172,7 +142,7 @@ fn pop_entry(
     if item == links::NOBODY {
         return Entry { item, wheel: w };
     }
-    if stack::head_of(after, &*heads, place) != links::NOBODY {
+    if stack::head_of(after, heads, place) != links::NOBODY {
         return Entry { item, wheel: w };
     }
     w.occupied[level] = row::clear(w.occupied[level], slot);
@@ -197,20 +167,13 @@ pub fn remove(
 {
     let place = marks[item as usize];
     let before = wheel.stacks;
-    let after = stack::remove(
-        before,
-        &mut *heads,
-        &mut *nexts,
-        &mut *prevs,
-        &mut *marks,
-        item,
-    );
+    let after = stack::remove(before, heads, nexts, prevs, marks, item);
     let mut w = wheel;
     w.stacks = after;
     if stack::EXPIRED <= place {
         return w;
     }
-    if stack::head_of(after, &*heads, place) != links::NOBODY {
+    if stack::head_of(after, heads, place) != links::NOBODY {
         return w;
     }
     let level = place as usize / 64;
@@ -279,16 +242,7 @@ pub fn insert(
         (words (r) (now (heads .exit)) (now (nexts .exit)) (now (prevs .exit)) (now (marks .exit))) ⌝ }
 {
     let level = times::level_for(wheel.elapsed, when);
-    add_entry(
-        wheel,
-        &mut *heads,
-        &mut *nexts,
-        &mut *prevs,
-        &mut *marks,
-        level,
-        when,
-        item,
-    )
+    add_entry(wheel, heads, nexts, prevs, marks, level, when, item)
 }
 
 // One move: the head of a slot above level 0 goes to its slot one level down. From an empty slot nobody does.
@@ -312,31 +266,14 @@ fn move_entry(
         (r .item)
         (words (r .wheel) (now (heads .exit)) (now (nexts .exit)) (now (prevs .exit)) (now (marks .exit))) ⌝ }
 {
-    let popped = pop_entry(
-        wheel,
-        &mut *heads,
-        &mut *nexts,
-        &mut *prevs,
-        &mut *marks,
-        level,
-        slot,
-    );
+    let popped = pop_entry(wheel, heads, nexts, prevs, marks, level, slot);
     let item = popped.item;
     let w = popped.wheel;
     if item == links::NOBODY {
         return Entry { item, wheel: w };
     }
     let when = deadlines[item as usize];
-    let moved = add_entry(
-        w,
-        &mut *heads,
-        &mut *nexts,
-        &mut *prevs,
-        &mut *marks,
-        level - 1,
-        when,
-        item,
-    );
+    let moved = add_entry(w, heads, nexts, prevs, marks, level - 1, when, item);
     Entry { item, wheel: moved }
 }
 
@@ -370,16 +307,7 @@ fn poll_expiration(
     let mut w = wheel;
     let mut moves = 0u64;
     loop {
-        let moved = move_entry(
-            w,
-            &mut *heads,
-            &mut *nexts,
-            &mut *prevs,
-            &mut *marks,
-            deadlines,
-            level,
-            slot,
-        );
+        let moved = move_entry(w, heads, nexts, prevs, marks, deadlines, level, slot);
         let item = moved.item;
         let after = moved.wheel;
         w = after;
@@ -436,29 +364,12 @@ pub fn poll(
             break links::NOBODY;
         }
         if level == 0 {
-            let popped = pop_entry(
-                w,
-                &mut *heads,
-                &mut *nexts,
-                &mut *prevs,
-                &mut *marks,
-                level,
-                slot,
-            );
+            let popped = pop_entry(w, heads, nexts, prevs, marks, level, slot);
             let after = popped.wheel;
             w = after;
             break popped.item;
         }
-        let drained = poll_expiration(
-            w,
-            &mut *heads,
-            &mut *nexts,
-            &mut *prevs,
-            &mut *marks,
-            deadlines,
-            level,
-            slot,
-        );
+        let drained = poll_expiration(w, heads, nexts, prevs, marks, deadlines, level, slot);
         let after = drained.wheel;
         w = after;
         w.elapsed = deadline;
