@@ -1,4 +1,5 @@
-// The replay program: reads standard input to its end and answers each line with one, buffered both ways.
+// The replay program: reads standard input to its end and answers each line with one, buffered both ways. It can show the lists too.
+use contents::Pen;
 use delay_queue::Heads;
 use libc::STDERR_FILENO;
 use libc::STDIN_FILENO;
@@ -9,8 +10,10 @@ ghost use mathlib.Core.Path.{_≡_};
 ghost use Prim.Native.Nat.{_≤_, _<_};
 ghost use lib.ListN.{length};
 
-// How many bytes of an unfinished line are kept, how many bytes wait to be written, the store, and whether all writes went well.
+// Whether each answer is followed by the contents of the lists, how many bytes of an unfinished line are kept, how many bytes wait
+// to be written, the store, and whether all writes went well.
 struct Progress {
+    lists: bool,
     kept: usize,
     at: usize,
     state: Wheel,
@@ -40,8 +43,34 @@ fn flush(out: &[u8], at: usize) -> bool
     io::write_all(STDOUT_FILENO, &out[..at])
 }
 
+// Behind an answer: the contents of the lists, where they are wanted and there is a store.
+fn show(
+    lists: bool,
+    out: &mut [u8],
+    at: usize,
+    fine: bool,
+    state: Wheel,
+    heads: Heads,
+    nexts: &[u16],
+) -> Pen
+    requires { ⌜ at ≤ length (now out) ⌝ }
+    ensures { λ r. ⌜ r .at ≤ length (now (out .entry)) ⌝ }
+{
+    let pen = Pen { at, fine };
+    if !lists {
+        return pen;
+    }
+    let stacks = state.stacks;
+    if stacks.n == 0 {
+        return pen;
+    }
+    let rows = delay_queue::rows_of(heads);
+    contents::write_lists(out, pen, state, rows, nexts)
+}
+
 // Answers the first n bytes that are kept, a line, and writes what waits when another answer might not fit behind it.
 fn answer(
+    lists: bool,
     line: &[u8],
     n: usize,
     state: Wheel,
@@ -63,40 +92,44 @@ fn answer(
         &line[..n],
         state,
         heads,
-        &mut *values,
-        &mut *deadlines,
-        &mut *nexts,
-        &mut *prevs,
-        &mut *turns,
-        &mut *marks,
-        &mut *out,
+        values,
+        deadlines,
+        nexts,
+        prevs,
+        turns,
+        marks,
+        out,
         at,
     );
     let after = step.state;
     let rows = step.heads;
-    let end = step.at;
+    let pen = show(lists, out, step.at, fine, after, rows, nexts);
+    let end = pen.at;
     if end < 3988 {
         return Progress {
+            lists,
             kept: 0,
             at: end,
             state: after,
             heads: rows,
-            fine,
+            fine: pen.fine,
         };
     }
-    let written = flush(&*out, end);
+    let written = flush(out, end);
     Progress {
+        lists,
         kept: 0,
         at: 0,
         state: after,
         heads: rows,
-        fine: fine & written,
+        fine: pen.fine & written,
     }
 }
 
 // The same where the line has ended; where it goes on, it is kept.
 fn close(
     ended: bool,
+    lists: bool,
     line: &[u8],
     n: usize,
     state: Wheel,
@@ -116,23 +149,25 @@ fn close(
 {
     if ended {
         return answer(
+            lists,
             line,
             n,
             state,
             heads,
-            &mut *values,
-            &mut *deadlines,
-            &mut *nexts,
-            &mut *prevs,
-            &mut *turns,
-            &mut *marks,
-            &mut *out,
+            values,
+            deadlines,
+            nexts,
+            prevs,
+            turns,
+            marks,
+            out,
             at,
             fine,
         );
     }
     let rows = delay_queue::heads_of(heads);
     Progress {
+        lists,
         kept: n,
         at,
         state,
@@ -206,6 +241,7 @@ fn feed(
     requires { ⌜ (run .kept ≤ 81) × (run .at ≤ 4096) × (length (now line) ≡ 81) × (length (now out) ≡ 4096) ⌝ }
     ensures { λ r. ⌜ (r .kept ≤ 81) × (r .at ≤ 4096) ⌝ }
 {
+    let lists = run.lists;
     let mut n = run.kept;
     let mut at = run.at;
     let mut state = run.state;
@@ -215,20 +251,21 @@ fn feed(
     let mut i: usize = 0;
     while i < got.len() {
         let e = line_end(got, i);
-        let m = keep(&mut *line, n, got, i, e);
+        let m = keep(line, n, got, i, e);
         let r = close(
             e < got.len(),
-            &*line,
+            lists,
+            line,
             m,
             state,
             rows,
-            &mut *values,
-            &mut *deadlines,
-            &mut *nexts,
-            &mut *prevs,
-            &mut *turns,
-            &mut *marks,
-            &mut *out,
+            values,
+            deadlines,
+            nexts,
+            prevs,
+            turns,
+            marks,
+            out,
             at,
             fine,
         );
@@ -242,6 +279,7 @@ fn feed(
     }
     let h = delay_queue::heads_of(rows);
     Progress {
+        lists,
         kept: n,
         at,
         state,
@@ -271,22 +309,23 @@ fn finish(
     let rows = delay_queue::rows_of(heads);
     let r = close(
         0 < n,
+        run.lists,
         line,
         n,
         state,
         rows,
-        &mut *values,
-        &mut *deadlines,
-        &mut *nexts,
-        &mut *prevs,
-        &mut *turns,
-        &mut *marks,
-        &mut *out,
+        values,
+        deadlines,
+        nexts,
+        prevs,
+        turns,
+        marks,
+        out,
         at,
         run.fine,
     );
     let end = r.at;
-    let written = flush(&*out, end);
+    let written = flush(out, end);
     if !(r.fine & written) {
         io::write_all(STDERR_FILENO, b"replay: cannot write\n");
     }
@@ -317,30 +356,30 @@ fn serve(
         }
         if got <= 0 {
             finish(
-                &*line,
+                line,
                 run,
-                &mut *values,
-                &mut *deadlines,
-                &mut *nexts,
-                &mut *prevs,
-                &mut *turns,
-                &mut *marks,
-                &mut *out,
+                values,
+                deadlines,
+                nexts,
+                prevs,
+                turns,
+                marks,
+                out,
             );
             return;
         }
         let k = io::count(got, &buf);
         run = feed(
             &buf[..k],
-            &mut *line,
+            line,
             run,
-            &mut *values,
-            &mut *deadlines,
-            &mut *nexts,
-            &mut *prevs,
-            &mut *turns,
-            &mut *marks,
-            &mut *out,
+            values,
+            deadlines,
+            nexts,
+            prevs,
+            turns,
+            marks,
+            out,
         );
         if !run.fine {
             io::write_all(STDERR_FILENO, b"replay: cannot write\n");
@@ -372,8 +411,18 @@ fn no_heads() -> [[u16; 64]; 6] {
     [[links::NOBODY; 64]; 6]
 }
 
-// Room for 1,024 records.
+// Each line is answered with one.
 pub fn replay() {
+    with_room(false);
+}
+
+// The same, and behind each answer stand the contents of the lists, once there is a store.
+pub fn replay_contents() {
+    with_room(true);
+}
+
+// Room for 1,024 records.
+fn with_room(lists: bool) {
     let mut values = words();
     let mut deadlines = words();
     let mut nexts = numbers();
@@ -386,6 +435,7 @@ pub fn replay() {
     let heads = delay_queue::heads_of(rows);
     let state = no_store();
     let start = Progress {
+        lists,
         kept: 0,
         at: 0,
         state,

@@ -12,6 +12,9 @@ slice-aggregate-answer-line c = simp length-take (omega arith)
 answer-line-requires : tie.Need-answer-line-requires
 answer-line-requires c κs = search needs
 
+show-requires : tie.Need-show-requires
+show-requires c κs = omega (arith, line-within (c .before .before .before .before .before .before .before .before .before .before .before .before .before .before .before .before .before .before .answer-line .ensures) (c .before .before .before .before .before .before .before .before .before .before .before .before .before .before .before .before .before .before .before .before .before .before .before .before .before .before .before .before .before .before .before .before .before .before .before .pre .1), c .before .before .before .before .before .before .before .before .before .before .before .before .before .before .before .before .before .before .answer-line .kept)
+
 same-length : tie.Need-same-length
 same-length c = search needs
 
@@ -37,7 +40,7 @@ returns : tie.Need-returns
 returns c = search needs
 
 flush-requires : tie.Need-flush-requires
-flush-requires c κs = omega (arith, line-within (c .before .before .before .before .before .before .before .before .before .before .before .before .before .before .before .before .before .before .answer-line .ensures) (c .before .before .before .before .before .before .before .before .before .before .before .before .before .before .before .before .before .before .before .before .before .before .before .before .before .before .before .before .before .before .before .before .before .before .before .pre .1), c .before .before .before .before .before .before .before .before .before .before .before .before .before .before .before .before .before .before .answer-line .kept)
+flush-requires c κs = search needs
 
 same-length-8 : tie.Need-same-length-8
 same-length-8 c = search needs
@@ -69,6 +72,7 @@ answer-spec =
     (tie.spec
     slice-aggregate-answer-line
     answer-line-requires
+    show-requires
     same-length
     same-length-2
     same-length-3
