@@ -23,12 +23,12 @@ use Rattle.records.specs.View.{View, withElapsed, withLists}
 use Rattle.records.specs.Records.{lastTurn, keyOf, At, Names, left, freed}
 use Rattle.queue.specs.Steps.{QueuePolls, popped, handed, nothing}
 use Rattle.records.specs.Words.{QueueWords, count, view, Sound, upd-same}
-use Rattle.queue.specs.PollLaws.{ClearedSo, clear-none, clear-turn, clear-done}
+use Rattle.queue.specs.PollLaws.{clear-done}
 use Rattle.delay_queue.specs.declared.Call.{Call}
 use Rattle.delay_queue.specs.declared.Call.the-variants as C
 use Rattle.delay_queue.specs.Claims.{ClearClaim}
 use Rattle.delay_queue.specs.Back.{taken-up}
-use Rattle.promises.specs.Met.{clear-one}
+use Rattle.promises.specs.Met.{clear-first}
 use Rattle.promises.specs.Once.{clear-once}
 use Rattle.promises.specs.Steps.{Steps, refuses, inserts, call-steps, key-inserts, out-polls}
 use Rattle.promises.specs.KeysOne.{Onward, freed-last, freed-more, wheel-promise, does-onward}
@@ -200,18 +200,10 @@ module _ {s : QueueWords} (S : Sound s) where
 
   -- ---- clear
 
-  clear-first : (k : ℕ) → k ≤ count s → (t : QueueWords) × ClearedSo s k t
-  clear-first zero h = (s, clear-none S)
-  clear-first (suc k) h =
-      let m = clear-first k (omega arith) in
-      let g : k < count (m .0) = omega (arith, m .1 .kept .links .size) in
-      let o = clear-one (m .1 .sound) g in
-      (o .0, subst (λ (i : ℕ). ClearedSo s i (o .0)) (add-one k) (clear-turn (m .1) g (o .1)))
-
   -- nobody is pending after it
   pub clear-empty : {a : Answer} {t : QueueWords} → ClearClaim s a t → (r p : ℕ) → At (view t) r p → ⊥
   clear-empty {a} {t} A r p b =
-      let m = clear-first (count s) (omega arith) in
+      let m = clear-first S (count s) (omega arith) in
       let C = m .1 in
       let e = clear-once A (taken-up S (clear-done C refl)) .1 in
       let x = rw e at b in

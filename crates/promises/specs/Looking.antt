@@ -3,7 +3,7 @@ use mathlib.Core.Path.{_≡_, refl, sym, ap, _∙_}
 use mathlib.Core.Logic.{_⊎_, inl, inr, by-cases}
 use mathlib.Core.Bool.{Bool, true}
 use mathlib.Core.List.{[]}
-use mathlib.Core.Option.{Option, none, some}
+use mathlib.Core.Option.{Option, none, some, Option·some-ne-none}
 use Prim.Native.Nat.{ℕ, _/_, _≤_, _<_}
 use native.Mathlib.Nat.{le-trans}
 use native.Mathlib.Decide.{ℕ-discrete}
@@ -110,16 +110,13 @@ module _ {s : QueueWords} {a : Answer} (W : WakeClaim s a) (S : Sound s) where
 
 -- ---- a poll before the wake
 
-some-none : {x : ℕ} → some x ≡ none → ⊥
-some-none e = let z : _≡_ {A = ℕ} 0 1 = cc in omega arith
-
 -- nothing to do, where the first slot starts past now
 idle-before : {v : View} {now : ℕ} {x y : Told} {u : View} → v .lists expired ≡ [] → Wakes v x → QueuePolls v now y u
     → ((w : ℕ) → x ≡ T.wake w → now < w) → y ≡ T.none 0 0
 idle-before n W (popped e) f = let z : _≡_ {A = ℕ} 0 1 = cc in absurd (omega arith)
-idle-before n (sleeps E) (handed e P) f = absurd (some-none (polls-one P (idle E) .got))
+idle-before n (sleeps E) (handed e P) f = absurd (Option·some-ne-none _ (polls-one P (idle E) .got))
 idle-before n (sleeps E) (nothing e P) f = let R = polls-one P (idle E) in rw (R .moves, R .drains)
-idle-before n (starts F) (handed e P) f = absurd (some-none (polls-one P (early F (f _ refl)) .got))
+idle-before n (starts F) (handed e P) f = absurd (Option·some-ne-none _ (polls-one P (early F (f _ refl)) .got))
 idle-before n (starts F) (nothing e P) f = let R = polls-one P (early F (f _ refl)) in rw (R .moves, R .drains)
 
 -- and only there
@@ -127,7 +124,7 @@ idle-first : {d : ℕ → ℕ} {now e : ℕ} {L : Lists} {got : Option ℕ} {m n
     → {k s : ℕ} → FirstSlot e L k s → now < startAt e k s
 idle-first (idle E) g h F = absurd (first-not-empty F E)
 idle-first (early G l) g h F = let q = first-one F G in rw (q .0, q .1) l
-idle-first (out G l i) g h F = absurd (some-none g)
+idle-first (out G l i) g h F = absurd (Option·some-ne-none _ g)
 idle-first (drain G l D r) g h F = absurd (omega arith)
 
 idle-only : {v : View} {now w : ℕ} {x y : Told} {u : View} → Wakes v x → QueuePolls v now y u → y ≡ T.none 0 0 → x ≡ T.wake w → now < w

@@ -259,7 +259,7 @@ clear-one {s} S {i} h =
     (_, clear-goes S h g (L .1) (F .2)))
     (λ g. (s, clear-stays S h (omega (arith, g))))
 
-clear-first : {s : QueueWords} → Sound s → (k : ℕ) → k ≤ count s → (t : QueueWords) × ClearedSo s k t
+pub clear-first : {s : QueueWords} → Sound s → (k : ℕ) → k ≤ count s → (t : QueueWords) × ClearedSo s k t
 clear-first {s} S zero h = (s, clear-none S)
 clear-first {s} S (suc k) h =
     let m = clear-first S k (omega arith) in

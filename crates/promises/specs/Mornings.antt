@@ -1,8 +1,8 @@
 -- Document 01's starred mornings, "shown of the rules themselves, gathered as a single list under a single claim" (`starred-hold`).
 use mathlib.Core.Path.{_≡_, refl, sym, ap, _∙_}
 use mathlib.Core.Logic.{_≢_, by-cases}
-use mathlib.Core.List.{List, [], _∷_}
-use mathlib.Core.Option.{none, some}
+use mathlib.Core.List.{List, [], _∷_, nil≢cons}
+use mathlib.Core.Option.{none, some, Option·some-ne-none}
 use Prim.Native.Nat.{ℕ, _+_, _-_, _%_, _≤_, _<_, max}
 use native.Mathlib.Decide.{ℕ-discrete}
 use native.Mathlib.Omega.{arith}
@@ -183,15 +183,9 @@ wakes-one v x R (starts {k} {s} F) =
 wakes-then : Holds (wakes 0 4101 4096)
 wakes-then s s′ a b value Q I W = let R = inserted Q I in wakes-one (view s′) (Q .item) (R .1) (W .good (R .0) .done)
 
-cons-not : {x : ℕ} {l : List ℕ} → [] ≡ x ∷ l → ⊥
-cons-not e = let z : _≡_ {A = ℕ} 0 1 = cc in omega arith
-
-none-some : {x : ℕ} → some x ≡ none → ⊥
-none-some e = let z : _≡_ {A = ℕ} 0 1 = cc in omega arith
-
 polls-so : (v : View) (x : ℕ) → Inserted v x → {y : Told} {u : View} → QueuePolls v 4096 y u → (y ≡ T.none 2 2) × (u .elapsed ≡ 4096)
-polls-so v x R (popped e) = absurd (cons-not (sym (R .stack) ∙ e))
-polls-so v x R (handed e P) = let A = one-polls (v .deadline) (R .deadline) (R .only) in absurd (none-some (polls-one (rw (R .clock) at P) (A .1) .got))
+polls-so v x R (popped e) = absurd (nil≢cons (sym (R .stack) ∙ e))
+polls-so v x R (handed e P) = let A = one-polls (v .deadline) (R .deadline) (R .only) in absurd (Option·some-ne-none _ (polls-one (rw (R .clock) at P) (A .1) .got))
 polls-so v x R (nothing e P) =
     let A = one-polls (v .deadline) (R .deadline) (R .only) in
     let S = polls-one (rw (R .clock) at P) (A .1) in

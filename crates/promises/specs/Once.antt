@@ -1,8 +1,8 @@
 -- Each claim allows one answer and one final content: "no second answer could satisfy it", for every input, refused calls too.
 use mathlib.Core.Path.{_≡_, refl, sym, ap, _∙_}
 use mathlib.Core.Logic.{by-cases}
-use mathlib.Core.List.{List, [], _∷_}
-use mathlib.Core.Option.{none, some}
+use mathlib.Core.List.{List, [], _∷_, nil≢cons}
+use mathlib.Core.Option.{none, some, Option·some-ne-none}
 use Prim.Native.Nat.{ℕ, _≤_, _<_}
 use native.Mathlib.Decide.{decLt}
 use native.Mathlib.Omega.{arith}
@@ -173,12 +173,6 @@ module _ {s t t′ : QueueWords} {a a′ : Answer} where
 
 -- ---- poll
 
-cons-not : {x : ℕ} {l : List ℕ} → [] ≡ x ∷ l → ⊥
-cons-not e = let z : _≡_ {A = ℕ} 0 1 = cc in omega arith
-
-some-none : {x : ℕ} → some x ≡ none → ⊥
-some-none e = let z : _≡_ {A = ℕ} 0 1 = cc in omega arith
-
 -- what a poll hands out, and the view after it
 queue-polls-one : {v : View} {now : ℕ} {x y : Told} {u w : View} → QueuePolls v now x u → QueuePolls v now y w → (x ≡ y) × (u ≡ w)
 queue-polls-one {v} (popped {r} {l} e) (popped {r = q} {l = k} f) =
@@ -186,17 +180,17 @@ queue-polls-one {v} (popped {r} {l} e) (popped {r = q} {l = k} f) =
     let a : r ≡ q = cc in
     let b : l ≡ k = cc in
     (rw a, rw (a, b))
-queue-polls-one (popped e) (handed f P) = absurd (cons-not (sym f ∙ e))
-queue-polls-one (popped e) (nothing f P) = absurd (cons-not (sym f ∙ e))
-queue-polls-one (handed e P) (popped f) = absurd (cons-not (sym e ∙ f))
+queue-polls-one (popped e) (handed f P) = absurd (nil≢cons (sym f ∙ e))
+queue-polls-one (popped e) (nothing f P) = absurd (nil≢cons (sym f ∙ e))
+queue-polls-one (handed e P) (popped f) = absurd (nil≢cons (sym e ∙ f))
 queue-polls-one {v} (handed {r} e P) (handed {r = q} f Q) =
     let S = polls-one P Q in
     let g : some r ≡ some q = S .got in
     let a : r ≡ q = cc in
     (rw (a, S .moves, S .drains), rw (a, S .elapsed, S .lists))
-queue-polls-one (handed e P) (nothing f Q) = absurd (some-none (polls-one P Q .got))
-queue-polls-one (nothing e P) (popped f) = absurd (cons-not (sym e ∙ f))
-queue-polls-one (nothing e P) (handed f Q) = absurd (some-none (polls-one Q P .got))
+queue-polls-one (handed e P) (nothing f Q) = absurd (Option·some-ne-none _ (polls-one P Q .got))
+queue-polls-one (nothing e P) (popped f) = absurd (nil≢cons (sym e ∙ f))
+queue-polls-one (nothing e P) (handed f Q) = absurd (Option·some-ne-none _ (polls-one Q P .got))
 queue-polls-one (nothing e P) (nothing f Q) =
     let S = polls-one P Q in
     (rw (S .moves, S .drains), rw (S .elapsed, S .lists))

@@ -2,7 +2,7 @@
 use mathlib.Core.Path.{_≡_, refl, sym, ap, _∙_, subst}
 use mathlib.Core.Logic.{_≢_, _⊎_, inl, inr, ⊎-elim, by-cases}
 use mathlib.Core.Bool.{Bool, true, false, cond, true≢false}
-use mathlib.Core.List.{List, [], _∷_, _++_, reverse, reverseAux, reverseAux-eq, reverse-reverse}
+use mathlib.Core.List.{List, [], _∷_, _++_, reverse, reverseAux, reverseAux-eq, reverse-reverse, nil≢cons}
 use mathlib.Core.Option.{some}
 use Prim.Native.Nat.{ℕ, zero, suc, _/_, _%_, _≤_, _<_}
 use native.Mathlib.Decide.{ℕ-discrete}
@@ -27,7 +27,7 @@ use Rattle.queue.specs.Steps.{QueuePolls, popped, handed, nothing}
 use Rattle.records.specs.Words.{QueueWords, elapsed, markOf, view, Sound}
 use Rattle.records.specs.Laws.{mark-at}
 use Rattle.delay_queue.specs.Claims.{PollClaim}
-use Rattle.promises.specs.Polling.{freed-beside, key-of-names}
+use Rattle.promises.specs.Polling.{none-out, freed-beside, key-of-names}
 
 -- ---- what is said
 
@@ -235,12 +235,6 @@ pub record PollOrder (v : View) (x : Told) (u : View) : Type 0 where
   pub equals : (k w d m n r p : ℕ) → x ≡ T.out k w d m n → Names v k r p → p < slots
       → (q : ℕ) × (q < 64) × (turned (p / 64) (ofDeadline (v .deadline) d (v .lists p)) ≡ r ∷ ofDeadline (v .deadline) d (u .lists q))
 
-cons-not : {x : ℕ} {l : List ℕ} → [] ≡ x ∷ l → ⊥
-cons-not e = let z : _≡_ {A = ℕ} 0 1 = cc in omega arith
-
-none-out : {m n k w d i j : ℕ} → T.none m n ≡ T.out k w d i j → ⊥
-none-out e = let z : _≡_ {A = ℕ} 0 1 = cc in omega arith
-
 module _ {s : QueueWords} (S : Sound s) where
   -- the key of a pending record names it, and it alone, in its place
   names-it : {i q k r p : ℕ} → At (view s) i q → keyOf (view s) i ≡ k → Names (view s) k r p → (i ≡ r) × (q ≡ p)
@@ -275,7 +269,7 @@ module _ {s : QueueWords} (S : Sound s) where
         let O = polls-order (rule-between (S .rule)) P in
         let a : At v r (O .place) = record { timed = omega (arith, O .below); member = O .member } in
         record {
-          stack = λ i j f. absurd (cons-not (sym empty ∙ f));
+          stack = λ i j f. absurd (nil≢cons (sym empty ∙ f));
           head = λ k w d m₁ n₁ i p is N h.
               let f : keyOf v r ≡ k = cc in
               let z : r ≡ i = names-it a f N .0 in
@@ -289,7 +283,7 @@ module _ {s : QueueWords} (S : Sound s) where
         }
     order-of (nothing empty P) =
         record {
-          stack = λ i j f. absurd (cons-not (sym empty ∙ f));
+          stack = λ i j f. absurd (nil≢cons (sym empty ∙ f));
           head = λ k w d m n i p is N h. absurd (none-out is);
           equals = λ k w d m n i p is N h. absurd (none-out is);
         }

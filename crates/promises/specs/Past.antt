@@ -5,12 +5,12 @@ use mathlib.Core.Bool.{Bool, true, false, not, _&&_, true≢false}
 use mathlib.Core.List.{List, [], _∷_}
 use Prim.Native.Nat.{ℕ, _≤_}
 use native.Mathlib.Omega.{arith}
-use Rattle.links.specs.Laws.{Kept, kept-refl, kept-trans, links-refl, links-trans}
+use Rattle.links.specs.Laws.{Kept, kept-trans, links-trans}
 use Rattle.records.specs.Words.{QueueWords, count}
 use Rattle.delay_queue.specs.declared.Call.{Call}
 use Rattle.delay_queue.specs.declared.Call.the-variants as C
 use Rattle.delay_queue.specs.Claims.{PastKept, CallClaim}
-use Rattle.promises.specs.Step.{reach}
+use Rattle.promises.specs.Step.{reach, past-refl}
 use Rattle.promises.specs.Refused.{step-size}
 use Rattle.promises.specs.Runs.{Asked, Runs, rest, next, All, NoFormat, accepted, isFormat}
 
@@ -45,15 +45,6 @@ past-beyond h P =
       values = kept-beyond h (P .values);
       deadlines = kept-beyond h (P .deadlines);
       turns = kept-beyond h (P .turns);
-    }
-
-past-refl : (m : ℕ) (s : QueueWords) → PastKept m s s
-past-refl m s =
-    record {
-      links = links-refl m (s .wheel .stack .links);
-      values = kept-refl m (s .values);
-      deadlines = kept-refl m (s .deadlines);
-      turns = kept-refl m (s .turns);
     }
 
 past-trans : {m : ℕ} {s t u : QueueWords} → PastKept m s t → PastKept m t u → PastKept m s u

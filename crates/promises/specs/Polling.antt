@@ -11,7 +11,7 @@ use Rattle.links.specs.Lists.{Mem, Nodup, change, change-other}
 use Rattle.stack.specs.Places.{slots, expired, free, put}
 use Rattle.stack.specs.Laws as stack
 use Rattle.wheel.specs.Wheel.{Lists, Rule}
-use Rattle.wheel.specs.Sums.{sumOf, total, total-ext, total-less, hits, lies-times, times-lies}
+use Rattle.wheel.specs.Sums.{sumOf, total, total-ext, total-less, hits, mem-sum, lies-times, times-lies}
 use Rattle.wheel.specs.Between.{rule-between}
 use Rattle.wheel.specs.Drain.{heights, amount}
 use Rattle.wheel.specs.Poll.{given, Fair, clockAfter, Promise, poll-law}
@@ -88,13 +88,6 @@ unfolding amount
 weigh-split w L = total-last (λ p x. w x) 384 L
 
 -- nobody lies twice in the lists of a sound store
-mem-sum : (y : ℕ) (l : List ℕ) → 0 < sumOf (hits y) l → Mem y l
-mem-sum y [] h = absurd (omega arith)
-mem-sum y (x ∷ l) h = by-cases (ℕ-discrete x y) (λ e. inl (sym e)) (λ d. inr (mem-sum y l (omega (arith, miss d, h))))
-  where
-    miss : x ≢ y → hits y x ≡ 0
-    miss d = rw (ne-eqb x y d)
-
 sum-once : (y : ℕ) (l : List ℕ) → Nodup l → sumOf (hits y) l ≤ 1
 sum-once y [] n = omega arith
 sum-once y (x ∷ l) n = by (ℕ-discrete x y) (decLe 1 (sumOf (hits y) l)) (sum-once y l (n .1))
@@ -308,7 +301,7 @@ drainsOf T.never = 0
 drainsOf (T.len n) = 0
 drainsOf (T.no n) = 0
 
-none-out : {m n k w d i j : ℕ} → T.none m n ≡ T.out k w d i j → ⊥
+pub none-out : {m n k w d i j : ℕ} → T.none m n ≡ T.out k w d i j → ⊥
 none-out e = let z : _≡_ {A = ℕ} 0 1 = cc in omega arith
 
 pub stays-key : {v u : View} {y : ℕ} → Stays v u y → keyOf u y ≡ keyOf v y

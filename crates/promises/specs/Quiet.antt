@@ -1,7 +1,7 @@
 -- A store where nothing is pending: format leaves one, a poll takes it to any time. So the mornings and the refusals have stores to speak of.
 use mathlib.Core.Path.{_≡_, refl, sym, ap, _∙_}
-use mathlib.Core.List.{List, [], _∷_}
-use mathlib.Core.Option.{none, some}
+use mathlib.Core.List.{List, [], _∷_, nil≢cons}
+use mathlib.Core.Option.{none, some, Option·some-ne-none}
 use mathlib.Core.Logic.{inl}
 use Prim.Native.Nat.{ℕ, zero, suc, _≤_, _<_, max}
 use native.Mathlib.Omega.{arith}
@@ -31,12 +31,6 @@ pub record Quiet (s : QueueWords) (e : ℕ) : Type 0 where
   pub rest : List ℕ
   pub first : view s .lists free ≡ item ∷ rest
 
-cons-not : {x : ℕ} {l : List ℕ} → [] ≡ x ∷ l → ⊥
-cons-not e = let z : _≡_ {A = ℕ} 0 1 = cc in omega arith
-
-some-none : {x : ℕ} → some x ≡ none → ⊥
-some-none e = let z : _≡_ {A = ℕ} 0 1 = cc in omega arith
-
 -- format leaves one at 0
 pub quiet-format : {s t : QueueWords} {a : Answer} {n turn : ℕ} → FormatClaim s n turn a t → Fits s n → InRange turn → Quiet t 0
 unfolding range
@@ -56,8 +50,8 @@ quiet-format {s} {t} {n = suc n} F x y =
 -- and a poll takes it to any time
 quiet-polls : {v : View} {now : ℕ} → ((p : ℕ) → p < free → v .lists p ≡ []) → {y : Told} {u : View} → QueuePolls v now y u
     → (u .elapsed ≡ now) × (u .lists ≡ v .lists)
-quiet-polls E (popped e) = absurd (cons-not (sym (E expired (omega arith)) ∙ e))
-quiet-polls E (handed e P) = absurd (some-none (polls-one P (idle (λ q h. E q (omega arith))) .got))
+quiet-polls E (popped e) = absurd (nil≢cons (sym (E expired (omega arith)) ∙ e))
+quiet-polls E (handed e P) = absurd (Option·some-ne-none _ (polls-one P (idle (λ q h. E q (omega arith))) .got))
 quiet-polls E (nothing e P) = let S = polls-one P (idle (λ q h. E q (omega arith))) in (S .elapsed, S .lists)
 
 pub quiet-poll : {s t : QueueWords} {a : Answer} {e now : ℕ} → Quiet s e → e ≤ now → PollClaim s now a t → Quiet t now

@@ -25,7 +25,7 @@ use Rattle.delay_queue.specs.Claims.{Fits, InRange, PastKept, FormatClaim, Judg
 use Rattle.records.specs.Cases.{by-deadline}
 use Rattle.promises.specs.Decided.{sound-dec, fits-dec, range-dec}
 use Rattle.promises.specs.Quiet.{expired-shown}
-use Rattle.promises.specs.Step.{isNo, reach, refusal-same}
+use Rattle.promises.specs.Step.{isNo, reach, polls-says, wakes-says, refusal-same}
 use Rattle.promises.specs.Once.{all-past}
 
 -- ---- the table
@@ -107,15 +107,6 @@ dead-names : {v : View} {key : ℕ} → Dead v key → (r p : ℕ) → Names v k
 dead-names (beyond h) r p N = omega (arith, N .number, N .below)
 dead-names {v} (absent f) r p N = f p (rw (N .number) at (N .pending))
 dead-names {v} (stale d) r p N = d (rw (N .number) at (N .turn))
-
-polls-told : {v : View} {now : ℕ} {x : Told} {u : View} → QueuePolls v now x u → isNo x ≡ false
-polls-told (popped e) = refl
-polls-told (handed e P) = refl
-polls-told (nothing e P) = refl
-
-wakes-told : {v : View} {x : Told} → Wakes v x → isNo x ≡ false
-wakes-told (sleeps E) = refl
-wakes-told (starts F) = refl
 
 -- the call is refused as the lines say, or meets none of them and is not refused. n records' words may have changed, and n are the records after it
 data Settled (n : ℕ) (s : QueueWords) (a : Answer) (t : QueueWords) (l : Lines) : Type 0 where
@@ -202,8 +193,8 @@ settled (C.Poll now) s a t A =
     judged A (λ S P.
     by-cases (decLt now (elapsed s))
     (λ h. stop h (P .back h))
-    (λ h. pass h (let d = P .done (omega (arith, h)) in accepted (λ k x. x) (polls-told (d .1)) (d .2 .links .size) (all-past (d .2)))))
-settled C.Wake s a t A = looks (A .1) (judged (A .0) (λ S W. looked (wakes-told (W .done))))
+    (λ h. pass h (let d = P .done (omega (arith, h)) in accepted (λ k x. x) (polls-says (d .1)) (d .2 .links .size) (all-past (d .2)))))
+settled C.Wake s a t A = looks (A .1) (judged (A .0) (λ S W. looked (wakes-says (W .done))))
 settled C.Length s a t A = looks (A .1) (judged (A .0) (λ S W. looked (ap isNo (W .done))))
 settled C.Clear s a t A = judged A (λ S K. done-so refl (K .done))
 

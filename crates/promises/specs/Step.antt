@@ -97,12 +97,12 @@ looks {s} S e = accepted (record { says = e; sound = S; kept = all-past (all-ref
 left-so : {s t : QueueWords} {a : Answer} → t ≡ s → Ends (count s) s a s → Ends (count s) s a t
 left-so {s} {t} {a} e E = subst (λ (u : QueueWords). Ends (count s) s a u) (sym e) E
 
-polls-says : {v : View} {now : ℕ} {x : Told} {u : View} → QueuePolls v now x u → isNo x ≡ false
+pub polls-says : {v : View} {now : ℕ} {x : Told} {u : View} → QueuePolls v now x u → isNo x ≡ false
 polls-says (popped e) = refl
 polls-says (handed e P) = refl
 polls-says (nothing e P) = refl
 
-wakes-says : {v : View} {x : Told} → Wakes v x → isNo x ≡ false
+pub wakes-says : {v : View} {x : Told} → Wakes v x → isNo x ≡ false
 wakes-says (sleeps E) = refl
 wakes-says (starts F) = refl
 
@@ -159,6 +159,15 @@ step-ends C.Wake s a t A = left-so (A .1) (judging-ends (A .0) (λ S W. looks S 
 step-ends C.Length s a t A = left-so (A .1) (judging-ends (A .0) (λ S W. looks S (ap isNo (W .done))))
 step-ends C.Clear s a t A = judging-ends A (λ S K. answered refl (K .done))
 
+pub past-refl : (m : ℕ) (s : QueueWords) → PastKept m s s
+past-refl m s =
+    record {
+      links = links-refl m (s .wheel .stack .links);
+      values = kept-refl m (s .values);
+      deadlines = kept-refl m (s .deadlines);
+      turns = kept-refl m (s .turns);
+    }
+
 -- ---- what follows
 
 module _ (c : Call) (s : QueueWords) (a : Answer) (t : QueueWords) (A : CallClaim c s a t) where
@@ -174,17 +183,8 @@ module _ (c : Call) (s : QueueWords) (a : Answer) (t : QueueWords) (A : CallClai
   pub past-kept : PastKept (reach c s) s t
   past-kept = by (step-ends c s a t A)
     where
-      all : (n : ℕ) → PastKept n s s
-      all n =
-          record {
-            links = links-refl n (s .wheel .stack .links);
-            values = kept-refl n (s .values);
-            deadlines = kept-refl n (s .deadlines);
-            turns = kept-refl n (s .turns);
-          }
-
       by : Ends (reach c s) s a t → PastKept (reach c s) s t
-      by (refused k R) = rw (R .same) (all (reach c s))
+      by (refused k R) = rw (R .same) (past-refl (reach c s) s)
       by (accepted B) = B .kept
 
   -- "A refusal answers its number alone; every lent slice stays word for word the same, and the state that went in by value is handed back equal."

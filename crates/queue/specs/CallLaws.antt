@@ -1,7 +1,7 @@
 -- The calls, put together from one-record steps: what the proofs of the functions cite.
 use mathlib.Core.Path.{_≡_, refl, sym, ap, _∙_}
 use mathlib.Core.Logic.{_≢_}
-use mathlib.Core.List.{List, [], _∷_}
+use mathlib.Core.List.{List, [], _∷_, nil≢cons}
 use mathlib.Core.Option.{some}
 use Prim.Native.Nat.{ℕ, _+_, _*_, _^_, _<_}
 use native.Mathlib.Omega.{arith}
@@ -24,9 +24,6 @@ use Rattle.records.specs.Words.{QueueWords, queueWords, count, elapsed, markOf,
 use Rattle.queue.specs.Calls.{Answered, InsertOn, ResetOn, RemoveOn}
 use Rattle.records.specs.Laws.{Goes, LooseAt, goes-taken, goes-valued, can-leave, goes-left, CanPlace, PlacesTo, goes-placed, CanFree, LeavesTo, goes-freed}
 use Rattle.records.specs.Code.{DeadlineNo, Roomed, KeyIs, key-names, names-key}
-
-cons-not : {x : ℕ} {l : List ℕ} → [] ≡ x ∷ l → ⊥
-cons-not e = let z : _≡_ {A = ℕ} 0 1 = cc in omega arith
 
 pub goes-then : {s s₁ s₂ : QueueWords} {v : View} (f : View → View) → Goes s v s₁ → Goes s₁ (f (view s₁)) s₂ → Goes s (f v) s₂
 goes-then f G H = record { sound = H .sound; view = H .view ∙ ap f (G .view); kept = all-trans (G .kept) (H .kept) }
@@ -52,9 +49,9 @@ module _ {s : QueueWords} (S : Sound s) (value when : ℕ) where
       let e = none-free z in
       record {
         full = λ f. record { told = refl; same = refl };
-        far = λ r l f. absurd (cons-not (sym e ∙ f));
-        other = λ r l f. absurd (cons-not (sym e ∙ f));
-        done = λ r l f. absurd (cons-not (sym e ∙ f));
+        far = λ r l f. absurd (nil≢cons (sym e ∙ f));
+        other = λ r l f. absurd (nil≢cons (sym e ∙ f));
+        done = λ r l f. absurd (nil≢cons (sym e ∙ f));
       }
 
   module _ (some : s .wheel .stack .stacks .free ≢ nobody) {n : ℕ} (D : DeadlineNo (elapsed s) when n) where
@@ -63,7 +60,7 @@ module _ {s : QueueWords} (S : Sound s) (value when : ℕ) where
     insert-refused d =
         let c = some-free some in
         record {
-          full = λ f. absurd (cons-not (sym f ∙ c .2));
+          full = λ f. absurd (nil≢cons (sym f ∙ c .2));
           far = λ r l f g. record { told = ap no (D .far g); same = refl };
           other = λ r l f g. record { told = ap no (D .other g); same = refl };
           done = λ r l f g. absurd (d (D .near g));
@@ -113,7 +110,7 @@ module _ {s : QueueWords} (S : Sound s) (value when : ℕ) where
       insert-done k ek {u} {ds} P =
           let G₃ = goes-then (placed item when) G₂ (goes-placed (G₂ .sound) loose₁ when near P) in
           record {
-            full = λ f. absurd (cons-not (sym f ∙ was));
+            full = λ f. absurd (nil≢cons (sym f ∙ was));
             far = λ r l f g. absurd (omega (arith, z, D .far g));
             other = λ r l f g. absurd (omega (arith, z, D .other g));
             done = λ r l f g.

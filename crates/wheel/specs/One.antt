@@ -1,6 +1,6 @@
 -- A drain, and a poll of the wheel, do one thing only: two that begin alike end alike.
 use mathlib.Core.Path.{_≡_, refl, sym, ap, _∙_}
-use mathlib.Core.List.{List, [], _∷_}
+use mathlib.Core.List.{List, [], _∷_, nil≢cons}
 use mathlib.Core.Option.{Option, some}
 use Prim.Native.Nat.{ℕ, suc, _≤_, _<_}
 use native.Mathlib.Omega.{arith}
@@ -10,17 +10,14 @@ use Rattle.stack.specs.Places.{slotPlace}
 use Rattle.wheel.specs.Wheel.{Lists, FirstSlot, arrive, Drains, drained, moved, Polls, idle, early, out, drain}
 use Rattle.wheel.specs.Next.{first-one, first-not-empty}
 
-cons-not : {x : ℕ} {l : List ℕ} → [] ≡ x ∷ l → ⊥
-cons-not e = let z : _≡_ {A = ℕ} 0 1 = cc in omega arith
-
 zero-suc : {k : ℕ} → 0 ≡ suc k → ⊥
 zero-suc e = omega arith
 
 module _ {d : ℕ → ℕ} {k p : ℕ} where
   pub drains-one : {L M N : Lists} {m n : ℕ} → Drains d k p L m M → Drains d k p L n N → (m ≡ n) × (M ≡ N)
   drains-one (drained e) (drained f) = (refl, refl)
-  drains-one (drained e) (moved f s) = absurd (cons-not (sym e ∙ f))
-  drains-one (moved e r) (drained f) = absurd (cons-not (sym f ∙ e))
+  drains-one (drained e) (moved f s) = absurd (nil≢cons (sym e ∙ f))
+  drains-one (moved e r) (drained f) = absurd (nil≢cons (sym f ∙ e))
   drains-one (moved {L} {M} {m} {x} {l} e r) (moved {M = N} {m = n} {x = y} {l = j} f s) =
       let z : x ∷ l ≡ y ∷ j = sym e ∙ f in
       let a : x ≡ y = cc in

@@ -130,7 +130,7 @@ sum-mem y [] m = absurd m
 sum-mem y (x ∷ l) (inl e) = omega (arith, hit x y (sym e))
 sum-mem y (x ∷ l) (inr m) = omega (arith, sum-mem y l m)
 
-mem-sum : (y : ℕ) (l : List ℕ) → 0 < sumOf (hits y) l → Mem y l
+pub mem-sum : (y : ℕ) (l : List ℕ) → 0 < sumOf (hits y) l → Mem y l
 mem-sum y [] h = absurd (omega arith)
 mem-sum y (x ∷ l) h = by-cases (ℕ-discrete x y) (λ e. inl (sym e)) (λ d. inr (mem-sum y l (omega (arith, miss x y d, h))))
 

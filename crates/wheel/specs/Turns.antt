@@ -3,7 +3,7 @@
 use mathlib.Core.Path.{_≡_, refl, sym, ap, _∙_, subst}
 use mathlib.Core.Logic.{_≢_, inl}
 use mathlib.Core.Bool.{cond}
-use mathlib.Core.List.{List, [], _∷_}
+use mathlib.Core.List.{List, [], _∷_, nil≢cons}
 use mathlib.Core.Option.{Option, none, some}
 use Prim.Native.Nat.{ℕ, zero, suc, _+_, _-_, _/_, _≤_, _<_}
 use native.Mathlib.Omega.{arith}
@@ -83,14 +83,11 @@ module _ {t : WheelWords} {p item : ℕ} {u : WheelWords} (W : WheelWhole t) (Q 
       by [] e = absurd (d (Q .none e .0))
       by (x ∷ l) e = (l, e ∙ ap (λ (y : ℕ). y ∷ l) (sym (Q .some x l e .0)))
 
-cons-not : {x : ℕ} {l : List ℕ} → [] ≡ x ∷ l → ⊥
-cons-not e = let z : _≡_ {A = ℕ} 0 1 = cc in omega arith
-
 module _ {t : WheelWords} {ds : List ℕ} {k s : ℕ} (C : CanMove t ds k s) {item : ℕ} {u : WheelWords} (Q : Pops t (slotPlace k s) item u) where
   pub moved-none : item ≡ nobody → MovesOne (at ds) t (k - 1) (slotPlace k s) item u
   moved-none z =
       let e = popped-empty (C .pop .whole) Q z in
-      record { none = λ f. Q .none f; some = λ x l f. absurd (cons-not (sym e ∙ f)) }
+      record { none = λ f. Q .none f; some = λ x l f. absurd (nil≢cons (sym e ∙ f)) }
 
   module _ (some : item ≢ nobody) where
     was : (l : List ℕ) × (lists t (slotPlace k s) ≡ item ∷ l)
@@ -111,7 +108,7 @@ module _ {t : WheelWords} {ds : List ℕ} {k s : ℕ} (C : CanMove t ds k s) {it
         let A : Becomes u (arrive (k - 1) (at ds item) item (change (lists t) (slotPlace k s) (was .0))) v
         = subst (λ (L : Lists). Becomes u (arrive (k - 1) (at ds item) item L) v) (r .2 .lists) (subst (λ (z : ℕ). Becomes u (arrive (k - 1) z item (lists u)) v) ew B) in
         record {
-          none = λ f. absurd (cons-not (sym f ∙ was .1));
+          none = λ f. absurd (nil≢cons (sym f ∙ was .1));
           some = λ x l f.
               let e : item ∷ was .0 ≡ x ∷ l = sym (was .1) ∙ f in
               let a : item ≡ x = cc in

@@ -2,7 +2,7 @@
 use mathlib.Core.Path.{_≡_, refl, sym, ap, _∙_, subst}
 use mathlib.Core.Logic.{_≢_, inl, by-cases}
 use mathlib.Core.Bool.{true, false}
-use mathlib.Core.List.{List, [], _∷_}
+use mathlib.Core.List.{List, [], _∷_, nil≢cons}
 use Prim.Native.Nat.{ℕ, _/_, _%_, _≤_, _<_}
 use native.Mathlib.Decide.{ℕ-discrete}
 use native.Mathlib.Omega.{arith}
@@ -141,9 +141,6 @@ pub record Pops (t : WheelWords) (p item : ℕ) (t′ : WheelWords) : Type 0 whe
   pub none : lists t p ≡ [] → (item ≡ nobody) × Becomes t (lists t) t′
   pub some : (x : ℕ) (l : List ℕ) → lists t p ≡ x ∷ l → (item ≡ x) × LooseIn t′ x × Becomes t (change (lists t) p l) t′
 
-cons-not : {x : ℕ} {l : List ℕ} → [] ≡ x ∷ l → ⊥
-cons-not e = let z : _≡_ {A = ℕ} 0 1 = cc in omega arith
-
 module _ {t : WheelWords} (W : WheelWhole t) (p item : ℕ) (ei : item ≡ headAt t p) {u : StackWords} (eu : u ≡ pop (t .stack) p) where
   -- nobody was there
   pub popped-none : item ≡ nobody → Pops t p item (wheelWords (t .elapsed) (t .occupied) u)
@@ -152,7 +149,7 @@ module _ {t : WheelWords} (W : WheelWhole t) (p item : ℕ) (ei : item ≡ headA
       let y : u ≡ t .stack = eu ∙ stack.pop-empty (W .stack) p e .1 in
       record {
         none = λ g. (z, rw y (record { whole = W; lists = refl; elapsed = refl; kept = stack.kept-refl (t .stack) }));
-        some = λ x l g. absurd (cons-not (sym e ∙ g));
+        some = λ x l g. absurd (nil≢cons (sym e ∙ g));
       }
 
   module _ (some : item ≢ nobody) where
@@ -169,7 +166,7 @@ module _ {t : WheelWords} (W : WheelWhole t) (p item : ℕ) (ei : item ≡ headA
     pops : {occ : List ℕ} → Becomes t (change (lists t) p (was .0)) (wheelWords (t .elapsed) occ u) → Pops t p item (wheelWords (t .elapsed) occ u)
     pops {occ} B =
         record {
-          none = λ g. absurd (cons-not (sym g ∙ was .1));
+          none = λ g. absurd (nil≢cons (sym g ∙ was .1));
           some = λ x l g.
               let e : item ∷ was .0 ≡ x ∷ l = sym (was .1) ∙ g in
               let a : item ≡ x = cc in
