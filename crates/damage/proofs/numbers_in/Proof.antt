@@ -1,0 +1,68 @@
+-- `numbers_in` meets its contract: every turn takes one number.
+use borrow.Author.Needs.{needs}
+use mathlib.Core.Path.{_≡_}
+use Prim.Native.Nat.{_≤_, _-_}
+use lib.ListN.{length}
+use Rattle.damage.proofs.numbers_in.Statement.{statement}
+use Rattle.damage.proofs.numbers_in.Tie as tie
+
+abbrev Inv-loop : tie.InvT-loop
+Inv-loop image from numbers₀ i₀ numbers i = (i ≤ 12) × (length numbers ≡ 1025)
+
+abbrev μ-loop : tie.MeasureT-loop
+μ-loop image from numbers₀ i₀ numbers i = 12 - i
+
+numbers-requires : tie.Need-numbers-requires Inv-loop μ-loop
+numbers-requires c κs = search needs
+
+loop-holds : tie.Need-loop-holds Inv-loop μ-loop
+loop-holds c = search needs
+
+add-narrow : tie.Need-add-narrow Inv-loop μ-loop
+add-narrow c = search needs
+
+mul-narrow : tie.Need-mul-narrow Inv-loop μ-loop
+mul-narrow c = search needs
+
+element-copy-out-narrow : tie.Need-element-copy-out-narrow Inv-loop μ-loop
+element-copy-out-narrow c = search needs
+
+narrow-requires : tie.Need-narrow-requires Inv-loop μ-loop
+narrow-requires c κs = search needs
+
+mul-numbers : tie.Need-mul-numbers Inv-loop μ-loop
+mul-numbers c = search needs
+
+array-write-numbers : tie.Need-array-write-numbers Inv-loop μ-loop
+array-write-numbers c = search needs
+
+add-i : tie.Need-add-i Inv-loop μ-loop
+add-i c = search needs
+
+loop-less : tie.Need-loop-less Inv-loop μ-loop
+loop-less c = search needs
+
+loop-again : tie.Need-loop-again Inv-loop μ-loop
+loop-again c = search needs
+
+returns : tie.Need-returns Inv-loop μ-loop
+returns c = search needs
+
+pub numbers-in-spec : {M : Type 1} → statement M
+numbers-in-spec =
+    tie.close
+    (tie.spec
+    Inv-loop
+    μ-loop
+    numbers-requires
+    loop-holds
+    add-narrow
+    mul-narrow
+    element-copy-out-narrow
+    narrow-requires
+    mul-numbers
+    array-write-numbers
+    add-i
+    loop-less
+    loop-again
+    returns)

@@ -1,0 +1,512 @@
+// Every word of a store in one row, so that a damage is one number changed, and one comparison tells what a call changed.
+use delay_queue::Call;
+use libc::STDOUT_FILENO;
+use queue::Answer;
+use stack::Stacks;
+use wheel::Wheel;
+ghost use mathlib.Core.Path.{_≡_};
+ghost use Prim.Native.Nat.{_-_, _≤_, _<_};
+ghost use lib.ListN.{length};
+
+// Where each part begins in the row. Of the 1,025 words of a slice the row has the first 12; the store's 9 records need 9.
+pub const VALUES: usize = 0;
+
+pub const DEADLINES: usize = 12;
+
+pub const NEXTS: usize = 24;
+
+pub const PREVS: usize = 36;
+
+pub const TURNS: usize = 48;
+
+pub const MARKS: usize = 60;
+
+pub const N: usize = 72;
+
+pub const ELAPSED: usize = 73;
+
+pub const EXPIRED: usize = 74;
+
+pub const FREE: usize = 75;
+
+pub const OCCUPIED: usize = 76;
+
+pub const HEADS: usize = 82;
+
+// One number for the words of the slices that the row does not have: 0 while they are as they were made.
+const REST: usize = 466;
+
+pub type Image = [u64; 467];
+
+// How many calls answered no 2, and how many left every word as it was.
+struct Seen {
+    refused: u64,
+    kept: u64,
+}
+
+// Words that no call has written yet.
+fn blank(x: u64) -> Image
+    ensures { λ r. ⌜ length r ≡ 467 ⌝ }
+{
+    [x; 467]
+}
+
+// The contracts give the lengths alone, so that no proof meets the words. A record of such words is a retired one: its turn is in
+// range, its links and its mark are nobody.
+fn words() -> [u64; 1025]
+    ensures { λ r. ⌜ length r ≡ 1025 ⌝ }
+{
+    [65535; 1025]
+}
+
+fn numbers() -> [u16; 1025]
+    ensures { λ r. ⌜ length r ≡ 1025 ⌝ }
+{
+    [links::NOBODY; 1025]
+}
+
+// 0 where all words but the first 12 are as `words` made them.
+fn words_rest(words: &[u64; 1025]) -> u64
+    ensures { λ r. ⌜ r ≤ 1 ⌝ }
+{
+    let mut i: usize = 12;
+    while i < 1025 {
+        if words[i] != 65535 {
+            return 1;
+        }
+        i += 1;
+    }
+    0
+}
+
+fn numbers_rest(numbers: &[u16; 1025]) -> u64
+    ensures { λ r. ⌜ r ≤ 1 ⌝ }
+{
+    let mut i: usize = 12;
+    while i < 1025 {
+        if numbers[i] != links::NOBODY {
+            return 1;
+        }
+        i += 1;
+    }
+    0
+}
+
+fn wide(x: u16) -> u64 {
+    x as u64
+}
+
+fn narrow(x: u64) -> u16 {
+    (x % 65536) as u16
+}
+
+fn words_in(image: &Image, from: usize) -> [u64; 1025]
+    requires { ⌜ from ≤ 454 ⌝ }
+    ensures { λ r. ⌜ length r ≡ 1025 ⌝ }
+{
+    let mut words = words();
+    let mut i: usize = 0;
+    while i < 12 {
+        words[i] = image[from + i];
+        i += 1;
+    }
+    words
+}
+
+fn numbers_in(image: &Image, from: usize) -> [u16; 1025]
+    requires { ⌜ from ≤ 454 ⌝ }
+    ensures { λ r. ⌜ length r ≡ 1025 ⌝ }
+{
+    let mut numbers = numbers();
+    let mut i: usize = 0;
+    while i < 12 {
+        numbers[i] = narrow(image[from + i]);
+        i += 1;
+    }
+    numbers
+}
+
+fn state_in(image: &Image) -> Wheel {
+    let mut occupied = [0u64; 6];
+    occupied[0] = image[OCCUPIED];
+    occupied[1] = image[OCCUPIED + 1];
+    occupied[2] = image[OCCUPIED + 2];
+    occupied[3] = image[OCCUPIED + 3];
+    occupied[4] = image[OCCUPIED + 4];
+    occupied[5] = image[OCCUPIED + 5];
+    let stacks = Stacks {
+        n: narrow(image[N]),
+        expired: narrow(image[EXPIRED]),
+        free: narrow(image[FREE]),
+    };
+    Wheel {
+        elapsed: image[ELAPSED],
+        occupied,
+        stacks,
+    }
+}
+
+fn heads_in(image: &Image) -> [[u16; 64]; 6] {
+    let mut heads = [[0u16; 64]; 6];
+    let mut i: usize = 0;
+    while i < 384 {
+        put_head(&mut heads, i, narrow(image[HEADS + i]));
+        i += 1;
+    }
+    heads
+}
+
+fn put_head(heads: &mut [[u16; 64]; 6], i: usize, x: u16)
+    requires { ⌜ i < 384 ⌝ }
+{
+    let k = i / 64;
+    let s = i % 64;
+    heads[k][s] = x;
+}
+
+fn note_words(image: &mut Image, from: usize, words: &[u64; 1025])
+    requires { ⌜ from ≤ 454 ⌝ }
+{
+    let mut i: usize = 0;
+    while i < 12 {
+        image[from + i] = words[i];
+        i += 1;
+    }
+    image[REST] = image[REST] | words_rest(words);
+}
+
+fn note_numbers(image: &mut Image, from: usize, numbers: &[u16; 1025])
+    requires { ⌜ from ≤ 454 ⌝ }
+{
+    let mut i: usize = 0;
+    while i < 12 {
+        image[from + i] = wide(numbers[i]);
+        i += 1;
+    }
+    image[REST] = image[REST] | numbers_rest(numbers);
+}
+
+fn note_state(image: &mut Image, state: Wheel) {
+    let occupied = state.occupied;
+    image[OCCUPIED] = occupied[0];
+    image[OCCUPIED + 1] = occupied[1];
+    image[OCCUPIED + 2] = occupied[2];
+    image[OCCUPIED + 3] = occupied[3];
+    image[OCCUPIED + 4] = occupied[4];
+    image[OCCUPIED + 5] = occupied[5];
+    let stacks = state.stacks;
+    image[N] = wide(stacks.n);
+    image[EXPIRED] = wide(stacks.expired);
+    image[FREE] = wide(stacks.free);
+    image[ELAPSED] = state.elapsed;
+}
+
+fn note_heads(image: &mut Image, heads: &[[u16; 64]; 6]) {
+    let mut i: usize = 0;
+    while i < 384 {
+        let k = i / 64;
+        let s = i % 64;
+        image[HEADS + i] = wide(heads[k][s]);
+        i += 1;
+    }
+}
+
+// A slice that is lent in part: where it begins in the row, and how many of its words are lent.
+struct Part {
+    slice: usize,
+    size: usize,
+}
+
+// All of every slice: none of the six begins there.
+fn whole() -> Part {
+    Part {
+        slice: REST,
+        size: 0,
+    }
+}
+
+// How many words of a slice are lent.
+fn lent(slice: usize, part: Part) -> usize
+    ensures { λ r. ⌜ r ≤ 1025 ⌝ }
+{
+    if slice != part.slice {
+        return 1025;
+    }
+    if 1025 < part.size {
+        return 1025;
+    }
+    part.size
+}
+
+fn is_no_2(answer: Answer) -> bool {
+    match answer {
+        Answer::No(number) => number == 2,
+        _ => false,
+    }
+}
+
+// Asks the call of the store in the row, which becomes the store after the call, and says whether it answered no 2.
+fn ask(image: &mut Image, part: Part, call: Call) -> bool {
+    let mut values = words_in(image, VALUES);
+    let mut deadlines = words_in(image, DEADLINES);
+    let mut nexts = numbers_in(image, NEXTS);
+    let mut prevs = numbers_in(image, PREVS);
+    let mut turns = words_in(image, TURNS);
+    let mut marks = numbers_in(image, MARKS);
+    let reply = step::step(
+        state_in(image),
+        heads_in(image),
+        &mut values[0..lent(VALUES, part)],
+        &mut deadlines[0..lent(DEADLINES, part)],
+        &mut nexts[0..lent(NEXTS, part)],
+        &mut prevs[0..lent(PREVS, part)],
+        &mut turns[0..lent(TURNS, part)],
+        &mut marks[0..lent(MARKS, part)],
+        call,
+    );
+    note_words(image, VALUES, &values);
+    note_words(image, DEADLINES, &deadlines);
+    note_numbers(image, NEXTS, &nexts);
+    note_numbers(image, PREVS, &prevs);
+    note_words(image, TURNS, &turns);
+    note_numbers(image, MARKS, &marks);
+    let state = reply.state;
+    note_state(image, state);
+    let heads = reply.heads;
+    let rows = delay_queue::rows_of(heads);
+    note_heads(image, &rows);
+    let answer = reply.answer;
+    is_no_2(answer)
+}
+
+fn same(a: &Image, b: &Image) -> bool {
+    let mut i: usize = 0;
+    while i < 467 {
+        if a[i] != b[i] {
+            return false;
+        }
+        i += 1;
+    }
+    true
+}
+
+// The key of a record at the last turn.
+fn key(item: u64) -> u64
+    requires { ⌜ item < 65536 ⌝ }
+{
+    records::LAST_TURN * 65536 + item
+}
+
+// A store of n records at elapsed 100. Record 0 is retired, the others are free. The words behind them are x.
+pub fn begun(n: u64, x: u64) -> Image {
+    let mut image = blank(x);
+    image[REST] = 0;
+    ask(&mut image, whole(), Call::Format(n, records::LAST_TURN));
+    ask(&mut image, whole(), Call::Insert(10, 50));
+    ask(&mut image, whole(), Call::Remove(key(0)));
+    ask(&mut image, whole(), Call::Poll(100));
+    image
+}
+
+// Nine records. 0 is retired; 1 is at level 0, 3 and then 2 in one slot of level 1, 4 at level 2, 5 at level 5; 6 is on the expired
+// stack; 7 and then 8 are free.
+pub fn store(x: u64) -> Image {
+    let mut image = begun(9, x);
+    ask(&mut image, whole(), Call::Insert(11, 105));
+    ask(&mut image, whole(), Call::Insert(12, 200));
+    ask(&mut image, whole(), Call::Insert(13, 210));
+    ask(&mut image, whole(), Call::Insert(14, 5000));
+    ask(&mut image, whole(), Call::Insert(15, 2000000000));
+    ask(&mut image, whole(), Call::Insert(16, 60));
+    image
+}
+
+// The same once the expired one is handed out.
+pub fn polled(x: u64) -> Image {
+    let mut image = store(x);
+    ask(&mut image, whole(), Call::Poll(100));
+    image
+}
+
+// The seven calls but format. None is refused by the store of nine, and all but next wake and length change words there.
+fn call_of(i: u64) -> Call {
+    match i {
+        0 => Call::Insert(17, 300),
+        1 => Call::Reset(key(2), 400),
+        2 => Call::Remove(key(3)),
+        3 => Call::Poll(100),
+        4 => Call::Wake,
+        5 => Call::Length,
+        _ => Call::Clear,
+    }
+}
+
+fn one_if(b: bool) -> u64
+    ensures { λ r. ⌜ r ≤ 1 ⌝ }
+{
+    if b {
+        return 1;
+    }
+    0
+}
+
+fn ask_once(image: &Image, part: Part, call: Call) -> Seen
+    ensures { λ r. ⌜ (r .refused ≤ 1) × (r .kept ≤ 1) ⌝ }
+{
+    let mut after = *image;
+    let refused = ask(&mut after, part, call);
+    let kept = same(image, &after);
+    Seen {
+        refused: one_if(refused),
+        kept: one_if(kept),
+    }
+}
+
+// Asks the seven calls, each of the store as it is in the image.
+fn ask_all(image: &Image, part: Part) -> Seen
+    ensures { λ r. ⌜ (r .refused ≤ 7) × (r .kept ≤ 7) ⌝ }
+{
+    let mut refused = 0u64;
+    let mut kept = 0u64;
+    let mut i = 0u64;
+    while i < 7 {
+        let seen = ask_once(image, part, call_of(i));
+        refused += seen.refused;
+        kept += seen.kept;
+        i += 1;
+    }
+    Seen { refused, kept }
+}
+
+pub fn say(text: &[u8]) {
+    io::write_all(STDOUT_FILENO, text);
+}
+
+fn say_number(n: u64) {
+    io::print_decimal(STDOUT_FILENO, n);
+}
+
+fn say_entry(name: &[u8], i: usize) {
+    say(name);
+    say(b"[");
+    say_number(i as u64);
+    say(b"]");
+}
+
+// The name of the slice that begins at `at`.
+fn say_slice(at: usize) {
+    match at {
+        VALUES => say(b"values"),
+        DEADLINES => say(b"deadlines"),
+        NEXTS => say(b"nexts"),
+        PREVS => say(b"prevs"),
+        TURNS => say(b"turns"),
+        _ => say(b"marks"),
+    }
+}
+
+// The name of the word at `at`.
+fn say_word(at: usize) {
+    if at < N {
+        say_slice(at / 12 * 12);
+        say_entry(b"", at % 12);
+        return;
+    }
+    if OCCUPIED <= at {
+        say_row(at);
+        return;
+    }
+    match at {
+        N => say(b"n"),
+        ELAPSED => say(b"elapsed"),
+        EXPIRED => say(b"expired"),
+        _ => say(b"free"),
+    }
+}
+
+fn say_row(at: usize)
+    requires { ⌜ 76 ≤ at ⌝ }
+{
+    if at < HEADS {
+        say_entry(b"occupied", at - OCCUPIED);
+        return;
+    }
+    let i = at - HEADS;
+    say_entry(b"heads", i / 64);
+    say_entry(b"", i % 64);
+}
+
+fn say_seen(seen: Seen) {
+    say(b": ");
+    say_number(seen.refused);
+    say(b" calls answered no 2, ");
+    say_number(seen.kept);
+    say(b" changed no word\n");
+}
+
+// The store as it is.
+pub fn show_whole(image: &Image) {
+    say(b"nothing changed");
+    say_seen(ask_all(image, whole()));
+}
+
+// The store with the word at `at` changed to x.
+pub fn show(image: &Image, at: usize, x: u64)
+    requires { ⌜ at < 466 ⌝ }
+{
+    let mut changed = *image;
+    changed[at] = x;
+    say_word(at);
+    say(b" := ");
+    say_number(x);
+    say_seen(ask_all(&changed, whole()));
+}
+
+// The store with `size` words of the slice that begins at `slice`.
+pub fn show_lent(image: &Image, slice: usize, size: usize) {
+    say_slice(slice);
+    say(b" of ");
+    say_number(size as u64);
+    say(b" words");
+    say_seen(ask_all(image, Part { slice, size }));
+}
+
+// What comes after a word: nobody is followed by 0.
+fn one_more(x: u64) -> u64 {
+    if x == wide(links::NOBODY) {
+        return 0;
+    }
+    if x == u64::MAX {
+        return 0;
+    }
+    x + 1
+}
+
+fn ask_raised(image: &Image, at: usize) -> Seen
+    requires { ⌜ at < 466 ⌝ }
+    ensures { λ r. ⌜ (r .refused ≤ 7) × (r .kept ≤ 7) ⌝ }
+{
+    let mut changed = *image;
+    changed[at] = one_more(image[at]);
+    ask_all(&changed, whole())
+}
+
+// The store with one word raised by one: each of the `count` words from `from` on in turn.
+pub fn show_each(image: &Image, from: usize, count: usize)
+    requires { ⌜ (from ≤ 466) × (count ≤ 466 - from) ⌝ }
+{
+    let mut refused = 0u64;
+    let mut kept = 0u64;
+    let mut i: usize = 0;
+    while i < count {
+        let seen = ask_raised(image, from + i);
+        refused += seen.refused;
+        kept += seen.kept;
+        i += 1;
+    }
+    say_word(from);
+    say(b" and on, each of ");
+    say_number(count as u64);
+    say(b" one more");
+    say_seen(Seen { refused, kept });
+}

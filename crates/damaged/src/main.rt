@@ -1,0 +1,221 @@
+// What the calls do with a damaged store. Of a store of nine records one word is changed, or a slice is too short, and the seven
+// calls but format are asked, each of the store so changed. What is not sound gets no 2 from all seven, which change no word; what
+// is still sound gets it from none, and all but next wake and length change words.
+use damage::DEADLINES;
+use damage::ELAPSED;
+use damage::EXPIRED;
+use damage::FREE;
+use damage::HEADS;
+use damage::Image;
+use damage::MARKS;
+use damage::N;
+use damage::NEXTS;
+use damage::OCCUPIED;
+use damage::PREVS;
+use damage::TURNS;
+use damage::VALUES;
+use damage::show;
+use damage::show_each;
+use damage::show_lent;
+
+const NOBODY: u64 = 65535;
+
+// Slices one word too short.
+fn short(image: &Image) {
+    show_lent(image, VALUES, 8);
+    show_lent(image, DEADLINES, 8);
+    show_lent(image, NEXTS, 8);
+    show_lent(image, PREVS, 8);
+    show_lent(image, TURNS, 8);
+    show_lent(image, MARKS, 8);
+}
+
+fn deadlines(image: &Image) {
+    // at level 0, one later; at level 1, just out of the slot on both sides, and before elapsed
+    show(image, DEADLINES + 1, 106);
+    show(image, DEADLINES + 2, 191);
+    show(image, DEADLINES + 2, 256);
+    show(image, DEADLINES + 2, 99);
+    // its slot, 2^36 later
+    show(image, DEADLINES + 5, 70719476736);
+    // an expired one that is not elapsed
+    show(image, DEADLINES + 6, 99);
+    show(image, DEADLINES + 6, 101);
+}
+
+fn nexts(image: &Image) {
+    // a slot's list ends too early, goes round, goes on in another slot
+    show(image, NEXTS + 3, NOBODY);
+    show(image, NEXTS + 3, 3);
+    show(image, NEXTS + 2, 3);
+    show(image, NEXTS + 2, 1);
+    // the expired stack goes on in the free list, the free list past the last record
+    show(image, NEXTS + 6, 7);
+    show(image, NEXTS + 8, 9);
+    // a retired one has a link
+    show(image, NEXTS, 5);
+    show_each(image, NEXTS, 9);
+}
+
+fn prevs(image: &Image) {
+    // a link back that is missing, or leads to another slot, or round
+    show(image, PREVS + 2, NOBODY);
+    show(image, PREVS + 2, 4);
+    show(image, PREVS + 3, 2);
+    show(image, PREVS + 7, 8);
+    // past the last record; of a retired one
+    show(image, PREVS + 8, 9);
+    show(image, PREVS, 5);
+    show_each(image, PREVS, 9);
+}
+
+fn turns(image: &Image) {
+    // of a pending one, a free one, a retired one
+    show(image, TURNS + 3, 0);
+    show(image, TURNS + 3, 1 << 48);
+    show(image, TURNS + 7, 0);
+    show(image, TURNS + 7, 1 << 48);
+    show(image, TURNS, 0);
+    show(image, TURNS, u64::MAX);
+    show_each(image, TURNS, 9);
+}
+
+fn marks(image: &Image) {
+    // a pending one: another slot, the expired stack, free, nobody
+    show(image, MARKS + 1, 42);
+    show(image, MARKS + 1, 384);
+    show(image, MARKS + 2, 385);
+    show(image, MARKS + 4, NOBODY);
+    // the slot of the same number at another level; an expired one as free
+    show(image, MARKS + 5, 257);
+    show(image, MARKS + 6, 385);
+    // a free one: expired, nobody
+    show(image, MARKS + 8, 384);
+    show(image, MARKS + 8, NOBODY);
+    // a retired one: free, no place at all
+    show(image, MARKS, 385);
+    show(image, MARKS, 386);
+    show_each(image, MARKS, 9);
+}
+
+fn numbers(image: &Image) {
+    show(image, N, 0);
+    show(image, N, 8);
+    show(image, N, 10);
+    show(image, N, 13);
+    show(image, N, 1025);
+    show(image, ELAPSED, 0);
+    show(image, ELAPSED, 99);
+    show(image, ELAPSED, 101);
+    // emptied; the record of another list; the second of its own; past the last record
+    show(image, EXPIRED, NOBODY);
+    show(image, EXPIRED, 7);
+    show(image, EXPIRED, 9);
+    show(image, FREE, NOBODY);
+    show(image, FREE, 6);
+    show(image, FREE, 8);
+    show(image, FREE, 9);
+    show_each(image, N, 10);
+}
+
+fn rows(image: &Image) {
+    // a flag cleared, and one set, in a row that has one; one set in a row that has none
+    show(image, OCCUPIED, 0);
+    show(image, OCCUPIED, (1 << 41) + (1 << 40));
+    show(image, OCCUPIED + 1, 0);
+    show(image, OCCUPIED + 1, 12);
+    show(image, OCCUPIED + 2, 0);
+    show(image, OCCUPIED + 3, 1);
+    show(image, OCCUPIED + 4, 1 << 63);
+    show(image, OCCUPIED + 5, 0);
+    // cleared; the second of its list; past the last record; another slot's
+    show(image, HEADS + 67, NOBODY);
+    show(image, HEADS + 67, 2);
+    show(image, HEADS + 67, 9);
+    show(image, HEADS + 321, 4);
+    // an empty slot gets a pending one, a free one, a retired one
+    show(image, HEADS + 42, 1);
+    show(image, HEADS + 202, 7);
+    show(image, HEADS + 383, 0);
+    show_each(image, HEADS, 384);
+}
+
+// Changes that leave the store sound.
+fn sound(image: &Image) {
+    show(image, VALUES + 3, 99);
+    show(image, VALUES + 8, u64::MAX);
+    // within its slot, its first and its last; of a free one, of a retired one
+    show(image, DEADLINES + 2, 192);
+    show(image, DEADLINES + 2, 255);
+    show(image, DEADLINES + 4, 8191);
+    show(image, DEADLINES + 5, 2147483647);
+    show(image, DEADLINES + 7, u64::MAX);
+    show(image, DEADLINES, 0);
+    // of a pending one, a free one, a retired one
+    show(image, TURNS + 4, 1);
+    show(image, TURNS + 7, 5);
+    show(image, TURNS, 1);
+    // past the last record
+    show(image, VALUES + 9, 0);
+    show(image, DEADLINES + 9, 0);
+    show(image, NEXTS + 9, 0);
+    show(image, PREVS + 10, 0);
+    show(image, TURNS + 10, 0);
+    show(image, MARKS + 11, 0);
+}
+
+// Slices of just as many words as there are records.
+fn enough(image: &Image) {
+    show_lent(image, VALUES, 9);
+    show_lent(image, DEADLINES, 9);
+    show_lent(image, NEXTS, 9);
+    show_lent(image, PREVS, 9);
+    show_lent(image, TURNS, 9);
+    show_lent(image, MARKS, 9);
+}
+
+// Every record behind the nine would be a retired one. As many as a store may have are sound, and one more is not.
+fn retired(image: &Image) {
+    damage::say(b"the words behind the nine records are those of retired ones:\n");
+    show(image, N, 10);
+    show(image, N, 1024);
+    show(image, N, 1025);
+}
+
+// No list has a member, so that nothing but n itself is against none.
+fn single(image: &Image) {
+    damage::say(b"one record, and it is retired:\n");
+    damage::show_whole(image);
+    show(image, N, 0);
+}
+
+// Elapsed may be anything in its row of 64 that is not past the first timer. The poll at 100 changes it, or is refused by number 7.
+fn quiet(image: &Image) {
+    damage::say(b"nothing on the expired stack:\n");
+    damage::show_whole(image);
+    show(image, ELAPSED, 63);
+    show(image, ELAPSED, 64);
+    show(image, ELAPSED, 105);
+    show(image, ELAPSED, 106);
+    show(image, ELAPSED, (1 << 36) + 100);
+}
+
+fn main() {
+    let image = damage::store(77);
+    damage::say(b"not sound:\n");
+    short(&image);
+    deadlines(&image);
+    nexts(&image);
+    prevs(&image);
+    turns(&image);
+    marks(&image);
+    numbers(&image);
+    rows(&image);
+    damage::say(b"sound:\n");
+    damage::show_whole(&image);
+    sound(&image);
+    enough(&image);
+    quiet(&damage::polled(77));
+    retired(&damage::store(65535));
+    single(&damage::begun(1, 77));
+}
