@@ -20,8 +20,8 @@ pub struct Wheel {
 
 // An entry that left its list, or nobody, and the wheel after it.
 pub struct Entry {
-    pub item: u16,
     pub wheel: Wheel,
+    pub item: u16,
 }
 
 // Indicates when a slot must be processed next.
@@ -279,8 +279,8 @@ fn move_entry(
 
 // The moves of a drain, and the wheel after it.
 pub struct Drained {
-    pub moves: u64,
     pub wheel: Wheel,
+    pub moves: u64,
 }
 
 // A slot above level 0 is drained: each entry, from the head, is moved one level down.
@@ -320,10 +320,10 @@ fn poll_expiration(
 
 // What a poll hands out, or nobody, its moves and drains, and the wheel after it.
 pub struct Polled {
+    pub wheel: Wheel,
     pub item: u16,
     pub moves: u64,
     pub drains: u64,
-    pub wheel: Wheel,
 }
 
 // A poll at `time`, document 01's now, which is not below elapsed, while the expired stack is empty. Looks for the next slot, and drains it unless it is one of level 0.

@@ -1,0 +1,182 @@
+//! What the queue costs, beside the original and the C prototype. docs/SPEED.md says what is measured.
+mod clock;
+mod ours;
+mod prototype;
+mod replay;
+
+use clock::{in_turns, timed, Side, Times};
+use ours::Store;
+use speed::original;
+use speed::script::{Mix, COMMANDS, MIXES, SIZES};
+use std::hint::black_box;
+
+/// A judged call takes microseconds, so these runs are shorter.
+const JUDGED: usize = 20_000;
+const JUDGINGS: usize = 1_000;
+
+const USAGE: &str = "usage: speed calls|judge|judged|replay ROUNDS FOLDER-OF-MIXES [PROGRAM]";
+
+fn main() {
+    let words: Vec<String> = std::env::args().collect();
+    let words: Vec<&str> = words.iter().map(String::as_str).collect();
+    let [_, what, rounds, folder, rest @ ..] = &words[..] else {
+        panic!("{USAGE}");
+    };
+    let rounds = rounds.parse().expect(USAGE);
+    let mixes: Vec<Mix> = SIZES
+        .iter()
+        .flat_map(|&records| MIXES.map(|name| Mix::read(folder, name, records)))
+        .collect();
+    match (*what, rest) {
+        ("calls", []) => calls(rounds, &mixes),
+        ("judge", []) => judge(rounds, &mixes),
+        ("judged", []) => judged(rounds, &mixes),
+        ("replay", [program]) => replayed(rounds, &mixes, program),
+        _ => panic!("{USAGE}"),
+    }
+}
+
+/// The calls without the judge.
+fn calls(rounds: usize, mixes: &[Mix]) {
+    println!("ns a command, least (median) of {rounds} runs of {COMMANDS} commands");
+    row(
+        "N mix",
+        [
+            "ours",
+            "Rust",
+            "C",
+            "ours/Rust",
+            "ours/C",
+            "sum of the answers",
+        ],
+    );
+    for mix in mixes {
+        let (n, script) = (mix.records, &mix.script[..]);
+        let ours: Side = (
+            "ours",
+            Box::new(move || {
+                let mut store = Store::new(n);
+                timed(script.len(), || store.inner(script))
+            }),
+        );
+        let rust: Side = (
+            "Rust",
+            Box::new(move || {
+                let mut queue = original::Queue::new(n);
+                timed(script.len(), || original::run(&mut queue, script))
+            }),
+        );
+        let c: Side = (
+            "C",
+            Box::new(move || {
+                prototype::format(n);
+                timed(script.len(), || prototype::inner(script))
+            }),
+        );
+        let ([ours, rust, c], sum) = in_turns(mix.name, rounds, [ours, rust, c]);
+        let sum = format!("{sum:016x}");
+        row(
+            &named(mix),
+            [
+                &ns(&ours),
+                &ns(&rust),
+                &ns(&c),
+                &ratio(&ours, &rust),
+                &ratio(&ours, &c),
+                &sum,
+            ],
+        );
+    }
+}
+
+/// The judge alone, on the store as the mix leaves it.
+fn judge(rounds: usize, mixes: &[Mix]) {
+    println!("ns a judging, least (median) of {rounds} runs of {JUDGINGS}, on the store after {JUDGED} commands");
+    row("N mix", ["ours", "C", "ours/C"]);
+    for mix in mixes {
+        let mut store = Store::new(mix.records);
+        store.inner(&mix.script[..JUDGED]);
+        prototype::judged_format(mix.records);
+        prototype::judged(&mix.script[..JUDGED]);
+        let ours: Side = (
+            "ours",
+            Box::new(move || {
+                timed(JUDGINGS, || {
+                    (0..JUDGINGS).map(|_| black_box(store.judge()) as u64).sum()
+                })
+            }),
+        );
+        let c: Side = (
+            "C",
+            Box::new(|| {
+                timed(JUDGINGS, || {
+                    (0..JUDGINGS)
+                        .map(|_| black_box(prototype::judge()) as u64)
+                        .sum()
+                })
+            }),
+        );
+        let ([ours, c], sound) = in_turns(mix.name, rounds, [ours, c]);
+        assert_eq!(sound, JUDGINGS as u64, "the store must be sound");
+        row(&named(mix), [&ns(&ours), &ns(&c), &ratio(&ours, &c)]);
+    }
+}
+
+/// The calls that users make: each judges first.
+fn judged(rounds: usize, mixes: &[Mix]) {
+    println!("ns a command, least (median) of {rounds} runs of {JUDGED} commands");
+    row("N mix", ["ours", "C", "ours/C"]);
+    for mix in mixes {
+        let (n, script) = (mix.records, &mix.script[..JUDGED]);
+        let ours: Side = (
+            "ours",
+            Box::new(move || {
+                let mut store = Store::new(n);
+                timed(script.len(), || store.judged(script))
+            }),
+        );
+        let c: Side = (
+            "C",
+            Box::new(move || {
+                prototype::judged_format(n);
+                timed(script.len(), || prototype::judged(script))
+            }),
+        );
+        let ([ours, c], _) = in_turns(mix.name, rounds, [ours, c]);
+        row(&named(mix), [&ns(&ours), &ns(&c), &ratio(&ours, &c)]);
+    }
+}
+
+/// The program, its start included.
+fn replayed(rounds: usize, mixes: &[Mix], program: &str) {
+    println!("lines a second, most (median) of {rounds} runs of {JUDGED} lines");
+    for mix in mixes {
+        let times = replay::run(program, &replay::lines(mix, JUDGED), rounds);
+        row(
+            &named(mix),
+            [&format!(
+                "{:.0} ({:.0})",
+                1e9 / times.least,
+                1e9 / times.median
+            )],
+        );
+    }
+}
+
+fn row<const N: usize>(name: &str, fields: [&str; N]) {
+    print!("{name:12}");
+    fields.iter().for_each(|field| print!("{field:>20}"));
+    println!();
+}
+
+fn named(mix: &Mix) -> String {
+    format!("{} {}", mix.records, mix.name)
+}
+
+fn ns(times: &Times) -> String {
+    format!("{:.1} ({:.1})", times.least, times.median)
+}
+
+fn ratio(a: &Times, b: &Times) -> String {
+    format!("{:.2} ({:.2})", a.least / b.least, a.median / b.median)
+}

@@ -1,0 +1,102 @@
+//! The original's slab, stacks and wheel with nothing around them but the steps of `DelayQueue` that touch these three. Times are
+//! milliseconds from the start. The oracle holds the same steps against the whole original.
+
+// Whole items of delay_queue.rs, and its methods insert_idx and remove_key.
+include!(concat!(env!("OUT_DIR"), "/delay_queue_parts.rs"));
+
+use crate::script::{mixed, Command, INSERT, POLL, REMOVE, RESET};
+
+pub struct Queue {
+    slab: SlabStorage<u64>,
+    wheel: Wheel<Stack<u64>>,
+    expired: Stack<u64>,
+}
+
+impl Queue {
+    pub fn new(capacity: usize) -> Queue {
+        Queue {
+            slab: SlabStorage::with_capacity(capacity),
+            wheel: Wheel::new(),
+            expired: Stack::default(),
+        }
+    }
+
+    /// Answers the slab's number for the new timer.
+    pub fn insert(&mut self, value: u64, when: u64) -> usize {
+        let when = when.max(self.wheel.elapsed());
+        let key = self.slab.insert(Data {
+            inner: value,
+            when,
+            expired: false,
+            next: None,
+            prev: None,
+        });
+        self.insert_idx(when, key);
+        key.index
+    }
+
+    pub fn reset(&mut self, number: usize, when: u64) {
+        let key = Key::new(number);
+        self.remove_key(&key);
+        let when = when.max(self.wheel.elapsed());
+        self.slab[key].when = when;
+        self.slab[key].expired = false;
+        self.insert_idx(when, key);
+    }
+
+    /// Answers value and deadline.
+    pub fn remove(&mut self, number: usize) -> (u64, u64) {
+        let key = Key::new(number);
+        self.remove_key(&key);
+        let data = self.slab.remove(&key);
+        (data.inner, data.when)
+    }
+
+    /// A pop of the expired stack, else `Wheel::poll`; answers number, value and deadline.
+    pub fn poll(&mut self, now: u64) -> Option<(usize, u64, u64)> {
+        use self::wheel::Stack;
+
+        let key = match self.expired.pop(&mut self.slab) {
+            Some(key) => key,
+            None => self.wheel.poll(now, &mut self.slab)?,
+        };
+        let data = self.slab.remove(&key);
+        Some((key.index, data.inner, data.when))
+    }
+
+    pub fn wake(&self) -> Option<u64> {
+        self.wheel.poll_at()
+    }
+
+    pub fn elapsed(&self) -> u64 {
+        self.wheel.elapsed()
+    }
+}
+
+/// The whole script, and the sum of what was answered.
+#[inline(never)]
+pub fn run(queue: &mut Queue, script: &[Command]) -> u64 {
+    let mut sum = 0;
+    for (i, &[first, second]) in script.iter().enumerate() {
+        let record = (first & 0xffff) as usize;
+        match first >> 60 {
+            INSERT => sum = mixed(sum, queue.insert(i as u64, second) as u64),
+            RESET => queue.reset(record, second),
+            REMOVE => {
+                let (value, deadline) = queue.remove(record);
+                sum = mixed(mixed(sum, value), deadline);
+            }
+            POLL => {
+                sum = match queue.poll(second) {
+                    Some((number, value, deadline)) => {
+                        mixed(mixed(mixed(sum, number as u64), value), deadline)
+                    }
+                    None => mixed(sum, 7),
+                };
+                sum = mixed(sum, queue.elapsed());
+            }
+            _ => sum = mixed(sum, queue.wake().unwrap_or(3)),
+        }
+    }
+    sum
+}
