@@ -86,7 +86,7 @@ deadline-met e w =
 
 -- an entry comes into the slot of its deadline
 add-met : {t : WheelWords} {k i : ℕ} → CanAdd t k i → (w : ℕ) → (u : WheelWords) × Becomes t (arrive k w i (listsIn t)) u
-add-met {t} {k} {i} C w = (_, add-law C w (slotOf w k) (slotPlace k (slotOf w k)) _ refl refl refl refl)
+add-met {t} {k} {i} C w = (_, add-law C w (slotOf w k) refl refl refl)
 
 place-met : {t : WheelWords} {ds : List ℕ} {i when : ℕ} → CanPlace t ds i when → (u : WheelWords) × (ds′ : List ℕ) × PlacesTo t ds i when u ds′
 place-met {t} {ds} {i} {when} C =
@@ -99,7 +99,7 @@ leave-met {t} {i} C =
     by-cases (decLt (markIn t i) slots)
     (λ h.
     by-cases (ℕ-discrete (headIn (remove (t .stack) i) (markIn t i)) nobody)
-    (λ z. (_, leaves-last C refl h z _ refl))
+    (λ z. (_, leaves-last C refl h z refl))
     (λ z. (_, leaves-more C refl z)))
     (λ h. (_, leaves-aside C refl (omega (arith, h))))
 
@@ -281,7 +281,7 @@ pop-met {t} {k} {s} C =
     (λ z. (headAt t p, _, popped-none (C .whole) p (headAt t p) refl refl z))
     (λ d.
     by-cases (ℕ-discrete (headIn (pop (t .stack) p) p) nobody)
-    (λ z. (headAt t p, _, popped-last (C .whole) p (headAt t p) refl refl d k s (C .level) (C .slot) refl z _ refl))
+    (λ z. (headAt t p, _, popped-last (C .whole) p (headAt t p) refl refl d k s (C .level) (C .slot) refl z refl))
     (λ z. (headAt t p, _, popped-more (C .whole) p (headAt t p) refl refl d z)))
 
 -- and goes one level down

@@ -13,7 +13,7 @@ use borrow.Author.Tests.{eq-eqb, ne-eqb, lt-ltb, le-ltb}
 use Rattle.links.specs.Lists.{nobody}
 use Rattle.links.specs.Family.{Upd}
 use Rattle.stack.specs.declared.Stacks.{Stacks}
-use Rattle.stack.specs.Places.{slots, expired, free, places}
+use Rattle.stack.specs.Places.{slotPlace, slots, expired, free, places}
 
 -- the head of the place p; a number that is no place has none
 unfoldable pub headOf : Stacks → List (List ℕ) → ℕ → ℕ
@@ -60,6 +60,33 @@ module _ (st : Stacks) (hh : List (List ℕ)) where
       let b : p ≢ expired = omega arith in
       let c : p ≢ free = omega arith in
       rw (le-ltb p slots a, ne-eqb p expired b, ne-eqb p free c)
+
+-- ---- a slot by its level k and its number s there
+
+-- its head, and v as its head
+abbrev pub slotHead : List (List ℕ) → ℕ → ℕ → ℕ
+slotHead hh k s = getD (getD hh k []) s 0
+
+abbrev pub withSlotHead : List (List ℕ) → ℕ → ℕ → ℕ → List (List ℕ)
+withSlotHead hh k s v = set hh k (set (getD hh k []) s v)
+
+module _ (k s : ℕ) (hk : k < 6) (hs : s < 64) where
+  level-of : slotPlace k s / 64 ≡ k
+  level-of = omega arith
+
+  number-of : slotPlace k s % 64 ≡ s
+  number-of = omega arith
+
+  pub slot-head : (st : Stacks) (hh : List (List ℕ)) → slotHead hh k s ≡ headOf st hh (slotPlace k s)
+  slot-head st hh = sym (rw (level-of, number-of) at (head-slot st hh (slotPlace k s) (omega arith)))
+
+  pub slot-rows : (hh : List (List ℕ)) (v : ℕ) → withSlotHead hh k s v ≡ rowsWith hh (slotPlace k s) v
+  unfolding rowsWith
+  slot-rows hh v = rw (lt-ltb (slotPlace k s) slots (omega arith), level-of, number-of)
+
+  pub slot-stacks : (st : Stacks) (v : ℕ) → st ≡ stacksWith st (slotPlace k s) v
+  unfolding stacksWith
+  slot-stacks st v = rw (lt-ltb (slotPlace k s) slots (omega arith))
 
 -- ---- one head changed, the rest kept
 

@@ -14,9 +14,9 @@ use Rattle.links.specs.Judge.{cat, fam-length}
 use lib.ListN.{length}
 use Rattle.links.specs.Laws as links
 use Rattle.links.specs.Fixed.{whole-fixed}
-use Rattle.stack.specs.Places.{places, put}
-use Rattle.stack.specs.Heads.{Shape, upd-head, count-with, shape-with, head-past, stacks-fixed, rows-fixed}
-use Rattle.stack.specs.Words.{StackWords, words-eq, count, headAt, markOf, withHead, push, remove, pop, CanPop, judged}
+use Rattle.stack.specs.Places.{slotPlace, places, put}
+use Rattle.stack.specs.Heads.{Shape, slotHead, slot-head, upd-head, count-with, shape-with, head-past, stacks-fixed, rows-fixed}
+use Rattle.stack.specs.Words.{StackWords, words-eq, count, headAt, markOf, withHead, push, remove, pop, CanPop, CanPopSlot, judged}
 
 -- six rows of 64 heads, and every record is in exactly one list, or loose
 pub record Whole (t : StackWords) : Type 0 where
@@ -114,6 +114,24 @@ module _ {t : StackWords} (W : Whole t) where
         marked = marked;
         linked = λ d. links.can-cut (W .held) (headAt t p) (member-below p (headAt t p) (first-in p d)) (marked d);
       }
+
+  -- the same at slot s of level k
+  module _ (k s : ℕ) (hk : k < 6) (hs : s < 64) where
+    here : slotHead (t .heads) k s ≡ headAt t (slotPlace k s)
+    here = slot-head k s hk hs (t .stacks) (t .heads)
+
+    pub can-push-slot : (i : ℕ) → i < count t → CanJoin (t .links) i (slotHead (t .heads) k s)
+    can-push-slot i hi = rw here (can-push (slotPlace k s) i (omega arith) hi .1)
+
+    pub can-pop-slot : CanPopSlot (t .heads) (t .links) k s
+    can-pop-slot =
+        let C : CanPop t (slotPlace k s) = can-pop (slotPlace k s) (omega arith) in
+        record {
+          level = hk;
+          slot = hs;
+          marked = λ d. rw here (member-mark (slotPlace k s) (headAt t (slotPlace k s)) (first-in (slotPlace k s) (λ z. d (here ∙ z))));
+          linked = λ d. rw here (C .linked (λ z. d (here ∙ z)));
+        }
 
   -- ---- how the functions change the lists
 

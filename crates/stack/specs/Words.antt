@@ -10,8 +10,8 @@ use Rattle.links.specs.Lists.{nobody}
 use Rattle.links.specs.Links.{Links, links, at, net, joined, cutOut, headAfter, CanCut}
 use Rattle.links.specs.Judge.{judge}
 use Rattle.stack.specs.declared.Stacks.{Stacks}
-use Rattle.stack.specs.Places.{places}
-use Rattle.stack.specs.Heads.{headOf, rowsWith, stacksWith}
+use Rattle.stack.specs.Places.{slotPlace, places}
+use Rattle.stack.specs.Heads.{headOf, rowsWith, stacksWith, slotHead, withSlotHead, slot-head, slot-rows, slot-stacks}
 
 pub record StackWords : Type 0 where
   pub stacks : Stacks
@@ -62,6 +62,13 @@ pub record CanPop (t : StackWords) (p : ℕ) : Type 0 where
   pub marked : headAt t p ≢ nobody → markOf t (headAt t p) < places
   pub linked : headAt t p ≢ nobody → CanCut (t .links) (headAt t p)
 
+-- s is a slot of level k, and its head can leave it
+pub record CanPopSlot (hh : List (List ℕ)) (ls : Links) (k s : ℕ) : Type 0 where
+  pub level : k < 6
+  pub slot : s < 64
+  pub marked : slotHead hh k s ≢ nobody → at (ls .marks) (slotHead hh k s) ≡ slotPlace k s
+  pub linked : slotHead hh k s ≢ nobody → CanCut ls (slotHead hh k s)
+
 -- the judge
 unfoldable pub judged : StackWords → Bool
 judged t = judge (net (headAt t) (t .links)) places (count t)
@@ -91,3 +98,19 @@ module _ (t : StackWords) (p h : ℕ) (e : h ≡ headAt t p) where
 
   pub pop-asks : CanPop t p → h ≢ nobody → (markOf t h < places) × CanCut (t .links) h
   pop-asks C d = rw e (C .marked (λ z. d (e ∙ z)), C .linked (λ z. d (e ∙ z)))
+
+-- ---- the same at slot s of level k, which no head of `Stacks` has a part in
+
+module _ (k s : ℕ) (hk : k < 6) (hs : s < 64) (hh : List (List ℕ)) (ls : Links) {rows : List (List ℕ)} {ls′ : Links} where
+  pub push-slot-is : (i p : ℕ) → p ≡ slotPlace k s → rows ≡ withSlotHead hh k s i → ls′ ≡ joined ls p i (slotHead hh k s)
+      → (st : Stacks) → stackWords st rows ls′ ≡ push (stackWords st hh ls) (slotPlace k s) i
+  push-slot-is i p ep e f st =
+      push-is (stackWords st hh ls) (slotPlace k s) i (slotHead hh k s) (slot-head k s hk hs st hh) (slot-stacks k s hk hs st i) (e ∙ slot-rows k s hk hs hh i) (rw ep at f)
+
+  pub pop-slot-is : (h b : ℕ) → h ≡ slotHead hh k s → h ≢ nobody → at (ls .marks) h ≡ slotPlace k s → b ≡ headAfter ls h h → rows ≡ withSlotHead hh k s b → ls′ ≡ cutOut ls h
+      → (st : Stacks) → stackWords st rows ls′ ≡ pop (stackWords st hh ls) (slotPlace k s)
+  pop-slot-is h b eh d m eb e f st =
+      let t : StackWords = stackWords st hh ls in
+      let q : h ≡ headAt t (slotPlace k s) = eh ∙ slot-head k s hk hs st hh in
+      pop-some t (slotPlace k s) h q d
+      (remove-is t h h b (rw m q) eb (rw m (slot-stacks k s hk hs st b)) (rw m (e ∙ slot-rows k s hk hs hh b)) f)

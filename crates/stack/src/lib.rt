@@ -3,8 +3,8 @@ ghost use mathlib.Core.Path.{_≡_};
 ghost use Prim.Native.Nat.{_+_, _*_, _<_};
 ghost use Rattle.links.specs.Links.{links, at, CanJoin, CanCut, Deep};
 ghost use Rattle.stack.specs.Places.{places, slotPlace};
-ghost use Rattle.stack.specs.Heads.{headOf, rowsWith, stacksWith};
-ghost use Rattle.stack.specs.Words.{words, push, remove, pop, CanPop, judged};
+ghost use Rattle.stack.specs.Heads.{headOf, rowsWith, stacksWith, slotHead};
+ghost use Rattle.stack.specs.Words.{words, push, remove, pop, CanPop, CanPopSlot, judged};
 ghost use Rattle.stack.specs.Format.{formatted};
 
 // A place is a number: slot s of level k is 64 k + s, from 0 to 383, and the two lists that are no slot follow. A record's mark is
@@ -140,6 +140,51 @@ pub fn pop(
         item: h,
         stacks: left,
     }
+}
+
+// The same two at a slot. What kind of place it is need not be asked, and `Stacks` has no part in it.
+pub fn push_slot(
+    heads: &mut [[u16; 64]; 6],
+    nexts: &mut [u16],
+    prevs: &mut [u16],
+    marks: &mut [u16],
+    level: usize,
+    slot: usize,
+    i: u16,
+)
+    requires { ⌜ (level < 6) × (slot < 64) × CanJoin (links (now nexts) (now prevs) (now marks)) i (slotHead (now heads) level slot) ⌝ }
+    ensures { λ _. ⌜
+        ((st : Stacks)
+        → words st (now (heads .exit)) (now (nexts .exit)) (now (prevs .exit)) (now (marks .exit))
+        ≡ push (words st (now (heads .entry)) (now (nexts .entry)) (now (prevs .entry)) (now (marks .entry))) (slotPlace level slot) i) ⌝ }
+{
+    let h = heads[level][slot];
+    links::join(nexts, prevs, marks, slot_place(level, slot), i, h);
+    heads[level][slot] = i;
+}
+
+pub fn pop_slot(
+    heads: &mut [[u16; 64]; 6],
+    nexts: &mut [u16],
+    prevs: &mut [u16],
+    marks: &mut [u16],
+    level: usize,
+    slot: usize,
+) -> u16
+    requires { ⌜ CanPopSlot (now heads) (links (now nexts) (now prevs) (now marks)) level slot ⌝ }
+    ensures { λ r. ⌜ r ≡ slotHead (now (heads .entry)) level slot ⌝ }
+    ensures { λ r. ⌜
+        ((st : Stacks)
+        → words st (now (heads .exit)) (now (nexts .exit)) (now (prevs .exit)) (now (marks .exit))
+        ≡ pop (words st (now (heads .entry)) (now (nexts .entry)) (now (prevs .entry)) (now (marks .entry))) (slotPlace level slot)) ⌝ }
+{
+    let h = heads[level][slot];
+    if h == links::NOBODY {
+        return h;
+    }
+    let left = links::cut(nexts, prevs, marks, h, h);
+    heads[level][slot] = left;
+    h
 }
 
 // Whether heads, links and marks hold the lists of the places, and every record is in exactly one list or loose.

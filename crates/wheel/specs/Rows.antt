@@ -1,13 +1,15 @@
 -- The occupied rows: "occupied bits name exactly the non-empty slots".
 use mathlib.Core.Path.{_≡_, refl, sym, ap, _∙_}
 use mathlib.Core.Logic.{by-cases}
-use mathlib.Core.Bool.{Bool, true, false, true≢false}
+use mathlib.Core.Bool.{Bool, true, false, cond, true≢false}
 use mathlib.Core.List.{List, [], _∷_}
-use Prim.Native.Nat.{ℕ, _≤_, _<_}
-use native.Mathlib.Decide.{ℕ-discrete}
+use Prim.Native.Nat.{ℕ, _+_, _≤_, _<_}
+use native.Mathlib.Decide.{ℕ-discrete, decLt}
 use native.Mathlib.Omega.{arith}
 use lib.ListN.{length, set, length-set}
-use lib.Seq.{ext-getD, getD-set-same, getD-set-other}
+use lib.Seq.{ext-getD, set-getD, getD-set-same, getD-set-other}
+use lib.Dec.{eqb, ltb}
+use borrow.Author.Tests.{eq-eqb, ne-eqb, eqb-true, lt-ltb, le-ltb}
 use Rattle.row.specs.Row.{flagAt, rowOf, flagged}
 use Rattle.row.specs.RowLaws.{flag-row, row-ext, flagged-here, flagged-other}
 use Rattle.links.specs.Lists.{change, change-same, change-other}
@@ -23,6 +25,10 @@ filled (x ∷ l) = true
 abbrev pub flags : Lists → ℕ → ℕ → Bool
 flags L k s = filled (L (slotPlace k s))
 
+-- the rows with v as the flag of slot s of level k
+abbrev pub withFlag : List ℕ → ℕ → ℕ → Bool → List ℕ
+withFlag occ k s v = set occ k (rowOf (flagged (flagAt (at occ k)) s v))
+
 -- six rows, each with the flags of its level
 pub record Rows (occ : List ℕ) (L : Lists) : Type 0 where
   pub six : length occ ≡ 6
@@ -33,8 +39,7 @@ module _ {occ : List ℕ} {L : Lists} (R : Rows occ L) where
   flag-is k s hk hs = ap (λ (x : ℕ). flagAt x s) (R .row k hk) ∙ flag-row (flags L k) 64 s hs
 
   -- one slot's list changes, and its flag with it
-  pub rows-flagged : (k s : ℕ) (v : Bool) (l : List ℕ) → k < 6 → s < 64 → v ≡ filled l
-      → Rows (set occ k (rowOf (flagged (flagAt (at occ k)) s v))) (change L (slotPlace k s) l)
+  pub rows-flagged : (k s : ℕ) (v : Bool) (l : List ℕ) → k < 6 → s < 64 → v ≡ filled l → Rows (withFlag occ k s v) (change L (slotPlace k s) l)
   rows-flagged k s v l hk hs e =
       let p : ℕ = slotPlace k s in
       let same : (u : ℕ) → u < 64 → flagged (flagAt (at occ k)) s v u ≡ flags (change L p l) k u
@@ -94,3 +99,41 @@ unfilled (x ∷ l) e = absurd (true≢false e)
 pub filled-some : (l : List ℕ) → filled l ≡ true → (x : ℕ) × (k : List ℕ) × (l ≡ x ∷ k)
 filled-some [] e = absurd (true≢false (sym e))
 filled-some (x ∷ l) e = (x, l, refl)
+
+-- ---- the rows gone through, one after the other
+
+-- after those below k
+abbrev pub flaggedTo : List ℕ → ℕ → ℕ → Bool → ℕ → List ℕ
+flaggedTo occ l s v k = cond (ltb l k) (withFlag occ l s v) occ
+
+module _ (occ : List ℕ) (l s : ℕ) (v : Bool) where
+  pub flag-start : occ ≡ flaggedTo occ l s v 0
+  flag-start = rw (le-ltb l 0 (omega arith))
+
+  -- until its level the rows are as they were
+  flag-not-yet : {r : List ℕ} (k : ℕ) → r ≡ flaggedTo occ l s v k → k ≤ l → r ≡ occ
+  flag-not-yet k e h = e ∙ rw (le-ltb l k h)
+
+  pub flag-asks : (r : List ℕ) (k : ℕ) → r ≡ flaggedTo occ l s v k → eqb k l ≡ true → flagAt (at occ l) s ≡ true → flagAt (at r k) s ≡ true
+  flag-asks r k e q f =
+      let h : k ≡ l = eqb-true k l q in
+      rw (flag-not-yet k e (omega (arith, h)), h) f
+
+  pub flag-turn : (r : List ℕ) (k x : ℕ) → r ≡ flaggedTo occ l s v k → x ≡ cond (eqb k l) (rowOf (flagged (flagAt (at r k)) s v)) (at r k)
+      → set r k x ≡ flaggedTo occ l s v (k + 1)
+  flag-turn r k x e f =
+      by-cases (ℕ-discrete k l)
+      (λ (q : k ≡ l).
+      let g : r ≡ occ = flag-not-yet k e (omega (arith, q)) in
+      let y : x ≡ rowOf (flagged (flagAt (at r k)) s v) = f ∙ rw (eq-eqb k l q) in
+      rw (lt-ltb l (k + 1) (omega (arith, q)), y, g, q))
+      (λ q.
+      let y : x ≡ at r k = f ∙ rw (ne-eqb k l q) in
+      let same : cond (ltb l k) (withFlag occ l s v) occ ≡ cond (ltb l (k + 1)) (withFlag occ l s v) occ
+      = by-cases (decLt l k)
+      (λ h. rw (lt-ltb l k h, lt-ltb l (k + 1) (omega (arith, h))))
+      (λ h. rw (le-ltb l k (omega (arith, h)), le-ltb l (k + 1) (omega (arith, h, q)))) in
+      ap (set r k) y ∙ set-getD r k 0 ∙ e ∙ same)
+
+  pub flag-end : {r : List ℕ} (k : ℕ) → r ≡ flaggedTo occ l s v k → l < k → r ≡ withFlag occ l s v
+  flag-end k e h = e ∙ rw (lt-ltb l k h)

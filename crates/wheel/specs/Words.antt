@@ -6,18 +6,18 @@ use mathlib.Core.List.{List, [], _∷_, nil≢cons}
 use Prim.Native.Nat.{ℕ, _/_, _%_, _≤_, _<_}
 use native.Mathlib.Decide.{ℕ-discrete}
 use native.Mathlib.Omega.{arith}
-use lib.ListN.{set}
 use Rattle.times.specs.Times.{slotOf}
 use Rattle.times.specs.Quotients.{slot-lt}
-use Rattle.row.specs.Row.{flagAt, rowOf, flagged}
+use Rattle.row.specs.Row.{flagAt}
 use Rattle.links.specs.Lists.{nobody, Mem, without, change, change-same}
 use Rattle.links.specs.Links.{at, CanJoin, CanCut}
 use Rattle.stack.specs.Places.{slotPlace, slots, places, put}
-use Rattle.stack.specs.Words.{StackWords, push, pop, remove, words as stacked, count as countIn, headAt as headIn, markOf as markIn, CanPop as CanPopIn}
+use Rattle.stack.specs.Words.{StackWords, push, pop, remove, words as stacked, count as countIn, headAt as headIn, markOf as markIn, CanPopSlot}
+use Rattle.stack.specs.Heads.{slotHead}
 use Rattle.stack.specs.Laws as stack
 use Rattle.wheel.specs.declared.Wheel.{Wheel}
 use Rattle.wheel.specs.Wheel.{Lists, arrive}
-use Rattle.wheel.specs.Rows.{filled, Rows, flag-is, rows-flagged, rows-kept, rows-aside}
+use Rattle.wheel.specs.Rows.{filled, withFlag, Rows, flag-is, rows-flagged, rows-kept, rows-aside}
 
 pub record WheelWords : Type 0 where
   pub elapsed : ℕ
@@ -72,29 +72,27 @@ module _ {t : WheelWords} {k i : ℕ} (C : CanAdd t k i) (w s : ℕ) (es : s ≡
   pub add-slot : (k < 6) × (s < 64)
   add-slot = (C .level, omega (arith, es, slot-lt w k))
 
-  pub add-push : (p : ℕ) → p ≡ slotPlace k s → (p < places) × CanJoin (t .stack .links) i (headAt t p)
-  add-push p ep = stack.can-push (C .whole .stack) p i (omega (arith, ep, add-slot)) (C .item .below)
+  pub add-push : (k < 6) × (s < 64) × CanJoin (t .stack .links) i (slotHead (t .stack .heads) k s)
+  add-push = (add-slot .0, add-slot .1, stack.can-push-slot (C .whole .stack) k s (add-slot .0) (add-slot .1) i (C .item .below))
 
 put-filled : (p i : ℕ) (l : List ℕ) → true ≡ filled (put p i l)
 unfolding put
 put-filled p i l = refl
 
-pub add-law : {t : WheelWords} {k i : ℕ} → CanAdd t k i → (w s p r : ℕ) {u : StackWords} → s ≡ slotOf w k → p ≡ slotPlace k s
-    → u ≡ push (t .stack) p i → r ≡ rowOf (flagged (flagAt (at (t .occupied) k)) s true)
-    → Becomes t (arrive k w i (lists t)) (wheelWords (t .elapsed) (set (t .occupied) k r) u)
+pub add-law : {t : WheelWords} {k i : ℕ} → CanAdd t k i → (w s : ℕ) {occ : List ℕ} {u : StackWords} → s ≡ slotOf w k
+    → u ≡ push (t .stack) (slotPlace k s) i → occ ≡ withFlag (t .occupied) k s true → Becomes t (arrive k w i (lists t)) (wheelWords (t .elapsed) occ u)
 unfolding arrive
-add-law {t} {k} {i} C w s p r {u} es ep eu er =
+add-law {t} {k} {i} C w s {occ} {u} es eu eo =
     let hs : s < 64 = omega (arith, es, slot-lt w k) in
-    let q : p ≡ slotPlace k (slotOf w k) = ep ∙ ap (slotPlace k) es in
-    let S = stack.push-law (C .whole .stack) p i (omega (arith, ep, hs, C .level)) (C .item .below) (C .item .loose) in
-    let R = rows-flagged (C .whole .rows) k s true (put p i (lists t p)) (C .level) hs (put-filled p i (lists t p)) in
+    let p : ℕ = slotPlace k s in
+    let S = stack.push-law (C .whole .stack) p i (omega (arith, hs, C .level)) (C .item .below) (C .item .loose) in
     let e : stack.lists u ≡ change (lists t) p (put p i (lists t p)) = ap stack.lists eu ∙ S .lists in
     record {
       whole = record {
         stack = subst stack.Whole (sym eu) (S .whole);
-        rows = rw (er, e) (subst (λ (z : ℕ). Rows (set (t .occupied) k (rowOf (flagged (flagAt (at (t .occupied) k)) s true))) (change (lists t) z (put p i (lists t p)))) (sym ep) R);
+        rows = rw (eo, e) (rows-flagged (C .whole .rows) k s true (put p i (lists t p)) (C .level) hs (put-filled p i (lists t p)));
       };
-      lists = e ∙ ap (λ (z : ℕ). change (lists t) z (put z i (lists t z))) q;
+      lists = e ∙ ap (λ (z : ℕ). change (lists t) (slotPlace k z) (put (slotPlace k z) i (lists t (slotPlace k z)))) es;
       elapsed = refl;
       kept = subst (stack.StackKept (t .stack)) (sym eu) (S .kept);
     }
@@ -125,14 +123,11 @@ module _ {t : WheelWords} (W : WheelWhole t) {p : ℕ} {l : List ℕ} {u : Stack
       becomes (rows-kept (W .rows) p l (ap filled (sym left-list ∙ r .1) ∙ sym f))
 
   -- it has none, and its flag is cleared
-  pub left-none : (k s r : ℕ) → k < 6 → s < 64 → p ≡ slotPlace k s → headIn u p ≡ nobody
-      → r ≡ rowOf (flagged (flagAt (at (t .occupied) k)) s false) → Becomes t (change (lists t) p l) (wheelWords (t .elapsed) (set (t .occupied) k r) u)
-  left-none k s r hk hs ep h er =
+  pub left-none : (k s : ℕ) {occ : List ℕ} → k < 6 → s < 64 → p ≡ slotPlace k s → headIn u p ≡ nobody → occ ≡ withFlag (t .occupied) k s false
+      → Becomes t (change (lists t) p l) (wheelWords (t .elapsed) occ u)
+  left-none k s {occ} hk hs ep h eo =
       let e : l ≡ [] = sym left-list ∙ stack.list-empty (C .whole) p h in
-      becomes
-      (subst (λ (z : ℕ). Rows (set (t .occupied) k z) (change (lists t) p l)) (sym er)
-      (subst (λ (z : ℕ). Rows (set (t .occupied) k (rowOf (flagged (flagAt (at (t .occupied) k)) s false))) (change (lists t) z l)) (sym ep)
-      (rows-flagged (W .rows) k s false l hk hs (ap filled (sym e)))))
+      becomes (rw (eo, ep) (rows-flagged (W .rows) k s false l hk hs (ap filled (sym e))))
 
 -- ---- the head of a list leaves it
 
@@ -190,12 +185,11 @@ module _ {t : WheelWords} (W : WheelWhole t) (p item : ℕ) (ei : item ≡ headA
 
     -- it was the last of slot s of level k, whose flag is set until now
     module _ (k s : ℕ) (hk : k < 6) (hs : s < 64) (ep : p ≡ slotPlace k s) where
-      pub popped-flag : (s < 64) × (flagAt (at (t .occupied) k) s ≡ true)
-      popped-flag = (hs, flag-is (W .rows) k s hk hs ∙ ap (λ (z : ℕ). filled (lists t z)) (sym ep) ∙ ap filled (was .1))
+      pub popped-flag : flagAt (at (t .occupied) k) s ≡ true
+      popped-flag = flag-is (W .rows) k s hk hs ∙ ap (λ (z : ℕ). filled (lists t z)) (sym ep) ∙ ap filled (was .1)
 
-      pub popped-last : headIn u p ≡ nobody → (r : ℕ) → r ≡ rowOf (flagged (flagAt (at (t .occupied) k)) s false)
-          → Pops t p item (wheelWords (t .elapsed) (set (t .occupied) k r) u)
-      popped-last h r er = pops (left-none W change-here k s r hk hs ep h er)
+      pub popped-last : headIn u p ≡ nobody → {occ : List ℕ} → occ ≡ withFlag (t .occupied) k s false → Pops t p item (wheelWords (t .elapsed) occ u)
+      popped-last h eo = pops (left-none W change-here k s hk hs ep h eo)
 
 -- p is no slot
 pub pops-aside : {t : WheelWords} → WheelWhole t → (p item : ℕ) → item ≡ headAt t p → {u : StackWords} → u ≡ pop (t .stack) p → slots ≤ p
@@ -208,12 +202,8 @@ pub record CanPop (t : WheelWords) (k s : ℕ) : Type 0 where
   pub level : k < 6
   pub slot : s < 64
 
-pub pop-asks : {t : WheelWords} {k s : ℕ} → CanPop t k s → (p : ℕ) → p ≡ slotPlace k s → CanPopIn (t .stack) p
-pop-asks {t} {k} {s} C p ep = stack.can-pop (C .whole .stack) p (omega (arith, ep, C .level, C .slot))
-
--- as the code has the place
-pub pops-slot : {t : WheelWords} {p item : ℕ} {t′ : WheelWords} → Pops t p item t′ → {q : ℕ} → p ≡ q → Pops t q item t′
-pops-slot {t} {p} {item} {t′} Q e = subst (λ (z : ℕ). Pops t z item t′) e Q
+pub pop-asks : {t : WheelWords} {k s : ℕ} → CanPop t k s → CanPopSlot (t .stack .heads) (t .stack .links) k s
+pop-asks {t} {k} {s} C = stack.can-pop-slot (C .whole .stack) k s (C .level) (C .slot)
 
 -- ---- a record comes to a list that is no slot
 
@@ -278,11 +268,10 @@ module _ {t : WheelWords} {i : ℕ} (C : CanLeave t i) {u : StackWords} (eu : u 
   leaves-more h = leaves (left-some (C .whole) left-here was-filled h)
 
   module _ (slot : from < slots) where
-    pub leaves-flag : (from % 64 < 64) × (flagAt (at (t .occupied) (from / 64)) (from % 64) ≡ true)
+    pub leaves-flag : flagAt (at (t .occupied) (from / 64)) (from % 64) ≡ true
     leaves-flag =
         let e : slotPlace (from / 64) (from % 64) ≡ from = omega arith in
-        (omega arith, flag-is (C .whole .rows) (from / 64) (from % 64) (omega arith) (omega arith) ∙ ap (λ (z : ℕ). filled (lists t z)) e ∙ was-filled)
+        flag-is (C .whole .rows) (from / 64) (from % 64) (omega arith) (omega arith) ∙ ap (λ (z : ℕ). filled (lists t z)) e ∙ was-filled
 
-    pub leaves-last : headIn u from ≡ nobody → (r : ℕ) → r ≡ rowOf (flagged (flagAt (at (t .occupied) (from / 64))) (from % 64) false)
-        → Leaves t i (wheelWords (t .elapsed) (set (t .occupied) (from / 64) r) u)
-    leaves-last h r er = leaves (left-none (C .whole) left-here (from / 64) (from % 64) r (omega arith) (omega arith) (omega arith) h er)
+    pub leaves-last : headIn u from ≡ nobody → {occ : List ℕ} → occ ≡ withFlag (t .occupied) (from / 64) (from % 64) false → Leaves t i (wheelWords (t .elapsed) occ u)
+    leaves-last h eo = leaves (left-none (C .whole) left-here (from / 64) (from % 64) (omega arith) (omega arith) (omega arith) h eo)

@@ -1,10 +1,13 @@
 // The timer wheel: six levels of 64 slots.
 use stack::Stacks;
+ghost use mathlib.Core.Path.{_≡_};
+ghost use mathlib.Core.Bool.{true, false, cond};
 ghost use Prim.Native.Nat.{_-_, _≤_, _<_};
+ghost use Rattle.row.specs.Row.{flagAt, rowOf, flagged};
 ghost use Rattle.times.specs.Times.{levelOf};
 ghost use Rattle.links.specs.Links.{at};
 ghost use Rattle.wheel.specs.Wheel.{Lists, arrive};
-ghost use Rattle.wheel.specs.Rows.{Rows};
+ghost use Rattle.wheel.specs.Rows.{Rows, withFlag};
 ghost use Rattle.wheel.specs.Expiration.{NotPassed, NextIs, WakeIs};
 ghost use Rattle.links.specs.Lists.{change};
 ghost use Rattle.stack.specs.Places.{slotPlace, slots, places, put};
@@ -36,6 +39,35 @@ pub enum Next {
     Nothing,
 }
 
+// A row of `with_flag`: the slot's flag, if this row is the one.
+fn flag_if(here: bool, row: u64, slot: usize, flag: bool) -> u64
+    requires { ⌜ (slot < 64) × (here ≡ true → flag ≡ false → flagAt row slot ≡ true) ⌝ }
+    ensures { λ r. ⌜ r ≡ cond here (rowOf (flagged (flagAt row) slot flag)) row ⌝ }
+{
+    if here {
+        if flag {
+            return row::set(row, slot);
+        }
+        return row::clear(row, slot);
+    }
+    row
+}
+
+// The rows with the slot's flag at the level. All six are gone through, so that none is looked for in memory: the compiler
+// keeps them in registers.
+fn with_flag(rows: [u64; 6], level: usize, slot: usize, flag: bool) -> [u64; 6]
+    requires { ⌜ (level < 6) × (slot < 64) × (flag ≡ false → flagAt (at rows level) slot ≡ true) ⌝ }
+    ensures { λ r. ⌜ r ≡ withFlag rows level slot flag ⌝ }
+{
+    let mut r = rows;
+    let mut k: usize = 0;
+    while k < times::NUM_LEVELS {
+        r[k] = flag_if(k == level, r[k], slot, flag);
+        k += 1;
+    }
+    r
+}
+
 // The loose record `item`, with the deadline `when`, joins its slot of the level.
 fn add_entry(
     wheel: Wheel,
@@ -55,12 +87,11 @@ fn add_entry(
         (words r (now (heads .exit)) (now (nexts .exit)) (now (prevs .exit)) (now (marks .exit))) ⌝ }
 {
     let slot = times::slot_for(when, level);
-    let place = stack::slot_place(level, slot);
-    let before = wheel.stacks;
-    let after = stack::push(before, heads, nexts, prevs, marks, place, item);
+    stack::push_slot(heads, nexts, prevs, marks, level, slot, item);
+    let rows = wheel.occupied;
+    let occupied = with_flag(rows, level, slot, true);
     let mut w = wheel;
-    w.stacks = after;
-    w.occupied[level] = row::set(w.occupied[level], slot);
+    w.occupied = occupied;
     w
 }
 
@@ -132,20 +163,17 @@ fn pop_entry(
         (r .item)
         (words (r .wheel) (now (heads .exit)) (now (nexts .exit)) (now (prevs .exit)) (now (marks .exit))) ⌝ }
 {
-    let place = stack::slot_place(level, slot);
-    let before = wheel.stacks;
-    let popped = stack::pop(before, heads, nexts, prevs, marks, place);
-    let item = popped.item;
-    let after = popped.stacks;
-    let mut w = wheel;
-    w.stacks = after;
+    let item = stack::pop_slot(heads, nexts, prevs, marks, level, slot);
     if item == links::NOBODY {
-        return Entry { item, wheel: w };
+        return Entry { item, wheel };
     }
-    if stack::head_of(after, heads, place) != links::NOBODY {
-        return Entry { item, wheel: w };
+    if heads[level][slot] != links::NOBODY {
+        return Entry { item, wheel };
     }
-    w.occupied[level] = row::clear(w.occupied[level], slot);
+    let rows = wheel.occupied;
+    let occupied = with_flag(rows, level, slot, false);
+    let mut w = wheel;
+    w.occupied = occupied;
     Entry { item, wheel: w }
 }
 
@@ -178,7 +206,9 @@ pub fn remove(
     }
     let level = place as usize / 64;
     let slot = place as usize % 64;
-    w.occupied[level] = row::clear(w.occupied[level], slot);
+    let rows = wheel.occupied;
+    let occupied = with_flag(rows, level, slot, false);
+    w.occupied = occupied;
     w
 }
 

@@ -1,6 +1,7 @@
 -- `remove` meets its contract: the list is no slot (`leaves-aside`), more are left (`leaves-more`), or it was the last (`leaves-last`).
 use borrow.Author.Needs.{needs}
 use mathlib.Core.Path.{sym, _∙_}
+use native.Mathlib.Omega.{arith}
 use Rattle.wheel.specs.Words.{leave-asks, leaves-aside, leaves-more, leaves-flag, leaves-last}
 use Rattle.wheel.proofs.remove.Statement.{statement}
 use Rattle.wheel.proofs.remove.Tie as tie
@@ -47,20 +48,8 @@ cast-level c = search needs
 cast-slot : tie.Need-cast-slot
 cast-slot c = search needs
 
-mul-clear : tie.Need-mul-clear
-mul-clear c = search needs
-
-element-copy-out-clear : tie.Need-element-copy-out-clear
-element-copy-out-clear c = search needs
-
-clear-requires : tie.Need-clear-requires
-clear-requires c κs = leaves-flag (c .before .before .before .before .before .before .before .before .before .before .before .before .before .before .before .before .before .before .before .before .before .pre) (c .before .before .before .before .before .before .before .before .before .before .before .remove .ensures) (c .before .before .before .before .if1 .left)
-
-mul-w : tie.Need-mul-w
-mul-w c = search needs
-
-element-write-w : tie.Need-element-write-w
-element-write-w c = search needs
+with-flag-requires : tie.Need-with-flag-requires
+with-flag-requires c κs = (omega (arith, c .before .before .before .before .if1 .left), omega arith, λ _. leaves-flag (c .before .before .before .before .before .before .before .before .before .before .before .before .before .before .before .before .before .before .before .before .before .pre) (c .before .before .before .before .before .before .before .before .before .before .before .remove .ensures) (c .before .before .before .before .if1 .left))
 
 same-length-7 : tie.Need-same-length-7
 same-length-7 c = search needs
@@ -72,7 +61,7 @@ same-length-9 : tie.Need-same-length-9
 same-length-9 c = search needs
 
 returns-3 : tie.Need-returns-3
-returns-3 c = leaves-last (c .before .before .before .before .before .before .before .before .before .before .before .before .before .before .before .before .before .before .before .before .before .before .pre) (c .before .before .before .before .before .before .before .before .before .before .before .before .remove .ensures) (c .before .before .before .before .before .if1 .left) (sym (c .before .before .before .head-of .ensures) ∙ c .before .before .if2 .left) _ (c .clear .ensures)
+returns-3 c = leaves-last (c .before .before .before .before .before .before .before .before .before .before .before .before .before .before .before .before .before .before .before .before .before .before .pre) (c .before .before .before .before .before .before .before .before .before .before .before .before .remove .ensures) (c .before .before .before .before .before .if1 .left) (sym (c .before .before .before .head-of .ensures) ∙ c .before .before .if2 .left) (c .with-flag .ensures)
 
 pub remove-spec : {M : Type 1} → statement M
 remove-spec =
@@ -92,11 +81,7 @@ remove-spec =
     returns-2
     cast-level
     cast-slot
-    mul-clear
-    element-copy-out-clear
-    clear-requires
-    mul-w
-    element-write-w
+    with-flag-requires
     same-length-7
     same-length-8
     same-length-9

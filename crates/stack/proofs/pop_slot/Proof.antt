@@ -1,0 +1,68 @@
+-- `pop_slot` meets its contract: nobody was there (`pop-none`), or the head leaves (`pop-slot-is`).
+use borrow.Author.Needs.{needs}
+use mathlib.Core.Path.{refl}
+use Rattle.stack.specs.Heads.{slot-head}
+use Rattle.stack.specs.Words.{pop-none, pop-slot-is}
+use Rattle.stack.proofs.pop_slot.Statement.{statement}
+use Rattle.stack.proofs.pop_slot.Tie as tie
+
+mul-h : tie.Need-mul-h
+mul-h c = search needs
+
+mul-h-2 : tie.Need-mul-h-2
+mul-h-2 c = search needs
+
+index-1-h : tie.Need-index-1-h
+index-1-h c = search needs
+
+index-2-h : tie.Need-index-2-h
+index-2-h c = search needs
+
+returns : tie.Need-returns
+returns c = (refl, λ st. pop-none _ _ _ (slot-head _ _ (c .before .before .before .before .before .pre .level) (c .before .before .before .before .before .pre .slot) st _) (c .if1 .taken))
+
+cut-requires : tie.Need-cut-requires
+cut-requires c κs = c .before .before .before .before .before .before .before .before .pre .linked (c .before .before .before .if1 .left)
+
+mul-heads : tie.Need-mul-heads
+mul-heads c = search needs
+
+mul-heads-2 : tie.Need-mul-heads-2
+mul-heads-2 c = search needs
+
+index-1-heads : tie.Need-index-1-heads
+index-1-heads c = search needs
+
+index-2-heads : tie.Need-index-2-heads
+index-2-heads c = search needs
+
+same-length : tie.Need-same-length
+same-length c = search needs
+
+same-length-2 : tie.Need-same-length-2
+same-length-2 c = search needs
+
+same-length-3 : tie.Need-same-length-3
+same-length-3 c = search needs
+
+returns-2 : tie.Need-returns-2
+returns-2 c = (refl, pop-slot-is _ _ (c .before .before .before .before .before .before .before .before .before .before .before .before .before .before .before .pre .level) (c .before .before .before .before .before .before .before .before .before .before .before .before .before .before .before .pre .slot) _ _ _ _ refl (c .before .before .before .before .before .before .before .before .before .before .if1 .left) (c .before .before .before .before .before .before .before .before .before .before .before .before .before .before .before .pre .marked (c .before .before .before .before .before .before .before .before .before .before .if1 .left)) (c .before .before .before .before .before .before .cut .ensures .0) refl (c .before .before .before .before .before .before .cut .ensures .1))
+
+pub pop-slot-spec : {M : Type 1} → statement M
+pop-slot-spec =
+    tie.close
+    (tie.spec
+    mul-h
+    mul-h-2
+    index-1-h
+    index-2-h
+    returns
+    cut-requires
+    mul-heads
+    mul-heads-2
+    index-1-heads
+    index-2-heads
+    same-length
+    same-length-2
+    same-length-3
+    returns-2)

@@ -1,0 +1,67 @@
+-- `push_slot` meets its contract, store by store (`push-slot-is`).
+use borrow.Author.Needs.{needs}
+use mathlib.Core.Path.{refl}
+use Rattle.stack.specs.Words.{push-slot-is}
+use Rattle.stack.proofs.push_slot.Statement.{statement}
+use Rattle.stack.proofs.push_slot.Tie as tie
+
+mul-h : tie.Need-mul-h
+mul-h c = search needs
+
+mul-h-2 : tie.Need-mul-h-2
+mul-h-2 c = search needs
+
+index-1-h : tie.Need-index-1-h
+index-1-h c = search needs
+
+index-2-h : tie.Need-index-2-h
+index-2-h c = search needs
+
+slot-place-requires : tie.Need-slot-place-requires
+slot-place-requires c κs = search needs
+
+join-requires : tie.Need-join-requires
+join-requires c κs = search needs
+
+mul-heads : tie.Need-mul-heads
+mul-heads c = search needs
+
+mul-heads-2 : tie.Need-mul-heads-2
+mul-heads-2 c = search needs
+
+index-1-heads : tie.Need-index-1-heads
+index-1-heads c = search needs
+
+index-2-heads : tie.Need-index-2-heads
+index-2-heads c = search needs
+
+same-length : tie.Need-same-length
+same-length c = search needs
+
+same-length-2 : tie.Need-same-length-2
+same-length-2 c = search needs
+
+same-length-3 : tie.Need-same-length-3
+same-length-3 c = search needs
+
+returns : tie.Need-returns
+returns c = push-slot-is _ _ (c .before .before .before .before .before .before .before .before .before .before .before .before .before .before .before .pre .0) (c .before .before .before .before .before .before .before .before .before .before .before .before .before .before .before .pre .1) _ _ _ _ (c .before .before .before .before .before .before .before .slot-place .ensures) refl (c .before .before .before .before .before .before .join .ensures)
+
+pub push-slot-spec : {M : Type 1} → statement M
+push-slot-spec =
+    tie.close
+    (tie.spec
+    mul-h
+    mul-h-2
+    index-1-h
+    index-2-h
+    slot-place-requires
+    join-requires
+    mul-heads
+    mul-heads-2
+    index-1-heads
+    index-2-heads
+    same-length
+    same-length-2
+    same-length-3
+    returns)
