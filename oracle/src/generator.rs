@@ -1,5 +1,5 @@
-//! Command lines at random, aimed at the boundaries: one seed, one script. The script answers each
-//! line at once, so that elapsed, the pending timers and their keys are known.
+//! Command lines at random, aimed at the boundaries: one seed, one script. Who takes a line answers
+//! it at once, so that elapsed, the pending timers and their keys are known.
 use crate::bench::Store;
 use crate::line::{Answer, Command};
 use crate::malformed::malformed;
@@ -27,24 +27,63 @@ pub fn generate(seed: u64, lines: usize, with_lists: bool) -> Script {
 
 /// The same, on stores of at most `most_records`.
 pub fn generate_small(seed: u64, lines: usize, most_records: u64, with_lists: bool) -> Script {
+    let mut taker = Lines {
+        script: Script::new(with_lists),
+        most: lines,
+    };
+    give(seed, most_records, &mut taker);
+    taker.script
+}
+
+/// Who takes the lines that a seed gives.
+pub trait Taker {
+    /// It takes no more.
+    fn full(&self) -> bool;
+    /// What the lines are aimed at.
+    fn store(&self) -> Option<&Store>;
+    fn line(&mut self, line: &[u8]) -> Answer;
+    fn command(&mut self, command: Command) -> Answer;
+}
+
+struct Lines {
+    script: Script,
+    most: usize,
+}
+
+impl Taker for Lines {
+    fn full(&self) -> bool {
+        self.script.len() >= self.most
+    }
+
+    fn store(&self) -> Option<&Store> {
+        self.script.bench().store()
+    }
+
+    fn line(&mut self, line: &[u8]) -> Answer {
+        self.script.add(line)
+    }
+
+    fn command(&mut self, command: Command) -> Answer {
+        self.line(command.to_string().as_bytes())
+    }
+}
+
+/// Gives lines until the taker is full.
+pub fn give(seed: u64, most_records: u64, taker: &mut impl Taker) {
     let mut generator = Generator {
         rng: Rng::new(seed),
-        script: Script::new(with_lists),
-        lines,
+        taker,
         most_records,
         given: vec![],
         reach: REACHES[0],
         mix: MIXES[5],
     };
     generator.run();
-    generator.script
 }
 
-struct Generator {
+struct Generator<'a, T> {
     rng: Rng,
-    script: Script,
-    /// How long the script is to be.
-    lines: usize,
+    taker: &'a mut T,
     most_records: u64,
     /// Keys that were given out, many of them dead by now.
     given: Vec<u64>,
@@ -52,35 +91,31 @@ struct Generator {
     mix: [u64; 8],
 }
 
-impl Generator {
+impl<T: Taker> Generator<'_, T> {
     fn run(&mut self) {
         // These meet no store yet.
         for _ in 0..self.rng.below(6) {
             self.step();
         }
         self.format();
-        while !self.full() {
+        while !self.taker.full() {
             self.stretch();
         }
     }
 
-    fn full(&self) -> bool {
-        self.script.len() >= self.lines
-    }
-
     fn store(&self) -> Option<&Store> {
-        self.script.bench().store()
+        self.taker.store()
     }
 
     fn elapsed(&self) -> u64 {
         self.store().map_or(0, Store::elapsed)
     }
 
-    fn send(&mut self, line: &[u8]) -> Option<Answer> {
-        if self.full() {
+    fn send(&mut self, take: impl FnOnce(&mut T) -> Answer) -> Option<Answer> {
+        if self.taker.full() {
             return None;
         }
-        let answer = self.script.add(line);
+        let answer = take(self.taker);
         if let Answer::Key(key) = answer {
             self.keep(key);
         }
@@ -88,7 +123,7 @@ impl Generator {
     }
 
     fn command(&mut self, command: Command) -> Option<Answer> {
-        self.send(command.to_string().as_bytes())
+        self.send(|taker| taker.command(command))
     }
 
     fn keep(&mut self, key: u64) {
@@ -127,7 +162,7 @@ impl Generator {
         let command = self.one(kind);
         if kind == 7 {
             let line = malformed(&mut self.rng, &command.to_string());
-            self.send(&line);
+            self.send(|taker| taker.line(&line));
         } else {
             self.command(command);
         }
@@ -267,8 +302,8 @@ impl Generator {
     }
 
     fn some_pending(&mut self) -> Option<usize> {
-        let pending = self.store()?.pending();
-        (!pending.is_empty()).then(|| self.rng.pick(&pending))
+        let pending = self.taker.store()?.pending();
+        (!pending.is_empty()).then(|| self.rng.pick(pending))
     }
 
     fn some_deadline(&mut self) -> Option<u64> {

@@ -115,6 +115,21 @@ impl Queue {
         notes.heads.iter().map(|&head| self.walk(head)).collect()
     }
 
+    /// Tells each timer's list, number, value and deadline: the wheel's lists, then the expired stack
+    /// as the last, head first.
+    pub fn each(&self, mut tell: impl FnMut(usize, usize, u64, u64)) {
+        let notes = self.notes.borrow();
+        let heads = notes.heads.iter().chain([&self.expired.head]);
+        for (list, &head) in heads.enumerate() {
+            let mut at = head;
+            while let Some(key) = at {
+                let data = &self.slab[key];
+                tell(list, key.index, data.inner, data.when);
+                at = data.next;
+            }
+        }
+    }
+
     fn walk(&self, head: Option<Key>) -> Vec<usize> {
         let mut list = vec![];
         let (mut before, mut at) = (None, head);

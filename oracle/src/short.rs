@@ -25,9 +25,9 @@ pub fn count(depth: u32) -> u64 {
     (alphabet().len() as u64).pow(depth)
 }
 
-/// Adds the sequences with these numbers, each with a format before it and four lines after it that
-/// show what is left.
-pub fn add(depth: u32, numbers: Range<u64>, script: &mut Script) {
+/// Gives the sequences with these numbers, each with a format before it and four commands after it
+/// that show what is left.
+pub fn give(depth: u32, numbers: Range<u64>, mut take: impl FnMut(&[Command])) {
     let alphabet = alphabet();
     let letters = alphabet.len() as u64;
     let start = Command::Format {
@@ -39,8 +39,15 @@ pub fn add(depth: u32, numbers: Range<u64>, script: &mut Script) {
     for number in numbers {
         let letter = |place| alphabet[(number / letters.pow(place) % letters) as usize];
         let middle: Vec<Command> = (0..depth).map(letter).collect();
-        for command in [&[start][..], &middle, &end].concat() {
+        take(&[&[start][..], &middle, &end].concat());
+    }
+}
+
+/// Adds them as lines.
+pub fn add(depth: u32, numbers: Range<u64>, script: &mut Script) {
+    give(depth, numbers, |commands| {
+        for command in commands {
             script.add(command.to_string().as_bytes());
         }
-    }
+    });
 }

@@ -5,9 +5,10 @@ mod model;
 use crate::line::Answer;
 use crate::original::Original;
 use crate::rules::{block, key, level, unpack, FARTHEST, LAST_TURN, SLOTS};
-use checks::Polled;
+use checks::Before;
 use model::{Model, EXPIRED};
 use std::fmt::Write;
+use std::mem;
 
 #[derive(Clone, Copy, PartialEq, Eq, Debug)]
 enum Place {
@@ -27,8 +28,21 @@ struct Record {
     number: usize,
 }
 
+/// A pending timer, as the original holds it.
+#[derive(Clone, Copy, PartialEq, Eq, Debug)]
+pub struct Entry {
+    /// Slot s of level k is 64 k + s; the expired stack comes after the slots.
+    pub place: usize,
+    pub record: usize,
+    pub turn: u64,
+    pub value: u64,
+    pub deadline: u64,
+}
+
 pub struct Store {
     records: Vec<Record>,
+    /// The pending ones, in rising number.
+    pending: Vec<usize>,
     /// Records that left and may be taken again, the last freed at the end.
     freed: Vec<usize>,
     /// Records from this one on were never taken.
@@ -36,11 +50,12 @@ pub struct Store {
     /// The record of each number of the original.
     record_of: Vec<usize>,
     original: Original,
-    model: Model,
+    /// Only where every answer is checked.
+    model: Option<Model>,
 }
 
 impl Store {
-    pub fn new(records: usize, turn: u64) -> Store {
+    pub fn new(records: usize, turn: u64, checked: bool) -> Store {
         let free = Record {
             turn,
             value: 0,
@@ -50,11 +65,12 @@ impl Store {
         };
         Store {
             records: vec![free; records],
+            pending: vec![],
             freed: vec![],
             fresh: 0,
             record_of: vec![0; records],
             original: Original::new(records),
-            model: Model::new(records),
+            model: checked.then(|| Model::new(records)),
         }
     }
 
@@ -82,7 +98,9 @@ impl Store {
             return Answer::No(number);
         }
         self.original.reset(self.records[record].number, when);
-        self.model.remove(record);
+        if let Some(model) = &mut self.model {
+            model.remove(record);
+        }
         self.place(record, when);
         Answer::Ok
     }
@@ -93,7 +111,10 @@ impl Store {
         };
         let (value, deadline) = self.original.remove(self.records[record].number);
         self.check_held(record, value, deadline);
-        self.model.remove(record);
+        if let Some(model) = &mut self.model {
+            model.remove(record);
+        }
+        self.unpend(record);
         self.leave(record);
         Answer::Gone { value, deadline }
     }
@@ -103,21 +124,21 @@ impl Store {
         if now < elapsed {
             return Answer::No(7);
         }
-        let heights = self.heights();
-        let from_expired = !self.original.watched().expired().is_empty();
+        let before = self.model.is_some().then(|| Before {
+            now,
+            elapsed,
+            heights: self.heights(),
+            from_expired: !self.original.watched().expired().is_empty(),
+        });
         let out = self.original.poll(now).map(|(number, value, deadline)| {
             let record = self.record_of[number];
             self.check_held(record, value, deadline);
             record
         });
-        let polled = Polled {
-            now,
-            elapsed,
-            heights,
-            from_expired,
-            out,
-        };
-        let (moves, drains) = self.check_poll(&polled);
+        let (moves, drains) = self.counted();
+        if let Some(before) = before {
+            self.check_poll(&before, out);
+        }
         let Some(record) = out else {
             return Answer::Nothing { moves, drains };
         };
@@ -125,6 +146,7 @@ impl Store {
         let Record {
             value, deadline, ..
         } = self.records[record];
+        self.unpend(record);
         self.leave(record);
         Answer::Out {
             key,
@@ -145,8 +167,10 @@ impl Store {
 
     pub fn clear(&mut self) -> Answer {
         self.original.clear();
-        self.model = Model::new(self.records.len());
-        for record in self.pending() {
+        if let Some(model) = &mut self.model {
+            *model = Model::new(self.records.len());
+        }
+        for record in mem::take(&mut self.pending) {
             self.leave(record);
         }
         Answer::Ok
@@ -164,9 +188,32 @@ impl Store {
         self.original.wake()
     }
 
-    pub fn pending(&self) -> Vec<usize> {
-        let is = |&record: &usize| self.is_pending(record);
-        (0..self.records.len()).filter(is).collect()
+    /// The pending records, in rising number.
+    pub fn pending(&self) -> &[usize] {
+        &self.pending
+    }
+
+    /// The records that may be taken, the next first.
+    pub fn free(&self) -> impl Iterator<Item = usize> + '_ {
+        let freed = self.freed.iter().rev().copied();
+        freed.chain(self.fresh..self.size())
+    }
+
+    /// All pending timers, by place, head first.
+    pub fn entries(&self, into: &mut Vec<Entry>) {
+        into.clear();
+        let watched = self.original.watched();
+        watched.each(|place, number, value, deadline| {
+            let record = self.record_of[number];
+            into.push(Entry {
+                place,
+                record,
+                turn: self.records[record].turn,
+                value,
+                deadline,
+            });
+        });
+        assert_eq!(into.len(), self.original.len(), "all are in the lists");
     }
 
     pub fn key(&self, record: usize) -> u64 {
@@ -239,7 +286,12 @@ impl Store {
     }
 
     fn place(&mut self, record: usize, when: u64) {
-        self.model.insert(record, when);
+        if let Some(model) = &mut self.model {
+            model.insert(record, when);
+        }
+        if let Err(at) = self.pending.binary_search(&record) {
+            self.pending.insert(at, record);
+        }
         let elapsed = self.elapsed();
         let record = &mut self.records[record];
         record.deadline = when.max(elapsed);
@@ -248,6 +300,11 @@ impl Store {
         } else {
             Place::Wheel
         };
+    }
+
+    fn unpend(&mut self, record: usize) {
+        let at = self.pending.binary_search(&record).expect("pending");
+        self.pending.remove(at);
     }
 
     fn leave(&mut self, record: usize) {
@@ -270,7 +327,7 @@ impl Store {
     /// Each pending record with its height.
     fn heights(&self) -> Vec<(usize, usize)> {
         let height = |record| (record, self.height(record));
-        self.pending().into_iter().map(height).collect()
+        self.pending.iter().copied().map(height).collect()
     }
 }
 

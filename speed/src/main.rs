@@ -1,5 +1,6 @@
 //! What the queue costs, beside the original and the C prototype. docs/SPEED.md says what is measured.
 mod clock;
+#[allow(dead_code)] // oracle/scale-program calls the rest
 mod ours;
 mod prototype;
 mod replay;

@@ -1,13 +1,25 @@
 //! Our queue, through the functions that crates/face exports. A slice crosses as its pointer and its length.
-use speed::script::Command;
+//! oracle/scale-program takes this file too.
 
 type State = [u64; 10];
 type Heads = [[u16; 64]; 6];
 
+/// A command of the benchmark.
+type Command = [u64; 2];
+/// A call: its number, in the order of `Call` in crates/delay_queue, and two arguments. A poll's time is the second.
+pub type Call = [u64; 3];
+/// An answer: its number, in the order of `Answer` in crates/queue, and its parts.
+pub type Answer = [u64; 6];
+
+pub const FORMAT: u64 = 0;
+
 #[rustfmt::skip]
 extern "C" {
-    fn face_format(state: &mut State, heads: &mut Heads, values: *mut u64, v: usize, deadlines: *mut u64, d: usize, nexts: *mut u16, x: usize,
-        prevs: *mut u16, p: usize, turns: *mut u64, t: usize, marks: *mut u16, m: usize, n: u64, turn: u64);
+    fn face_call(state: &mut State, heads: &mut Heads, values: *mut u64, v: usize, deadlines: *mut u64, d: usize, nexts: *mut u16, x: usize,
+        prevs: *mut u16, p: usize, turns: *mut u64, t: usize, marks: *mut u16, m: usize, op: u64, a: u64, b: u64, answer: &mut Answer);
+    fn face_answers(state: &mut State, heads: &mut Heads, values: *mut u64, v: usize, deadlines: *mut u64, d: usize, nexts: *mut u16, x: usize,
+        prevs: *mut u16, p: usize, turns: *mut u64, t: usize, marks: *mut u16, m: usize, script: *const u64, words: usize,
+        answers: *mut u64, room: usize) -> bool;
     fn face_judge(state: &State, heads: &Heads, values: *const u64, v: usize, deadlines: *const u64, d: usize, nexts: *const u16, x: usize,
         prevs: *const u16, p: usize, turns: *const u64, t: usize, marks: *const u16, m: usize) -> bool;
     fn face_inner(state: &mut State, heads: &mut Heads, values: *mut u64, v: usize, deadlines: *mut u64, d: usize, nexts: *mut u16, x: usize,
@@ -18,14 +30,15 @@ extern "C" {
 
 /// A store, lent anew to each call.
 pub struct Store {
-    state: State,
-    heads: Heads,
-    values: Vec<u64>,
-    deadlines: Vec<u64>,
-    nexts: Vec<u16>,
-    prevs: Vec<u16>,
-    turns: Vec<u64>,
-    marks: Vec<u16>,
+    /// Elapsed, six rows, n, the heads of the expired stack and of the free list.
+    pub state: State,
+    pub heads: Heads,
+    pub values: Vec<u64>,
+    pub deadlines: Vec<u64>,
+    pub nexts: Vec<u16>,
+    pub prevs: Vec<u16>,
+    pub turns: Vec<u64>,
+    pub marks: Vec<u16>,
 }
 
 /// Calls the function with the store's parts, and then what follows them.
@@ -44,7 +57,15 @@ macro_rules! lend {
 
 impl Store {
     pub fn new(n: usize) -> Store {
-        let mut store = Store {
+        let mut store = Store::room(n);
+        assert_eq!(store.call([FORMAT, n as u64, 1]), [0; 6], "formatted");
+        assert!(store.judge(), "a fresh store must be sound");
+        store
+    }
+
+    /// Memory for so many records, and no store in it.
+    pub fn room(n: usize) -> Store {
+        Store {
             state: [0; 10],
             heads: [[0; 64]; 6],
             values: vec![0; n],
@@ -53,14 +74,25 @@ impl Store {
             prevs: vec![0; n],
             turns: vec![0; n],
             marks: vec![0; n],
-        };
-        lend!(face_format, &mut store, n as u64, 1);
-        assert!(store.judge(), "a fresh store must be sound");
-        store
+        }
     }
 
     pub fn judge(&mut self) -> bool {
         lend!(face_judge, self)
+    }
+
+    /// One call, which judges first.
+    pub fn call(&mut self, [op, a, b]: Call) -> Answer {
+        let mut answer = [u64::MAX; 6];
+        lend!(face_call, self, op, a, b, &mut answer);
+        answer
+    }
+
+    /// Calls that judge nothing, with their answers. Says whether the store was sound before the first.
+    pub fn answers(&mut self, calls: &[Call], answers: &mut [Answer]) -> bool {
+        let (script, words) = (calls.as_ptr().cast(), 3 * calls.len());
+        let (to, room) = (answers.as_mut_ptr().cast(), 6 * answers.len());
+        lend!(face_answers, self, script, words, to, room)
     }
 
     /// The whole script by the calls that judge nothing.

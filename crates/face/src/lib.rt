@@ -1,13 +1,19 @@
-// What the benchmark calls (speed/): scripts of commands on the queue, with and without the judge, and the judge alone.
+// What the benchmark (speed/) and the comparison at scale (oracle/scale) call: the queue with and without the judge, and the judge alone.
 use delay_queue::Call;
 use queue::Answer;
 use queue::Out;
 use stack::Stacks;
 use wheel::Wheel;
 ghost use mathlib.Core.Path.{_≡_};
+ghost use Prim.Native.Nat.{_+_, _≤_};
+ghost use lib.ListN.{length};
 ghost use Rattle.records.specs.Words.{words, Sound};
+ghost use Rattle.wheel.specs.Expiration.{NotPassed};
 
-// A command is two words: what to do in the top four bits and the key below, then the deadline or the time.
+// Calls by number, in the order of `Call`. A call is three words: its number, then a value, a key or N, then a deadline, a time or a first
+// turn. A command of the benchmark is two: its number in the top four bits and the key below, then the deadline or the time.
+const FORMAT: u64 = 0;
+
 const INSERT: u64 = 1;
 
 const RESET: u64 = 2;
@@ -15,6 +21,10 @@ const RESET: u64 = 2;
 const REMOVE: u64 = 3;
 
 const POLL: u64 = 4;
+
+const LENGTH: u64 = 6;
+
+const CLEAR: u64 = 7;
 
 // The state after a command, and the sum of what has been answered.
 pub struct Ran {
@@ -189,6 +199,183 @@ fn script_on(
     Ran { wheel: w, sum }
 }
 
+// The calls that change nothing.
+fn asked(wheel: Wheel, marks: &[u16], op: u64) -> Answer
+    requires { ⌜ NotPassed (wheel .elapsed) (wheel .occupied) × (wheel .stacks .n ≤ length (now marks)) ⌝ }
+{
+    if op == LENGTH {
+        let stacks = wheel.stacks;
+        return Answer::Length(queue::length(stacks.n, marks));
+    }
+    queue::next_wake(wheel)
+}
+
+// One call on a sound store, which stays sound. Nothing formats here: that number too asks for the next wake. The benchmark has `turn` of
+// its own: there no answer is handed on, which would be measured too.
+fn called(
+    wheel: Wheel,
+    heads: &mut [[u16; 64]; 6],
+    values: &mut [u64],
+    deadlines: &mut [u64],
+    nexts: &mut [u16],
+    prevs: &mut [u16],
+    turns: &mut [u64],
+    marks: &mut [u16],
+    op: u64,
+    a: u64,
+    b: u64,
+) -> Out
+    requires { ⌜ Sound (words wheel (now heads) (now values) (now deadlines) (now nexts) (now prevs) (now turns) (now marks)) ⌝ }
+    ensures { λ r. ⌜ Sound (words (r .wheel) (now (heads .exit)) (now (values .exit)) (now (deadlines .exit)) (now (nexts .exit)) (now (prevs .exit)) (now (turns .exit)) (now (marks .exit))) ⌝ }
+{
+    if op == INSERT {
+        return queue::insert(
+            wheel,
+            heads,
+            values,
+            deadlines,
+            nexts,
+            prevs,
+            turns,
+            marks,
+            a,
+            b,
+        );
+    }
+    if op == RESET {
+        return queue::reset(
+            wheel,
+            heads,
+            values,
+            deadlines,
+            nexts,
+            prevs,
+            turns,
+            marks,
+            a,
+            b,
+        );
+    }
+    if op == REMOVE {
+        return queue::remove(
+            wheel,
+            heads,
+            values,
+            deadlines,
+            nexts,
+            prevs,
+            turns,
+            marks,
+            a,
+        );
+    }
+    if op == POLL {
+        return queue::poll(
+            wheel,
+            heads,
+            values,
+            deadlines,
+            nexts,
+            prevs,
+            turns,
+            marks,
+            b,
+        );
+    }
+    if op == CLEAR {
+        return queue::clear(wheel, heads, values, deadlines, nexts, prevs, turns, marks);
+    }
+    let answer = asked(wheel, marks, op);
+    Out { answer, wheel }
+}
+
+// An answer's number, in the order of `Answer`, and its parts.
+fn words_of(answer: Answer) -> [u64; 6] {
+    match answer {
+        Answer::Done => [0, 0, 0, 0, 0, 0],
+        Answer::Key(key) => [1, key, 0, 0, 0, 0],
+        Answer::Gone(value, deadline) => [2, value, deadline, 0, 0, 0],
+        Answer::Out(key, value, deadline, moves, drains) => [
+            3,
+            key,
+            value,
+            deadline,
+            moves,
+            drains,
+        ],
+        Answer::Nothing(moves, drains) => [4, moves, drains, 0, 0, 0],
+        Answer::Wake(time) => [5, time, 0, 0, 0, 0],
+        Answer::NoWake => [6, 0, 0, 0, 0, 0],
+        Answer::Length(n) => [7, n, 0, 0, 0, 0],
+        Answer::No(number) => [8, number, 0, 0, 0, 0],
+    }
+}
+
+fn write_words(to: &mut [u64], at: usize, words: [u64; 6])
+    requires { ⌜ at + 6 ≤ length (now to) ⌝ }
+{
+    to[at] = words[0];
+    to[at + 1] = words[1];
+    to[at + 2] = words[2];
+    to[at + 3] = words[3];
+    to[at + 4] = words[4];
+    to[at + 5] = words[5];
+}
+
+fn least(x: usize, y: usize) -> usize
+    ensures { λ r. ⌜ (r ≤ x) × (r ≤ y) ⌝ }
+{
+    if x < y {
+        return x;
+    }
+    y
+}
+
+// As many calls of three words on a sound store as have room for their answers, six words each.
+fn answers_on(
+    wheel: Wheel,
+    heads: &mut [[u16; 64]; 6],
+    values: &mut [u64],
+    deadlines: &mut [u64],
+    nexts: &mut [u16],
+    prevs: &mut [u16],
+    turns: &mut [u64],
+    marks: &mut [u16],
+    script: &[u64],
+    answers: &mut [u64],
+) -> Wheel
+    requires { ⌜ Sound (words wheel (now heads) (now values) (now deadlines) (now nexts) (now prevs) (now turns) (now marks)) ⌝ }
+{
+    let mut w = wheel;
+    let commands = least(script.len() / 3, answers.len() / 6);
+    let mut i: usize = 0;
+    while i < commands {
+        let op = script[3 * i];
+        let a = script[3 * i + 1];
+        let b = script[3 * i + 2];
+        let at = 6 * i;
+        i += 1;
+        let out = called(
+            w,
+            heads,
+            values,
+            deadlines,
+            nexts,
+            prevs,
+            turns,
+            marks,
+            op,
+            a,
+            b,
+        );
+        let answer = out.answer;
+        let after = out.wheel;
+        w = after;
+        write_words(answers, at, words_of(answer));
+    }
+    w
+}
+
 fn low(x: u64) -> u16 {
     (x % 65536) as u16
 }
@@ -220,39 +407,6 @@ fn keep_state(s: &mut [u64; 10], wheel: Wheel) {
     s[7] = stacks.n as u64;
     s[8] = stacks.expired as u64;
     s[9] = stacks.free as u64;
-}
-
-// A fresh store of n records.
-#[no_mangle]
-pub extern "C" fn face_format(
-    state: &mut [u64; 10],
-    heads: &mut [[u16; 64]; 6],
-    values: &mut [u64],
-    deadlines: &mut [u64],
-    nexts: &mut [u16],
-    prevs: &mut [u16],
-    turns: &mut [u64],
-    marks: &mut [u16],
-    n: u64,
-    turn: u64,
-) {
-    let before = state_of(state);
-    let reply = delay_queue::format(
-        before,
-        *heads,
-        values,
-        deadlines,
-        nexts,
-        prevs,
-        turns,
-        marks,
-        n,
-        turn,
-    );
-    let after = reply.state;
-    let h = reply.heads;
-    keep_state(state, after);
-    *heads = delay_queue::rows_of(h);
 }
 
 // Whether the store is sound.
@@ -321,22 +475,117 @@ pub extern "C" fn face_inner(
     end.sum
 }
 
-fn call_of(first: u64, second: u64, value: u64) -> Call {
-    let op = first >> 60;
-    let key = first % (1 << 60);
+// Calls that judge nothing, with their answers. The store is judged once, before the first: whether it is sound.
+#[no_mangle]
+pub extern "C" fn face_answers(
+    state: &mut [u64; 10],
+    heads: &mut [[u16; 64]; 6],
+    values: &mut [u64],
+    deadlines: &mut [u64],
+    nexts: &mut [u16],
+    prevs: &mut [u16],
+    turns: &mut [u64],
+    marks: &mut [u16],
+    script: &[u64],
+    answers: &mut [u64],
+) -> bool {
+    let before = state_of(state);
+    if !judge::is_sound(
+        before,
+        *heads,
+        values,
+        deadlines,
+        nexts,
+        prevs,
+        turns,
+        marks,
+    ) {
+        return false;
+    }
+    let after = answers_on(
+        before,
+        heads,
+        values,
+        deadlines,
+        nexts,
+        prevs,
+        turns,
+        marks,
+        script,
+        answers,
+    );
+    keep_state(state, after);
+    true
+}
+
+fn call_of(op: u64, a: u64, b: u64) -> Call {
+    if op == FORMAT {
+        return Call::Format(a, b);
+    }
     if op == INSERT {
-        return Call::Insert(value, second);
+        return Call::Insert(a, b);
     }
     if op == RESET {
-        return Call::Reset(key, second);
+        return Call::Reset(a, b);
     }
     if op == REMOVE {
-        return Call::Remove(key);
+        return Call::Remove(a);
     }
     if op == POLL {
-        return Call::Poll(second);
+        return Call::Poll(b);
+    }
+    if op == LENGTH {
+        return Call::Length;
+    }
+    if op == CLEAR {
+        return Call::Clear;
     }
     Call::Wake
+}
+
+// One call as users make it, which judges the store first, with its answer.
+#[no_mangle]
+pub extern "C" fn face_call(
+    state: &mut [u64; 10],
+    heads: &mut [[u16; 64]; 6],
+    values: &mut [u64],
+    deadlines: &mut [u64],
+    nexts: &mut [u16],
+    prevs: &mut [u16],
+    turns: &mut [u64],
+    marks: &mut [u16],
+    op: u64,
+    a: u64,
+    b: u64,
+    answer: &mut [u64; 6],
+) {
+    let before = state_of(state);
+    let call = call_of(op, a, b);
+    let reply = step::step(
+        before,
+        *heads,
+        values,
+        deadlines,
+        nexts,
+        prevs,
+        turns,
+        marks,
+        call,
+    );
+    let after = reply.state;
+    let h = reply.heads;
+    let said = reply.answer;
+    keep_state(state, after);
+    *heads = delay_queue::rows_of(h);
+    *answer = words_of(said);
+}
+
+// The command's key, or the value that its place in the script gives.
+fn first_of(first: u64, i: u64) -> u64 {
+    if first >> 60 == INSERT {
+        return i;
+    }
+    first % (1 << 60)
 }
 
 // The whole script by the calls that users make: every one judges the store first.
@@ -360,7 +609,8 @@ pub extern "C" fn face_judged(
     while i < commands {
         let first = script[2 * i];
         let second = script[2 * i + 1];
-        let call = call_of(first, second, i as u64);
+        let op = first >> 60;
+        let call = call_of(op, first_of(first, i as u64), second);
         i += 1;
         let reply = step::step(w, rows, values, deadlines, nexts, prevs, turns, marks, call);
         let after = reply.state;
@@ -368,7 +618,7 @@ pub extern "C" fn face_judged(
         let answer = reply.answer;
         w = after;
         rows = delay_queue::rows_of(h);
-        sum = summed(first >> 60, sum, answer, w.elapsed);
+        sum = summed(op, sum, answer, w.elapsed);
     }
     keep_state(state, w);
     *heads = rows;

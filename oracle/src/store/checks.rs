@@ -4,15 +4,13 @@ use super::{Place, Store};
 use crate::rules::{block, level, slot, LAST_TURN, SLOTS, WIDTHS};
 use std::collections::BTreeSet;
 
-/// A poll that was just made; its record has not yet left.
-pub struct Polled {
+/// What a poll at `now` is made on.
+pub struct Before {
     pub now: u64,
-    /// Elapsed and heights before it.
     pub elapsed: u64,
     pub heights: Vec<(usize, usize)>,
-    /// The expired stack held something, so the poll popped it.
+    /// The expired stack holds something, so the poll pops it.
     pub from_expired: bool,
-    pub out: Option<usize>,
 }
 
 impl Store {
@@ -22,36 +20,45 @@ impl Store {
         assert_eq!((value, deadline), (record.value, record.deadline));
     }
 
-    /// Makes the same poll by the rules. Answers moves and drains.
-    pub fn check_poll(&mut self, poll: &Polled) -> (u64, u64) {
-        let (moves, drains) = self.counted(poll);
-        let model = self.model.poll(poll.now);
-        assert_eq!((poll.out, moves, drains), model, "a poll by the rules");
-        assert_eq!((moves, drains), self.counts_by_heights(poll), "heights");
+    /// Makes the same poll by the rules. The record that came out has not yet left.
+    pub fn check_poll(&mut self, before: &Before, out: Option<usize>) {
+        let (moves, drains) = self.counted();
+        let model = self.model.as_mut().map(|model| model.poll(before.now));
+        assert_eq!(Some((out, moves, drains)), model, "a poll by the rules");
+        assert_eq!(
+            (moves, drains),
+            self.counts_by_heights(before, out),
+            "heights"
+        );
         assert!(drains <= moves && (drains == 0) == (moves == 0));
-        self.check_clock(poll);
-        self.check_least(poll);
-        (moves, drains)
+        self.check_pops(before, out);
+        self.check_clock(before, out);
+        self.check_least(before, out);
     }
 
-    /// Moves and drains as the original made them.
-    fn counted(&self, poll: &Polled) -> (u64, u64) {
+    /// Moves and drains as the original made them. A pop that hands out may empty its slot of level
+    /// 0, which is no drain.
+    pub fn counted(&self) -> (u64, u64) {
         let counts = self.original.watched().counts();
-        let handed = poll.out.is_some() && !poll.from_expired;
+        let drains = counts.emptied.iter().filter(|&&list| list >= SLOTS);
+        (counts.pushes, drains.count() as u64)
+    }
+
+    /// Every pop is a move, but the one that hands out.
+    fn check_pops(&self, before: &Before, out: Option<usize>) {
+        let counts = self.original.watched().counts();
+        let handed = out.is_some() && !before.from_expired;
         assert_eq!(counts.pops, counts.pushes + handed as u64);
-        // A pop that hands out may empty its slot of level 0, which is no drain.
-        let (level_0, drained): (Vec<usize>, Vec<usize>) =
-            counts.emptied.iter().partition(|&&list| list < SLOTS);
-        assert!(level_0.len() <= handed as usize);
-        (counts.pushes, drained.len() as u64)
+        let level_0 = counts.emptied.iter().filter(|&&list| list < SLOTS);
+        assert!(level_0.count() <= handed as usize);
     }
 
     /// Moves as heights before less heights after, drains as the slots passed through.
-    fn counts_by_heights(&self, poll: &Polled) -> (u64, u64) {
+    fn counts_by_heights(&self, before: &Before, out: Option<usize>) -> (u64, u64) {
         let mut moves = 0;
         let mut drained = BTreeSet::new();
-        for &(record, before) in &poll.heights {
-            let after = match poll.out {
+        for &(record, before) in &before.heights {
+            let after = match out {
                 Some(out) if out == record => 0,
                 _ => self.height(record),
             };
@@ -62,40 +69,45 @@ impl Store {
         (moves, drained.len() as u64)
     }
 
-    fn check_clock(&self, poll: &Polled) {
-        let expected = match poll.out {
-            None => poll.now,
-            Some(_) if poll.from_expired => poll.elapsed,
-            Some(record) => poll.elapsed.max(self.records[record].deadline / 64 * 64),
+    fn check_clock(&self, before: &Before, out: Option<usize>) {
+        let expected = match out {
+            None => before.now,
+            Some(_) if before.from_expired => before.elapsed,
+            Some(record) => before.elapsed.max(self.records[record].deadline / 64 * 64),
         };
         assert_eq!(self.elapsed(), expected, "elapsed after a poll");
     }
 
     /// Handed out: a least deadline, and due. Nothing: none is due.
-    fn check_least(&self, poll: &Polled) {
+    fn check_least(&self, before: &Before, out: Option<usize>) {
         let deadline = |record: usize| self.records[record].deadline;
-        let deadlines = poll.heights.iter().map(|&(record, _)| deadline(record));
+        let deadlines = before.heights.iter().map(|&(record, _)| deadline(record));
         let least = deadlines.min();
-        match poll.out {
+        match out {
             Some(out) => {
                 assert_eq!(Some(deadline(out)), least);
-                assert!(deadline(out) <= poll.now);
+                assert!(deadline(out) <= before.now);
             }
-            None => assert!(least.is_none_or(|due| due > poll.now)),
+            None => assert!(least.is_none_or(|due| due > before.now)),
         }
     }
 
     /// The rules between calls, judged on what the original holds.
     pub fn check_sound(&self) {
+        let Some(model) = &self.model else {
+            return;
+        };
         let lists = self.lists();
         self.check_places(&lists);
         self.check_slots(&lists);
-        for (list, expected) in lists.iter().zip(&self.model.lists) {
+        for (list, expected) in lists.iter().zip(&model.lists) {
             assert!(list.iter().eq(expected.iter().rev()), "a list by the rules");
         }
-        assert_eq!(self.elapsed(), self.model.elapsed);
-        assert_eq!(self.next_wake(), self.model.wake());
-        assert_eq!(self.original.len(), self.pending().len());
+        assert_eq!(self.elapsed(), model.elapsed);
+        assert_eq!(self.next_wake(), model.wake());
+        let pending = (0..self.size()).filter(|&record| self.is_pending(record));
+        assert!(pending.eq(self.pending.iter().copied()));
+        assert_eq!(self.original.len(), self.pending.len());
     }
 
     /// Every record is in exactly one place, and the marks tell which.

@@ -1,0 +1,284 @@
+//! One script, as it is made: each command goes to the original and to ours, and all is compared.
+use crate::contents::{compare_rest, Contents};
+use crate::ours;
+use crate::tally::Tally;
+use crate::wrong::Wrong;
+use crate::Found;
+use oracle::bench::{Bench, Store};
+use oracle::generator::Taker;
+use oracle::line::{parse, Answer, Command};
+use oracle::rules::MOST_RECORDS;
+use std::mem;
+use std::thread;
+
+/// So many calls go to ours at once where they judge nothing.
+const AT_ONCE: usize = 64;
+
+#[derive(Clone, Copy, PartialEq, Eq)]
+pub enum How {
+    /// Calls that judge first, lists compared after each.
+    Judged,
+    /// The same, and every check of the oracle's own is made.
+    Checked,
+    /// Calls that judge nothing, lists compared after every [`AT_ONCE`]. Format is a call that users make.
+    Inner,
+}
+
+impl How {
+    pub fn name(self) -> &'static str {
+        match self {
+            How::Judged => "judged",
+            How::Checked => "checked",
+            How::Inner => "inner",
+        }
+    }
+}
+
+pub struct Difference {
+    /// The command's number, counted from 1.
+    pub number: usize,
+    pub command: String,
+    pub expected: String,
+    pub got: String,
+}
+
+pub struct Compared {
+    how: How,
+    bench: Bench,
+    ours: ours::Store,
+    /// How many lines are taken, malformed ones too; and how many have been.
+    most: usize,
+    lines: usize,
+    commands: Vec<Command>,
+    /// The last of the commands, which ours has not yet had, with their answers by the original.
+    waiting: Vec<ours::Call>,
+    expected: Vec<Answer>,
+    contents: Contents,
+    tally: Tally,
+    wrong: Option<Wrong>,
+    /// After so many commands a word was made wrong.
+    made: Option<usize>,
+    difference: Option<Difference>,
+}
+
+impl Compared {
+    pub fn new(how: How, most: usize, wrong: Option<Wrong>) -> Compared {
+        let bench = match how {
+            How::Checked => Bench::default(),
+            _ => Bench::unchecked(),
+        };
+        Compared {
+            how,
+            bench,
+            ours: ours::Store::room(MOST_RECORDS as usize),
+            most,
+            lines: 0,
+            commands: vec![],
+            waiting: vec![],
+            expected: vec![],
+            contents: Contents::default(),
+            tally: Tally::default(),
+            wrong,
+            made: None,
+            difference: None,
+        }
+    }
+
+    /// Begins another script, on the memory that is there.
+    pub fn start(&mut self) {
+        self.commands.clear();
+        self.lines = 0;
+    }
+
+    /// The script is at its end.
+    pub fn end(&mut self) {
+        self.flush();
+        self.compare_rest();
+        self.tally.scripts += 1;
+    }
+
+    /// The counts, and what differs, with the script so far as lines of the bench.
+    pub fn done(&mut self, name: String) -> (Tally, Option<Found>) {
+        let tally = mem::take(&mut self.tally);
+        let found = self.difference.take().map(|difference| Found {
+            script: self.commands[..difference.number]
+                .iter()
+                .map(|command| format!("{command}\n"))
+                .collect(),
+            name,
+            at_once: self.made.is_none_or(|made| difference.number <= made),
+            difference,
+        });
+        (tally, found)
+    }
+
+    /// Ours gets what is waiting.
+    fn flush(&mut self) {
+        if self.waiting.is_empty() {
+            return;
+        }
+        let mut got = [[u64::MAX; 6]; AT_ONCE];
+        let got = &mut got[..self.waiting.len()];
+        if self.how == How::Inner
+            && self.waiting[0][0] != ours::FORMAT
+            && self.bench.store().is_some()
+        {
+            self.ours.answers(&self.waiting, got);
+        } else {
+            for (call, got) in self.waiting.iter().zip(&mut *got) {
+                *got = self.ours.call(*call);
+            }
+        }
+        if let (Some(wrong), Some(_)) = (self.wrong, self.bench.store()) {
+            if wrong.is_due(self.commands.len(), &self.ours) {
+                wrong.make(got, &mut self.ours);
+                self.wrong = None;
+                self.made = Some(self.commands.len());
+            }
+        }
+        let first = self.commands.len() - self.waiting.len();
+        for (i, (expected, got)) in self.expected.iter().zip(&*got).enumerate() {
+            if words(*expected) != *got && self.difference.is_none() {
+                self.difference = Some(Difference {
+                    number: first + i + 1,
+                    command: self.commands[first + i].to_string(),
+                    expected: expected.to_string(),
+                    got: show(got),
+                });
+            }
+        }
+        self.waiting.clear();
+        self.expected.clear();
+        self.compare_lists();
+    }
+
+    fn compare_lists(&mut self) {
+        let Some(store) = self.bench.store() else {
+            return;
+        };
+        match self.contents.compare(store, &self.ours) {
+            Ok(timers) => {
+                self.tally.lists += 1;
+                self.tally.timers += timers;
+            }
+            Err(lists) => self.differ(lists),
+        }
+    }
+
+    fn compare_rest(&mut self) {
+        if let Some(Err(rest)) = self
+            .bench
+            .store()
+            .map(|store| compare_rest(store, &self.ours))
+        {
+            self.differ(rest);
+        }
+    }
+
+    /// After the last command.
+    fn differ(&mut self, [expected, got]: [String; 2]) {
+        let number = self.commands.len();
+        self.difference.get_or_insert_with(|| Difference {
+            number,
+            command: self.commands[number - 1].to_string(),
+            expected,
+            got,
+        });
+    }
+}
+
+impl Taker for Compared {
+    fn full(&self) -> bool {
+        self.lines >= self.most || self.difference.is_some()
+    }
+
+    fn store(&self) -> Option<&Store> {
+        self.bench.store()
+    }
+
+    /// A malformed line is no call.
+    fn line(&mut self, line: &[u8]) -> Answer {
+        match parse(line) {
+            Some(command) => self.command(command),
+            None => {
+                self.lines += 1;
+                Answer::Bad
+            }
+        }
+    }
+
+    fn command(&mut self, command: Command) -> Answer {
+        let alone = matches!(command, Command::Format { .. }) || self.bench.store().is_none();
+        if alone && !self.commands.is_empty() {
+            self.flush();
+            self.compare_rest();
+        }
+        self.lines += 1;
+        self.commands.push(command);
+        let answer = self.bench.command(command);
+        self.tally.count(command, answer);
+        self.waiting.push(call(command));
+        self.expected.push(answer);
+        if alone || self.how != How::Inner || self.waiting.len() == AT_ONCE {
+            self.flush();
+        }
+        answer
+    }
+}
+
+/// A check of the oracle's that fails is a panic: this names the command.
+impl Drop for Compared {
+    fn drop(&mut self) {
+        if let (true, Some(command)) = (thread::panicking(), self.commands.last()) {
+            eprintln!(
+                "scale: that was at command {}: {command}",
+                self.commands.len()
+            );
+        }
+    }
+}
+
+/// A command in the words of crates/face.
+fn call(command: Command) -> ours::Call {
+    match command {
+        Command::Format { records, turn } => [ours::FORMAT, records, turn],
+        Command::Insert { value, when } => [1, value, when],
+        Command::Reset { key, when } => [2, key, when],
+        Command::Remove { key } => [3, key, 0],
+        Command::Poll { now } => [4, 0, now],
+        Command::Wake => [5, 0, 0],
+        Command::Length => [6, 0, 0],
+        Command::Clear => [7, 0, 0],
+    }
+}
+
+/// An answer in the words of crates/face.
+fn words(answer: Answer) -> ours::Answer {
+    match answer {
+        Answer::Ok => [0; 6],
+        Answer::Key(key) => [1, key, 0, 0, 0, 0],
+        Answer::Gone { value, deadline } => [2, value, deadline, 0, 0, 0],
+        Answer::Out {
+            key,
+            value,
+            deadline,
+            moves,
+            drains,
+        } => [3, key, value, deadline, moves, drains],
+        Answer::Nothing { moves, drains } => [4, moves, drains, 0, 0, 0],
+        Answer::Wake(Some(time)) => [5, time, 0, 0, 0, 0],
+        Answer::Wake(None) => [6, 0, 0, 0, 0, 0],
+        Answer::Length(length) => [7, length, 0, 0, 0, 0],
+        Answer::No(number) => [8, number.into(), 0, 0, 0, 0],
+        Answer::Bad => unreachable!("a command is no malformed line"),
+    }
+}
+
+/// Our words with the name of their kind, all of them, for a part that should be 0 may not be.
+fn show(words: &ours::Answer) -> String {
+    let names = [
+        "ok", "key", "gone", "out", "none", "wake", "wake -", "len", "no",
+    ];
+    let name = names.get(words[0] as usize).unwrap_or(&"no answer");
+    format!("{name}, in words {words:?}")
+}

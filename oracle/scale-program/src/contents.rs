@@ -1,0 +1,119 @@
+//! What our store holds, read out of its memory, held against what the original holds.
+use crate::ours;
+use oracle::bench::{Entry, Store};
+use oracle::rules::SLOTS;
+use std::fmt::Write;
+
+const NOBODY: u64 = 65535;
+/// The expired stack's place, after the slots.
+const EXPIRED: usize = 6 * SLOTS;
+
+/// Both sides' pending timers, kept from one comparison to the next.
+#[derive(Default)]
+pub struct Contents {
+    original: Vec<Entry>,
+    ours: Vec<Entry>,
+}
+
+impl Contents {
+    /// Elapsed, the size, and every pending timer: its place, its turn there, key, value, deadline.
+    /// Answers how many timers there are, or what is expected and what is there.
+    pub fn compare(&mut self, store: &Store, ours: &ours::Store) -> Result<u64, [String; 2]> {
+        store.entries(&mut self.original);
+        let read = read(ours, &mut self.ours);
+        let size = store.size() as u64;
+        if read.is_ok()
+            && (ours.state[0], ours.state[7]) == (store.elapsed(), size)
+            && self.ours == self.original
+        {
+            return Ok(self.ours.len() as u64);
+        }
+        let mut there = show(ours.state[7], ours.state[0], &self.ours);
+        if let Err(odd) = read {
+            write!(there, "; {odd}").expect("memory");
+        }
+        Err([show(size, store.elapsed(), &self.original), there])
+    }
+}
+
+/// All turns, and the free list, the next to be taken first.
+pub fn compare_rest(store: &Store, ours: &ours::Store) -> Result<(), [String; 2]> {
+    let turns: Vec<u64> = (0..store.size()).map(|record| store.turn(record)).collect();
+    if turns != ours.turns[..store.size()] {
+        return Err([turns, ours.turns.clone()].map(|turns| format!("turns {turns:?}")));
+    }
+    let expected: Vec<u64> = store.free().map(|record| record as u64).collect();
+    let mut free = vec![];
+    let mut at = ours.state[9];
+    while at < store.size() as u64 && free.len() < store.size() {
+        free.push(at);
+        at = ours.nexts[at as usize].into();
+    }
+    if at == NOBODY && free == expected {
+        return Ok(());
+    }
+    free.push(at);
+    Err([
+        format!("free {expected:?}"),
+        format!("free {free:?} up to {NOBODY}"),
+    ])
+}
+
+/// Our pending timers by place, head first. An error says what is not as it must be between calls.
+fn read(ours: &ours::Store, into: &mut Vec<Entry>) -> Result<(), String> {
+    into.clear();
+    for place in 0..EXPIRED {
+        let (level, slot) = (place / SLOTS, place % SLOTS);
+        let head = ours.heads[level][slot].into();
+        let occupied = ours.state[1 + level] >> slot & 1 == 1;
+        if occupied != (head != NOBODY) {
+            return Err(format!("occupied bit {level}.{slot}"));
+        }
+        walk(ours, place, head, into)?;
+    }
+    walk(ours, EXPIRED, ours.state[8], into)
+}
+
+fn walk(ours: &ours::Store, place: usize, head: u64, into: &mut Vec<Entry>) -> Result<(), String> {
+    let most = ours.values.len().min(ours.state[7] as usize);
+    let (mut before, mut at) = (NOBODY, head);
+    while at != NOBODY {
+        let record = at as usize;
+        if record >= most || into.len() == most {
+            return Err(format!("the list of place {place} goes on to {at}"));
+        }
+        if u64::from(ours.prevs[record]) != before {
+            return Err(format!("the link back of {record}"));
+        }
+        if usize::from(ours.marks[record]) != place {
+            return Err(format!("the mark of {record}"));
+        }
+        into.push(Entry {
+            place,
+            record,
+            turn: ours.turns[record],
+            value: ours.values[record],
+            deadline: ours.deadlines[record],
+        });
+        (before, at) = (at, ours.nexts[record].into());
+    }
+    Ok(())
+}
+
+/// Size and elapsed, and each timer as LEVEL.SLOT:RECORD/TURN=VALUE@DEADLINE, x for the expired stack.
+fn show(size: u64, elapsed: u64, entries: &[Entry]) -> String {
+    let mut text = format!("n={size} e={elapsed}");
+    for entry in entries {
+        let place = match entry.place {
+            EXPIRED => "x".to_string(),
+            place => format!("{}.{}", place / SLOTS, place % SLOTS),
+        };
+        write!(
+            text,
+            " {place}:{}/{}={}@{}",
+            entry.record, entry.turn, entry.value, entry.deadline
+        )
+        .expect("memory");
+    }
+    text
+}

@@ -1,0 +1,273 @@
+//! scale: our queue and the original in one process, every answer and the lists compared.
+mod compared;
+mod contents;
+#[allow(dead_code)] // the benchmark calls the rest
+#[path = "../../../speed/src/ours.rs"]
+mod ours;
+mod tally;
+mod wrong;
+
+use compared::{Compared, Difference, How};
+use oracle::exit::exit;
+use oracle::generator::{give, Taker};
+use oracle::rules::MOST_RECORDS;
+use oracle::short;
+use std::env;
+use std::fmt;
+use std::fs;
+use std::ops::RangeInclusive;
+use std::path::{Path, PathBuf};
+use std::process::ExitCode;
+use std::sync::atomic::{AtomicBool, AtomicU64, Ordering};
+use std::thread;
+use std::time::Instant;
+use tally::Tally;
+use wrong::{Wrong, WORDS};
+
+const USAGE: &str = "usage: scale [--keep FOLDER] \
+    [ judged FROM TO LINES | inner FROM TO LINES | checked FROM TO LINES | short DEPTH | wrong [WORD] ]";
+/// Where a script with a difference is kept below the oracle's folder, unless --keep names another.
+const KEEP: &str = "target/differences";
+/// So many short sequences are one piece of work.
+const CHUNK: u64 = 10_000;
+/// Deeper ones would be billions of commands.
+const DEEPEST: u32 = 5;
+
+fn main() -> ExitCode {
+    let words: Vec<String> = env::args().skip(1).collect();
+    let words: Vec<&str> = words.iter().map(String::as_str).collect();
+    exit("scale", run(&words))
+}
+
+fn run(words: &[&str]) -> Result<bool, String> {
+    let here = Path::new(env!("CARGO_MANIFEST_DIR")).with_file_name(KEEP);
+    let (keep, words) = match words {
+        ["--keep", folder, rest @ ..] => (PathBuf::from(folder), rest),
+        _ => (here, words),
+    };
+    let seeds = |how, from: &str, to: &str, lines: &str| {
+        let (from, to) = (number(from)?, number(to)?);
+        let lines = number(lines)? as usize;
+        let all = from <= to && lines > 0;
+        all.then_some(Part::Seeds(how, from..=to, lines))
+            .ok_or(USAGE.to_string())
+    };
+    let part = match words {
+        [] => return whole(&keep),
+        ["judged", from, to, lines] => seeds(How::Judged, from, to, lines)?,
+        ["checked", from, to, lines] => seeds(How::Checked, from, to, lines)?,
+        ["inner", from, to, lines] => seeds(How::Inner, from, to, lines)?,
+        ["short", depth] => Part::Short(depth_of(depth)?),
+        ["wrong"] => return all_wrong(),
+        ["wrong", word] => {
+            let wrong = Wrong::new(number(word)? as usize).ok_or(USAGE)?;
+            return Part::Seeds(How::Judged, 1..=2, 2000).compare(&keep, Some(wrong));
+        }
+        _ => return Err(USAGE.into()),
+    };
+    part.compare(&keep, None)
+}
+
+fn number(word: &str) -> Result<u64, String> {
+    word.parse().map_err(|_| USAGE.to_string())
+}
+
+fn depth_of(word: &str) -> Result<u32, String> {
+    let depth = number(word)?;
+    let too_deep = format!("short {depth}: at most {DEEPEST}");
+    (1..=DEEPEST.into())
+        .contains(&depth)
+        .then_some(depth as u32)
+        .ok_or(too_deep)
+}
+
+/// The run that docs/DIFFERENCES.md records.
+fn whole(keep: &Path) -> Result<bool, String> {
+    let start = Instant::now();
+    let mut commands = 0;
+    for part in [
+        Part::Seeds(How::Judged, 1..=20_480, 5000),
+        Part::Seeds(How::Inner, 20_481..=40_960, 5000),
+        Part::Seeds(How::Checked, 40_961..=41_472, 5000),
+        Part::Short(DEEPEST),
+    ] {
+        let Some(tally) = part.run(keep, None)? else {
+            return Ok(false);
+        };
+        commands += tally.commands();
+    }
+    let seconds = start.elapsed().as_secs();
+    println!("in all: {commands} commands compared, 0 differences, {seconds} s");
+    Ok(true)
+}
+
+/// Every word of [`Wrong`] in turn, by calls that judge and by those that do not: each must be seen.
+fn all_wrong() -> Result<bool, String> {
+    let mut seen = 0;
+    let sides = [How::Judged, How::Inner];
+    for how in sides {
+        let work = Part::Seeds(how, 1..=1, 2000);
+        if let Some(found) = work.piece(0, None).1 {
+            println!("{}: {found}", work.title());
+            return Ok(false);
+        }
+        for wrong in (0..WORDS).filter_map(Wrong::new) {
+            match work.piece(0, Some(wrong)).1 {
+                Some(found) if found.at_once || wrong.is_seen_later() => seen += 1,
+                _ => println!("{}: {} was not seen", work.title(), wrong.name()),
+            }
+        }
+    }
+    println!("{} wrong words, {seen} seen", sides.len() * WORDS);
+    Ok(seen == sides.len() * WORDS)
+}
+
+enum Part {
+    /// These seeds, with so many lines each.
+    Seeds(How, RangeInclusive<u64>, usize),
+    /// Every sequence of so many commands.
+    Short(u32),
+}
+
+/// A script that differs, and where.
+struct Found {
+    name: String,
+    difference: Difference,
+    /// Up to the command that differs.
+    script: String,
+    /// It is no later than the word that was made wrong.
+    at_once: bool,
+}
+
+impl Part {
+    fn title(&self) -> String {
+        match self {
+            Part::Seeds(how, seeds, lines) => {
+                let (from, to) = (seeds.start(), seeds.end());
+                format!("{} seeds {from}..{to}, {lines} lines each", how.name())
+            }
+            Part::Short(depth) => format!("judged, every sequence of {depth} commands"),
+        }
+    }
+
+    /// Into so many pieces the work is cut.
+    fn pieces(&self) -> u64 {
+        match self {
+            Part::Seeds(_, seeds, _) => seeds.end() - seeds.start() + 1,
+            Part::Short(depth) => short::count(*depth).div_ceil(CHUNK),
+        }
+    }
+
+    fn piece(&self, number: u64, wrong: Option<Wrong>) -> (Tally, Option<Found>) {
+        match self {
+            Part::Seeds(how, seeds, lines) => {
+                let seed = seeds.start() + number;
+                let mut compared = Compared::new(*how, *lines, wrong);
+                give(seed, most_records(seed), &mut compared);
+                compared.end();
+                compared.done(format!("{} seed {seed}", how.name()))
+            }
+            Part::Short(depth) => {
+                let mut compared = Compared::new(How::Judged, usize::MAX, wrong);
+                let first = number * CHUNK;
+                let mut at = first;
+                let range = first..short::count(*depth).min(first + CHUNK);
+                short::give(*depth, range, |commands| {
+                    if compared.full() {
+                        return;
+                    }
+                    compared.start();
+                    for &command in commands {
+                        compared.command(command);
+                    }
+                    compared.end();
+                    at += 1;
+                });
+                compared.done(format!("depth {depth} sequence {}", at - 1))
+            }
+        }
+    }
+
+    /// Says whether all agree.
+    fn compare(&self, keep: &Path, wrong: Option<Wrong>) -> Result<bool, String> {
+        Ok(self.run(keep, wrong)?.is_some())
+    }
+
+    /// All pieces, on every processor. Stops at a difference: then there is no tally.
+    fn run(&self, keep: &Path, wrong: Option<Wrong>) -> Result<Option<Tally>, String> {
+        let start = Instant::now();
+        let (next, stop) = (AtomicU64::new(0), AtomicBool::new(false));
+        let work = || {
+            let mut tally = Tally::default();
+            while !stop.load(Ordering::Relaxed) {
+                let number = next.fetch_add(1, Ordering::Relaxed);
+                if number >= self.pieces() {
+                    break;
+                }
+                let (piece, found) = self.piece(number, wrong);
+                tally += &piece;
+                if found.is_some() {
+                    stop.store(true, Ordering::Relaxed);
+                    return (tally, found);
+                }
+            }
+            (tally, None)
+        };
+        let processors = thread::available_parallelism().map_or(1, usize::from);
+        let mut tally = Tally::default();
+        let mut found = None;
+        thread::scope(|scope| {
+            let threads: Vec<_> = (0..processors).map(|_| scope.spawn(work)).collect();
+            for thread in threads {
+                let (part, difference) = thread.join().map_err(|_| "a check failed")?;
+                tally += &part;
+                found = found.take().or(difference);
+            }
+            Ok::<(), String>(())
+        })?;
+        if let Some(found) = found {
+            println!("{found}");
+            println!("  kept in:  {}", found.keep(keep)?);
+            println!("{}: 1 difference, stopped there", self.title());
+            return Ok(None);
+        }
+        let seconds = start.elapsed().as_secs();
+        println!("{}:\n{tally}\n  0 differences, {seconds} s", self.title());
+        Ok(Some(tally))
+    }
+}
+
+/// Small stores mostly; every eighth seed goes on through all sizes.
+fn most_records(seed: u64) -> u64 {
+    match seed % 8 {
+        0 => 1 + seed / 8 % MOST_RECORDS,
+        n => 1 << (n + 1).min(6),
+    }
+}
+
+impl Found {
+    /// Answers where the commands were put.
+    fn keep(&self, folder: &Path) -> Result<String, String> {
+        let odd = |c: char| !c.is_ascii_alphanumeric();
+        let file = folder.join(self.name.replace(odd, "-") + ".cmd");
+        fs::create_dir_all(folder)
+            .and_then(|()| fs::write(&file, &self.script))
+            .map_err(|e| format!("{}: {e}", file.display()))?;
+        Ok(file.display().to_string())
+    }
+}
+
+impl fmt::Display for Found {
+    fn fmt(&self, f: &mut fmt::Formatter<'_>) -> fmt::Result {
+        let Difference {
+            number,
+            command,
+            expected,
+            got,
+        } = &self.difference;
+        writeln!(f, "{}, command {number}", self.name)?;
+        writeln!(f, "  command:  {command}")?;
+        writeln!(f, "  expected: {expected}")?;
+        write!(f, "  got:      {got}")
+    }
+}

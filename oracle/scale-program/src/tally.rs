@@ -1,0 +1,137 @@
+//! What was asked and answered, in numbers.
+use oracle::line::{Answer, Command};
+use oracle::rules::MOST_RECORDS;
+use std::fmt;
+use std::ops::AddAssign;
+
+const COMMANDS: [&str; 8] = [
+    "format", "insert", "reset", "remove", "poll", "wake", "length", "clear",
+];
+const ANSWERS: [&str; 16] = [
+    "ok", "key", "gone", "out", "none", "wake", "wake -", "len", "no 1", "no 2", "no 3", "no 4",
+    "no 5", "no 6", "no 7", "no 8",
+];
+const DRAINS: usize = 6;
+
+#[derive(Clone)]
+pub struct Tally {
+    /// Seeds, or short sequences.
+    pub scripts: u64,
+    commands: [u64; COMMANDS.len()],
+    answers: [u64; ANSWERS.len()],
+    /// How often a poll made so many drains.
+    polls_by_drains: [u64; DRAINS],
+    moves: u64,
+    drains: u64,
+    /// How often stores of each size were made.
+    sizes: [u64; MOST_RECORDS as usize + 1],
+    /// How often the lists were compared, and the timers that were then in them.
+    pub lists: u64,
+    pub timers: u64,
+}
+
+impl Default for Tally {
+    fn default() -> Tally {
+        Tally {
+            scripts: 0,
+            commands: [0; COMMANDS.len()],
+            answers: [0; ANSWERS.len()],
+            polls_by_drains: [0; DRAINS],
+            moves: 0,
+            drains: 0,
+            sizes: [0; MOST_RECORDS as usize + 1],
+            lists: 0,
+            timers: 0,
+        }
+    }
+}
+
+impl Tally {
+    pub fn count(&mut self, command: Command, answer: Answer) {
+        self.commands[match command {
+            Command::Format { .. } => 0,
+            Command::Insert { .. } => 1,
+            Command::Reset { .. } => 2,
+            Command::Remove { .. } => 3,
+            Command::Poll { .. } => 4,
+            Command::Wake => 5,
+            Command::Length => 6,
+            Command::Clear => 7,
+        }] += 1;
+        self.answers[match answer {
+            Answer::Ok => 0,
+            Answer::Key(_) => 1,
+            Answer::Gone { .. } => 2,
+            Answer::Out { .. } => 3,
+            Answer::Nothing { .. } => 4,
+            Answer::Wake(Some(_)) => 5,
+            Answer::Wake(None) => 6,
+            Answer::Length(_) => 7,
+            Answer::No(number) => 7 + usize::from(number),
+            Answer::Bad => unreachable!("a command is no malformed line"),
+        }] += 1;
+        if let Answer::Out { moves, drains, .. } | Answer::Nothing { moves, drains } = answer {
+            self.moves += moves;
+            self.drains += drains;
+            self.polls_by_drains[drains as usize] += 1;
+        }
+        if let (Command::Format { records, .. }, Answer::Ok) = (command, answer) {
+            self.sizes[records as usize] += 1;
+        }
+    }
+
+    pub fn commands(&self) -> u64 {
+        self.commands.iter().sum()
+    }
+}
+
+impl AddAssign<&Tally> for Tally {
+    fn add_assign(&mut self, other: &Tally) {
+        fn add(to: &mut [u64], from: &[u64]) {
+            to.iter_mut().zip(from).for_each(|(to, from)| *to += from);
+        }
+        self.scripts += other.scripts;
+        self.moves += other.moves;
+        self.drains += other.drains;
+        self.lists += other.lists;
+        self.timers += other.timers;
+        add(&mut self.commands, &other.commands);
+        add(&mut self.answers, &other.answers);
+        add(&mut self.polls_by_drains, &other.polls_by_drains);
+        add(&mut self.sizes, &other.sizes);
+    }
+}
+
+impl fmt::Display for Tally {
+    fn fmt(&self, f: &mut fmt::Formatter<'_>) -> fmt::Result {
+        let named = |names: &[&str], counts: &[u64]| {
+            let each = names.iter().zip(counts);
+            let each: Vec<String> = each
+                .map(|(name, count)| format!("{name}: {count}"))
+                .collect();
+            each.join(", ")
+        };
+        let sizes = self.sizes.iter().filter(|&&count| count > 0).count();
+        let by_drains = ["0", "1", "2", "3", "4", "5"];
+        writeln!(
+            f,
+            "  {} commands: {}",
+            self.commands(),
+            named(&COMMANDS, &self.commands)
+        )?;
+        writeln!(f, "  answers: {}", named(&ANSWERS, &self.answers))?;
+        writeln!(
+            f,
+            "  moves: {}, drains: {}; polls by drains: {}",
+            self.moves,
+            self.drains,
+            named(&by_drains, &self.polls_by_drains)
+        )?;
+        writeln!(f, "  sizes of stores: {sizes} different ones")?;
+        write!(
+            f,
+            "  lists compared: {} times, {} timers in them",
+            self.lists, self.timers
+        )
+    }
+}
