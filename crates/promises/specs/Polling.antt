@@ -1,6 +1,6 @@
 -- One poll: what it hands out, what stays, the clock, the drains, and the order of equal deadlines.
 use mathlib.Core.Path.{_≡_, refl, sym, ap, _∙_, subst}
-use mathlib.Core.Logic.{_↔_, _≢_, inl, inr, by-cases}
+use mathlib.Core.Logic.{_↔_, _≢_, inl, by-cases}
 use mathlib.Core.List.{List, [], _∷_}
 use mathlib.Core.Option.{Option, none, some}
 use Prim.Native.Nat.{ℕ, zero, suc, _+_, _*_, _/_, _%_, _≤_, _<_, max}
@@ -303,9 +303,6 @@ drainsOf (T.no n) = 0
 
 pub none-out : {m n k w d i j : ℕ} → T.none m n ≡ T.out k w d i j → ⊥
 none-out e = let z : _≡_ {A = ℕ} 0 1 = cc in omega arith
-
-pub stays-key : {v u : View} {y : ℕ} → Stays v u y → keyOf u y ≡ keyOf v y
-stays-key {y = y} K = omega (arith, K .turn)
 
 pending-times : (v : View) (y : ℕ) → IsPending v y → 0 < weigh (hits y) (v .lists)
 pending-times v y k = lies-times free (v .lists) y (k .0) (k .1 .timed) (k .1 .member)

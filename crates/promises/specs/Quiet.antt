@@ -1,14 +1,14 @@
--- A store where nothing is pending: format leaves one, a poll takes it to any time. So the mornings and the refusals have stores to speak of.
+-- A store where nothing is pending: there is one, and a poll takes it to any time. So the mornings and the refusals have stores to speak of.
 use mathlib.Core.Path.{_≡_, refl, sym, ap, _∙_}
 use mathlib.Core.List.{List, [], _∷_, nil≢cons}
-use mathlib.Core.Option.{none, some, Option·some-ne-none}
+use mathlib.Core.Option.{Option·some-ne-none}
 use mathlib.Core.Logic.{inl}
-use Prim.Native.Nat.{ℕ, zero, suc, _≤_, _<_, max}
+use Prim.Native.Nat.{ℕ, _≤_, _<_, max}
 use native.Mathlib.Omega.{arith}
 use borrow.Author.Tests.{eq-eqb}
-use Rattle.links.specs.Lists.{Mem, change, change-same, change-other}
+use Rattle.links.specs.Lists.{Mem, change-same, change-other}
 use Rattle.stack.specs.Places.{expired, free, put}
-use Rattle.stack.specs.Format.{range, formatted}
+use Rattle.stack.specs.Format.{formatted}
 use Rattle.stack.specs.Laws as stack
 use Rattle.wheel.specs.Wheel.{Lists, idle}
 use Rattle.wheel.specs.One.{polls-one}
@@ -18,7 +18,7 @@ use Rattle.records.specs.View.{View, withValue, upd}
 use Rattle.records.specs.Records.{taken, target, placed}
 use Rattle.queue.specs.Steps.{QueuePolls, popped, handed, nothing}
 use Rattle.records.specs.Words.{QueueWords, count, elapsed, view, Sound}
-use Rattle.delay_queue.specs.Claims.{Fits, InRange, FormatClaim, InsertClaim, PollClaim}
+use Rattle.delay_queue.specs.Claims.{InsertClaim, PollClaim}
 use Rattle.promises.specs.Met.{insert-met, poll-met}
 use Rattle.promises.specs.Step.{one, one-sound, one-free}
 
@@ -31,23 +31,7 @@ pub record Quiet (s : QueueWords) (e : ℕ) : Type 0 where
   pub rest : List ℕ
   pub first : view s .lists free ≡ item ∷ rest
 
--- format leaves one at 0
-pub quiet-format : {s t : QueueWords} {a : Answer} {n turn : ℕ} → FormatClaim s n turn a t → Fits s n → InRange turn → Quiet t 0
-unfolding range
-quiet-format {s} {t} {n = zero} F x y = absurd (omega (arith, x .some))
-quiet-format {s} {t} {n = suc n} F x y =
-    let D = F .done x y in
-    let L : view t .lists ≡ change (λ p. []) free (range (suc n) 0) = ap (λ (v : View). v .lists) (D .view) in
-    record {
-      sound = D .sound;
-      clock = ap (λ (v : View). v .elapsed) (D .view);
-      empty = λ p h. ap (λ (M : Lists). M p) L ∙ change-other (λ p. []) free (range (suc n) 0) p (omega arith);
-      item = 0;
-      rest = range n 1;
-      first = ap (λ (M : Lists). M free) L ∙ change-same (λ p. []) free (range (suc n) 0);
-    }
-
--- and a poll takes it to any time
+-- a poll takes it to any time
 quiet-polls : {v : View} {now : ℕ} → ((p : ℕ) → p < free → v .lists p ≡ []) → {y : Told} {u : View} → QueuePolls v now y u
     → (u .elapsed ≡ now) × (u .lists ≡ v .lists)
 quiet-polls E (popped e) = absurd (nil≢cons (sym (E expired (omega arith)) ∙ e))

@@ -15,15 +15,22 @@ use Rattle.links.specs.Family.{Upd}
 use Rattle.stack.specs.declared.Stacks.{Stacks}
 use Rattle.stack.specs.Places.{slotPlace, slots, expired, free, places}
 
+-- the head of slot s of level k, and the rows with v there
+abbrev pub slotHead : List (List ℕ) → ℕ → ℕ → ℕ
+slotHead hh k s = getD (getD hh k []) s 0
+
+abbrev pub withSlotHead : List (List ℕ) → ℕ → ℕ → ℕ → List (List ℕ)
+withSlotHead hh k s v = set hh k (set (getD hh k []) s v)
+
 -- the head of the place p; a number that is no place has none
 unfoldable pub headOf : Stacks → List (List ℕ) → ℕ → ℕ
 headOf st hh p =
-    cond (ltb p slots) (getD (getD hh (p / 64) []) (p % 64) 0)
+    cond (ltb p slots) (slotHead hh (p / 64) (p % 64))
     (cond (eqb p expired) (st .expired) (cond (eqb p free) (st .free) nobody))
 
 -- the rows with v at the slot p
 abbrev pub setSlot : List (List ℕ) → ℕ → ℕ → List (List ℕ)
-setSlot hh p v = set hh (p / 64) (set (getD hh (p / 64) []) (p % 64) v)
+setSlot hh p v = withSlotHead hh (p / 64) (p % 64) v
 
 -- v as the head of the place p
 unfoldable pub rowsWith : List (List ℕ) → ℕ → ℕ → List (List ℕ)
@@ -62,13 +69,6 @@ module _ (st : Stacks) (hh : List (List ℕ)) where
       rw (le-ltb p slots a, ne-eqb p expired b, ne-eqb p free c)
 
 -- ---- a slot by its level k and its number s there
-
--- its head, and v as its head
-abbrev pub slotHead : List (List ℕ) → ℕ → ℕ → ℕ
-slotHead hh k s = getD (getD hh k []) s 0
-
-abbrev pub withSlotHead : List (List ℕ) → ℕ → ℕ → ℕ → List (List ℕ)
-withSlotHead hh k s v = set hh k (set (getD hh k []) s v)
 
 module _ (k s : ℕ) (hk : k < 6) (hs : s < 64) where
   level-of : slotPlace k s / 64 ≡ k

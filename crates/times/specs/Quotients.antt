@@ -53,14 +53,6 @@ pub lt-floor : (k e w : ℕ) → (e / width k < w / width k) ↔ (e < floor k w)
 unfolding floor
 lt-floor k e w = div-lt-iff-lt-mul (width-pos k)
 
-pub floor-mono : (k a b : ℕ) → a / width k ≤ b / width k → floor k a ≤ floor k b
-unfolding floor
-floor-mono k a b h = mul-le-mul-right (width k) h
-
-pub floor-same : (k a b : ℕ) → a / width k ≡ b / width k → floor k a ≡ floor k b
-unfolding floor
-floor-same k a b h = ap (λ (n : ℕ). n * width k) h
-
 pub floor-quotient : (k w : ℕ) → floor k w / width k ≡ w / width k
 unfolding floor
 floor-quotient k w = mul-div-cancel (w / width k) (width-pos k)

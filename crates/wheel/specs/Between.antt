@@ -32,9 +32,6 @@ place-level k s h = omega arith
 pub place-slot : (k s : ℕ) → s < 64 → slotPlace k s % 64 ≡ s
 place-slot k s h = omega arith
 
-pub place-of : (p : ℕ) → p ≡ slotPlace (p / 64) (p % 64)
-place-of p = omega arith
-
 -- ---- the two forms of the rule
 
 pub on-spot : (p e w : ℕ) → OnWheel p e w → Spot p e w × Ahead p e w

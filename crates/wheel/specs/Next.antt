@@ -11,7 +11,7 @@ use Rattle.times.specs.Quotients.{quotient-le, slot-lt, lt-floor, floor-le, lie
 use Rattle.links.specs.Lists.{Mem}
 use Rattle.stack.specs.Places.{slotPlace, slots}
 use Rattle.wheel.specs.Wheel.{Lists, FirstSlot}
-use Rattle.wheel.specs.Between.{Spot, Between, place-level, place-slot}
+use Rattle.wheel.specs.Between.{Between, place-level, place-slot}
 
 none-in : (y : ℕ) {l : List ℕ} → l ≡ [] → Mem y l → ⊥
 none-in y e m = subst (Mem y) e m
@@ -34,10 +34,6 @@ module _ (k e w : ℕ) (l : Lies k e w) where
   pub not-passed : slotOf e k ≤ slotOf w k
   unfolding slotOf
   not-passed = omega (arith, lies-block k e w l, quotient-le k (lies-late k e w l))
-
--- the start of a place where w lies is w rounded down to the width
-pub spot-start : (e p w : ℕ) → Spot p e w → startAt e (p / 64) (p % 64) ≡ floor (p / 64) w
-spot-start e p w s = rw (s .slot) (lies-start (p / 64) e w (s .lies))
 
 module _ {d : ℕ → ℕ} {e : ℕ} {L : Lists} (B : Between d e L) where
   -- what lies at a higher level is later than all that lies lower
