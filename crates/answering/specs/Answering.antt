@@ -15,7 +15,7 @@ use Rattle.decimals.specs.Spacing.{Fit, one-text, some-text, at-most-21}
 pub one-written : {w ns l m : List ℕ} → Written w ns l → Written w ns m → l ≡ m
 one-written {w} {ns} {l} {m} p q =
     let e = one-text (p .rest) (q .rest) ns (p .fields) (q .fields) in
-    p .line ∙ ap (λ (r : List ℕ). w ++ (r ++ 10 ∷ [])) e ∙ sym (q .line)
+    p .line ∙ ap (λ r. w ++ (r ++ 10 ∷ [])) e ∙ sym (q .line)
 
 -- and where the numbers fit they have one
 pub some-written : (w ns : List ℕ) → Fit ns → (l : List ℕ) × Written w ns l
@@ -34,8 +34,8 @@ write-once {w} {ns} {o} {at} {r} {s} {o′} {o″} p q = by-cases (decLe (at + l
     room : at + length (p .line) ≤ length o → (r ≡ s) × (o′ ≡ o″)
     room h =
         let a = p .room h in
-        let b = q .room (subst (λ (l : List ℕ). at + length l ≤ length o) k h) in
-        (a .0 ∙ ap (λ (l : List ℕ). at + length l) k ∙ sym (b .0), a .1 ∙ ap (put o at) k ∙ sym (b .1))
+        let b = q .room (subst (λ l. at + length l ≤ length o) k h) in
+        (a .0 ∙ ap (λ l. at + length l) k ∙ sym (b .0), a .1 ∙ ap (put o at) k ∙ sym (b .1))
 
     full : (at + length (p .line) ≤ length o → ⊥) → (r ≡ s) × (o′ ≡ o″)
     full h =

@@ -1,18 +1,18 @@
 -- Lines of document 01, so that the claims are seen to hold of something.
-use mathlib.Core.Path.{_≡_, refl, subst}
+use mathlib.Core.Path.{_≡_, refl}
 use mathlib.Core.List.{List, [], _∷_, _++_}
-use Prim.Native.Nat.{ℕ, _<_}
+use Prim.Native.Nat.{ℕ}
 use Prim.Native.Char.{code}
 use native.Mathlib.Omega.{arith}
 use Rattle.queue.specs.declared.Answer.{Answer}
 use Rattle.queue.specs.declared.Answer.the-variants as A
-use Rattle.decimals.specs.Text.{bytes, worth, Spaced}
+use Rattle.decimals.specs.Text.{bytes, worth}
 use Rattle.decimals.specs.Plain.{every, Plain, text, values, spaced}
 use Rattle.answering.specs.Text.{word, shown, Written}
 
 -- the fields of a line, as the numbers of an answer
 written : (a : Answer) (ds : List (List ℕ)) → values ds ≡ shown a → Plain ds → Written (word a) (shown a) (word a ++ (text ds ++ code "\n" ∷ []))
-written a ds e p = record { rest = text ds; fields = subst (λ (ns : List ℕ). Spaced (text ds) ns) e (spaced ds p); line = refl }
+written a ds e p = record { rest = text ds; fields = rw e at (spaced ds p); line = refl }
 
 out : Written (word (A.Out 65536 7 70 2 1)) (shown (A.Out 65536 7 70 2 1)) (bytes "out 65536 7 70 2 1\n")
 unfolding worth every

@@ -12,9 +12,9 @@ use Rattle.answering.specs.Parts.{Before}
 -- a whole copy
 pub pasted : (o : List ℕ) (at : ℕ) (l : List ℕ) {n : ℕ} → n ≡ length l → paste o at l n ≡ put o at l
 pasted o at l e =
-    ap (λ (k : ℕ). paste o at l k) e
+    ap (λ k. paste o at l k) e
     ∙ append-assoc (take at o) (take (length l) l) (drop (at + length l) o)
-    ∙ ap (λ (t : List ℕ). take at o ++ (t ++ drop (at + length l) o)) (take-length l)
+    ∙ ap (λ t. take at o ++ (t ++ drop (at + length l) o)) (take-length l)
 
 -- ---- a text that grows in front
 
@@ -24,7 +24,7 @@ stored l i b h k =
     let q : suc (i - 1) ≡ i = omega arith in
     drop-cons (set l (i - 1) b) (i - 1) 0 (simp length-set p)
     ∙ ap₂ (λ (x : ℕ) (t : List ℕ). x ∷ t) (getD-set-same l (i - 1) b 0 p) (drop-set-lt (suc (i - 1)) l (i - 1) b (omega arith))
-    ∙ ap (λ (n : ℕ). b ∷ drop n l) q
+    ∙ ap (λ n. b ∷ drop n l) q
 
 -- by a byte
 pub push : (P Q : List ℕ → Type 0) {o o′ : List ℕ} {end i : ℕ} (b : ℕ) → ((t : List ℕ) → P t → Q (b ∷ t))
@@ -33,8 +33,8 @@ push P Q {o} {o′} {end} {i} b f p h k =
     record {
       text = b ∷ p .text;
       is = f (p .text) (p .is);
-      start = omega (arith, p .start);
-      from = stored o′ i b h k ∙ ap (λ (t : List ℕ). b ∷ t) (p .from);
+      start = omega arith;
+      from = stored o′ i b h k ∙ ap (λ t. b ∷ t) (p .from);
     }
 
 -- by a text
@@ -60,7 +60,7 @@ unfolding Spaced
 none-yet o ns end =
     record {
       text = [];
-      is = subst (λ (l : List ℕ). Spaced [] l) (sym (drop-length ns)) refl;
+      is = rw (drop-length ns) refl;
       start = omega arith;
       from = refl;
     }
@@ -76,10 +76,10 @@ one-more ns i h k p q z b = push _ _ 32 with-space (join p q) z b
     this : drop (i - 1) ns ≡ n ∷ drop i ns
     this =
         let j : suc (i - 1) ≡ i = omega arith in
-        drop-cons ns (i - 1) 0 (omega arith) ∙ ap (λ (x : ℕ). n ∷ drop x ns) j
+        drop-cons ns (i - 1) 0 (omega arith) ∙ ap (λ x. n ∷ drop x ns) j
 
     with-space : (t : List ℕ) → Joined (Later ns i) (λ d. Decimal d n) t → Later ns (i - 1) (32 ∷ t)
-    with-space t w = subst (λ (l : List ℕ). Spaced (32 ∷ t) l) (sym this) (w .0, w .1, ap (λ (l : List ℕ). 32 ∷ l) (w .2), w .3, w .4)
+    with-space t w = subst (λ l. Spaced (32 ∷ t) l) (sym this) (w .0, w .1, ap (λ (l : List ℕ). 32 ∷ l) (w .2), w .3, w .4)
 
 -- ---- a line, at the end of a buffer of 112 bytes whose last one is a newline
 
@@ -101,15 +101,15 @@ made w ns {b} {b₁} {b₂} {e} n p k h q l =
         fields = p .is;
         line =
             ap (drop s) q
-            ∙ drop-at (take s b₁) (w ++ drop (s + length w) b₁) s (length-take-le s b₁ (omega (arith, p .start)))
-            ∙ ap (λ (i : ℕ). w ++ drop i b₁) m
+            ∙ drop-at (take s b₁) (w ++ drop (s + length w) b₁) s (length-take-le s b₁ (omega arith))
+            ∙ ap (λ i. w ++ drop i b₁) m
             ∙ ap (λ (t : List ℕ). w ++ t) (p .from ∙ ap (λ (t : List ℕ). p .text ++ t) (n .1));
       };
     }
 
 module _ {w ns b : List ℕ} {s : ℕ} (m : Made w ns s b) where
   size : length (drop s b) ≡ 112 - s
-  size = length-drop s b ∙ ap (λ (n : ℕ). n - s) (m .long)
+  size = length-drop s b ∙ ap (λ n. n - s) (m .long)
 
   pub no-room : {o : List ℕ} {at : ℕ} → length o < at + (112 - s) → PutClaim w ns o at at o
   no-room h = record { line = drop s b; written = m .written; room = λ k. absurd (omega (arith, size)); full = λ k. (refl, refl) }

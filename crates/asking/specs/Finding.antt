@@ -1,6 +1,5 @@
 -- The reader's last step: the call of a letter and of the numbers behind it, and the claim on reading from what the parts found.
 use mathlib.Core.Path.{_≡_, refl, sym, ap, ap₂, _∙_, subst}
-use mathlib.Core.Bool.{Bool}
 use mathlib.Core.List.{List, [], _∷_, head-eq-of-cons-eq, tail-eq-of-cons-eq}
 use mathlib.Core.Logic.{by-cases}
 use Prim.Native.Nat.{ℕ, _-_, _≤_, _<_}
@@ -23,10 +22,10 @@ use Rattle.asking.specs.Reading.{from}
 -- ---- the first call with a letter
 
 hit : {b : ℕ} (c : Call) (cs : List Call) → b ≡ letter c → first b (c ∷ cs) ≡ L.Asks c
-hit {b} c cs e = ap (λ (t : Bool). pick t (L.Asks c) (first b cs)) (eq-eqb b (letter c) e)
+hit {b} c cs e = ap (λ t. pick t (L.Asks c) (first b cs)) (eq-eqb b (letter c) e)
 
 miss : {b : ℕ} (c : Call) (cs : List Call) → (b ≡ letter c → ⊥) → first b (c ∷ cs) ≡ first b cs
-miss {b} c cs n = ap (λ (t : Bool). pick t (L.Asks c) (first b cs)) (ne-eqb b (letter c) n)
+miss {b} c cs n = ap (λ t. pick t (L.Asks c) (first b cs)) (ne-eqb b (letter c) n)
 
 abbrev pub All : (Call → Type 0) → List Call → Type 0
 All P [] = Unit
@@ -37,8 +36,8 @@ found : (P : Call → Type 0) (b : ℕ) (cs : List Call) → All P cs → (d : C
 found P b [] a d e = let z : _≡_ {A = ℕ} 0 1 = cc in absurd (omega arith)
 found P b (c ∷ cs) a d e =
     by-cases (ℕ-discrete b (letter c))
-    (λ (h : b ≡ letter c). let m : c ≡ d = same-call (sym (hit c cs h) ∙ e) in (h ∙ ap letter m, subst P m (a .0)))
-    (λ (n : b ≡ letter c → ⊥). found P b cs (a .1) d (sym (miss c cs n) ∙ e))
+    (λ h. let m : c ≡ d = same-call (sym (hit c cs h) ∙ e) in (h ∙ ap letter m, rw m at (a .0)))
+    (λ n. found P b cs (a .1) d (sym (miss c cs n) ∙ e))
 
 absent : (b : ℕ) (cs : List Call) → All (λ c. b ≡ letter c → ⊥) cs → L.Bad ≡ first b cs
 absent b [] n = refl
@@ -51,7 +50,7 @@ here c e g = sym (ap₂ (λ (x : ℕ) (h : Fields). callOf x h) e g ∙ own c)
 
 pub nowhere : (b : ℕ) {f g : Fields} → f ≡ g → All (λ c. b ≡ letter c → ⊥) (calls g) → L.Bad ≡ callOf b f
 unfolding callOf
-nowhere b {f} {g} e n = absent b (calls g) n ∙ ap (λ (h : Fields). callOf b h) (sym e)
+nowhere b {f} {g} e n = absent b (calls g) n ∙ ap (λ h. callOf b h) (sym e)
 
 -- ---- the claim from its two halves, of which the second says all that is left to say of a bad line
 
@@ -69,10 +68,10 @@ nothing : (l : List ℕ) → ((c : Call) → Says l c → ⊥) → ReadClaim l L
 nothing l n = claim l L.Bad (λ c e. let z : _≡_ {A = ℕ} 0 1 = cc in absurd (omega arith)) (λ c s. absurd (n c s))
 
 pub empty-line : (l : List ℕ) → length l ≡ 0 → ReadClaim l L.Bad
-empty-line l h = nothing l (λ c s. omega (arith, ap (λ (t : List ℕ). length t) (s .line)))
+empty-line l h = nothing l (λ c s. omega (arith, ap (λ t. length t) (s .line)))
 
 pub long-line : (l : List ℕ) → 80 < length l → ReadClaim l L.Bad
-long-line l h = nothing l (λ c s. omega (arith, s .short))
+long-line l h = nothing l (λ c s. omega arith)
 
 -- ---- a letter, and the numbers that were found behind it
 
@@ -95,15 +94,15 @@ line b l f r k h e = claim (b ∷ l) r only all
     only : (c : Call) → r ≡ L.Asks c → Says (b ∷ l) c
     only c q =
         let g = found (λ c. Spaced l (numbers c)) b (calls f) (held l f h) c (sym e ∙ q) in
-        record { rest = l; line = ap (λ (x : ℕ). x ∷ l) (g .0); fields = g .1; short = k }
+        record { rest = l; line = ap (λ x. x ∷ l) (g .0); fields = g .1; short = k }
 
     all : (c : Call) → Says (b ∷ l) c → r ≡ L.Asks c
     all c s =
-        let t : Spaced l (numbers c) = subst (λ (x : List ℕ). Spaced x (numbers c)) (sym (tail-eq-of-cons-eq (s .line))) (s .fields) in
+        let t : Spaced l (numbers c) = subst (λ x. Spaced x (numbers c)) (sym (tail-eq-of-cons-eq (s .line))) (s .fields) in
         e ∙ ap₂ (λ (x : ℕ) (g : Fields). callOf x g) (head-eq-of-cons-eq (s .line)) (told l (numbers c) f h t) ∙ own c
 
 -- the same for `line[0]` and `&line[1..]`
 pub whole-line : (l : List ℕ) (f : Fields) (r : Line) → 0 < length l → length l ≤ 80 → Holds (take (length l - 1) (drop 1 l)) f
     → r ≡ callOf (getD l 0 0) f → ReadClaim l r
 whole-line [] f r h k p e = absurd (omega arith)
-whole-line (b ∷ l) f r h k p e = line b l f r k (subst (λ (t : List ℕ). Holds t f) (from (b ∷ l) 1) p) e
+whole-line (b ∷ l) f r h k p e = line b l f r k (rw (from (b ∷ l) 1) at p) e

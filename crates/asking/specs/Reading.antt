@@ -44,7 +44,7 @@ front-end {s} {i} {acc} h l =
       some = h .some;
       digits = λ k m. h .digits k (omega arith);
       spare = h .spare;
-      number = h .number ∙ ap (λ (t : List ℕ). acc * 10 ^ length t + worth t) (drop-of-length-le s l) ∙ omega arith;
+      number = h .number ∙ ap (λ t. acc * 10 ^ length t + worth t) (drop-of-length-le s l) ∙ omega arith;
       fits = h .fits;
     }
 
@@ -59,7 +59,7 @@ module _ {s : List ℕ} {i acc : ℕ} (h : Front s i acc) (l : i < length s) whe
   unfolding worth
   step =
       h .number
-      ∙ ap (λ (t : List ℕ). acc * 10 ^ length t + worth t) (drop-one s i l)
+      ∙ ap (λ t. acc * 10 ^ length t + worth t) (drop-one s i l)
       ∙ shift acc (b - 48) (length (drop (i + 1) s)) (worth (drop (i + 1) s))
 
   pub front-more : 48 ≤ b → b ≤ 57 → next < 2 ^ 64 → Front s (i + 1) next
@@ -77,7 +77,7 @@ module _ {s : List ℕ} {i acc : ℕ} (h : Front s i acc) (l : i < length s) whe
   pub front-big : 2 ^ 64 ≤ next → (n : ℕ) → Decimal s n → ⊥
   front-big f n d =
       let p : 1 ≤ 10 ^ length (drop (i + 1) s) = one-le-pow (length (drop (i + 1) s)) 10 (omega arith) in
-      omega (arith, mul-le-mul-left next p, step, d .number, d .fits)
+      omega (arith, mul-le-mul-left next p, step)
 
   pub front-odd : ((48 ≤ b) × (b ≤ 57) → ⊥) → (n : ℕ) → Decimal s n → ⊥
   front-odd o n d = o (omega (arith, d .digits i l), omega (arith, d .digits i l))
@@ -93,8 +93,8 @@ module _ (s : List ℕ) (e : ℕ) (h : EndsAt s e) where
   stops : Ends (drop e s)
   stops =
       by-cases (decLt e (length s))
-      (λ (l : e < length s). subst Ends (sym (drop-one s e l)) (h .space l))
-      (λ (l : e < length s → ⊥). subst Ends (sym (drop-of-length-le s {i = e} (omega arith))) tt)
+      (λ l. rw (drop-one s e l) (h .space l))
+      (λ l. rw (drop-of-length-le s {i = e} (omega arith)) tt)
 
   -- the first number is what stands before e, and the others what stands from e on
   parted : (n : ℕ) (ns : List ℕ) → Spaced (32 ∷ s) (n ∷ ns) → Decimal (take e s) n × Spaced (drop e s) ns
@@ -102,7 +102,7 @@ module _ (s : List ℕ) (e : ℕ) (h : EndsAt s e) where
   parted n ns p =
       let q = sym (tail-eq-of-cons-eq (p .2)) ∙ sym (take-append-drop e s) in
       let k = cut (p .0) (take e s) (p .1) (drop e s) (whole (p .3)) unbroken (ends (p .1) ns (p .4)) stops q in
-      (subst (λ (d : List ℕ). Decimal d n) (k .0) (p .3), subst (λ (r : List ℕ). Spaced r ns) (k .1) (p .4))
+      (rw (k .0) at (p .3), rw (k .1) at (p .4))
 
   pub first-bad : ((n : ℕ) → Decimal (take e s) n → ⊥) → Holds (32 ∷ s) F.Bad
   unfolding Spaced
@@ -111,7 +111,7 @@ module _ (s : List ℕ) (e : ℕ) (h : EndsAt s e) where
 
   pub only-one : length s ≤ e → {n : ℕ} → Decimal (take e s) n → Holds (32 ∷ s) (F.One n)
   unfolding Spaced
-  only-one l d = (take e s, [], ap (λ (t : List ℕ). 32 ∷ t) (sym (take-all e s l) ∙ sym (append-nil (take e s))), d, refl)
+  only-one l d = (take e s, [], ap (λ t. 32 ∷ t) (sym (take-all e s l) ∙ sym (append-nil (take e s))), d, refl)
 
   module _ (l : e < length s) where
     abbrev rest : List ℕ
@@ -123,8 +123,8 @@ module _ (s : List ℕ) (e : ℕ) (h : EndsAt s e) where
     pub both : {n m : ℕ} → Decimal (take e s) n → Decimal rest m → Holds (32 ∷ s) (F.Two n m)
     unfolding Spaced
     both d f =
-        let q = spaced ∙ ap (λ (t : List ℕ). 32 ∷ t) (sym (append-nil rest)) in
-        (take e s, drop e s, ap (λ (t : List ℕ). 32 ∷ t) (sym (take-append-drop e s)), d, (rest, [], q, f, refl))
+        let q = spaced ∙ ap (λ t. 32 ∷ t) (sym (append-nil rest)) in
+        (take e s, drop e s, ap (λ t. 32 ∷ t) (sym (take-append-drop e s)), d, (rest, [], q, f, refl))
 
     pub second-bad : ((n : ℕ) → Decimal rest n → ⊥) → Holds (32 ∷ s) F.Bad
     unfolding Spaced
@@ -132,21 +132,21 @@ module _ (s : List ℕ) (e : ℕ) (h : EndsAt s e) where
     second-bad b (n ∷ []) p = absurd (nil≢cons (sym (parted n [] p .1) ∙ spaced))
     second-bad b (n ∷ m ∷ []) p =
         let q = parted n (m ∷ []) p .1 in
-        let k = tail-eq-of-cons-eq (sym spaced ∙ q .2) ∙ ap (λ (r : List ℕ). q .0 ++ r) (q .4) ∙ append-nil (q .0) in
-        absurd (b m (subst (λ (d : List ℕ). Decimal d m) (sym k) (q .3)))
+        let k = tail-eq-of-cons-eq (sym spaced ∙ q .2) ∙ ap (λ r. q .0 ++ r) (q .4) ∙ append-nil (q .0) in
+        absurd (b m (rw k (q .3)))
     second-bad b (n ∷ m ∷ k ∷ ns) p = omega arith
 
 -- ---- the space in front
 
 pub no-space : (s : List ℕ) → 0 < length s → (getD s 0 0 ≡ 32 → ⊥) → Holds s F.Bad
 unfolding Spaced
-no-space s h b [] p = absurd (omega (arith, ap (λ (t : List ℕ). length t) p))
-no-space s h b (n ∷ ns) p = absurd (b (ap (λ (t : List ℕ). getD t 0 0) (p .2)))
+no-space s h b [] p = absurd (omega (arith, ap (λ t. length t) p))
+no-space s h b (n ∷ ns) p = absurd (b (ap (λ t. getD t 0 0) (p .2)))
 
 pub a-space : (s : List ℕ) (f : Fields) → 0 < length s → getD s 0 0 ≡ 32 → Holds (32 ∷ take (length s - 1) (drop 1 s)) f → Holds s f
 a-space s f h e p =
     let q = ap₂ (λ (x : ℕ) (t : List ℕ). x ∷ t) (sym e) (from s 1) ∙ sym (drop-one s 0 h) in
-    subst (λ (t : List ℕ). Holds t f) q p
+    subst (λ t. Holds t f) q p
 
 pub no-numbers : (s : List ℕ) → length s ≡ 0 → Holds s F.None
 unfolding Spaced

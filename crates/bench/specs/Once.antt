@@ -10,7 +10,7 @@ use Rattle.asking.specs.declared.Line.the-variants as L
 use Rattle.asking.specs.Text.{ReadClaim}
 use Rattle.answering.specs.Text.{WriteClaim}
 use Rattle.answering.specs.Answering.{write-once}
-use Rattle.bench.specs.Step.{LineClaim}
+use Rattle.bench.specs.Line.{LineClaim}
 
 -- two results for one line that both keep the claim are the same: what is left of the store, what is written, and where it ends. r is what the line says,
 -- as `read_line` finds it in any bytes

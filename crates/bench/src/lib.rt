@@ -6,7 +6,7 @@ use asking::read_line;
 use delay_queue::Heads;
 use wheel::Wheel;
 ghost use Rattle.records.specs.Words.{words};
-ghost use Rattle.bench.specs.Step.{LineClaim};
+ghost use Rattle.bench.specs.Line.{LineClaim};
 
 // Where the answer ends in what is written, and the state and the heads after the step.
 pub struct Step {

@@ -12,7 +12,7 @@ use Rattle.decimals.specs.Text.{Digits, worth, Decimal}
 
 -- one digit more: q counts ten times as much
 pub shift : (q d k w : ℕ) → q * 10 ^ suc k + (d * 10 ^ k + w) ≡ (q * 10 + d) * 10 ^ k + w
-shift q d k w = ap (λ (x : ℕ). q * x + (d * 10 ^ k + w)) (pow-succ' 10 k) ∙ at-power (10 ^ k)
+shift q d k w = ap (λ x. q * x + (d * 10 ^ k + w)) (pow-succ' 10 k) ∙ at-power (10 ^ k)
   where
     at-power : (p : ℕ) → q * (10 * p) + (d * p + w) ≡ (q * 10 + d) * p + w
     at-power p = omega arith
@@ -36,10 +36,10 @@ same [] (c ∷ m) p q h e = absurd (omega arith)
 same (b ∷ l) [] p q h e = absurd (omega arith)
 same (b ∷ l) (c ∷ m) p q h e =
     let k : length m ≡ length l = omega arith in
-    let f : (b - 48) * 10 ^ length l + worth l ≡ (c - 48) * 10 ^ length l + worth m = e ∙ ap (λ (n : ℕ). (c - 48) * 10 ^ n + worth m) k in
+    let f : (b - 48) * 10 ^ length l + worth l ≡ (c - 48) * 10 ^ length l + worth m = e ∙ ap (λ n. (c - 48) * 10 ^ n + worth m) k in
     let u : worth l < 10 ^ length l = worth-lt l (tail b l p) in
     let v : worth m < 10 ^ length l = subst (λ (n : ℕ). worth m < 10 ^ n) k (worth-lt m (tail c m q)) in
-    let heads : b - 48 ≡ c - 48 = sym (digits-div (b - 48) u) ∙ ap (λ (n : ℕ). n / 10 ^ length l) f ∙ digits-div (c - 48) v in
+    let heads : b - 48 ≡ c - 48 = sym (digits-div (b - 48) u) ∙ ap (λ n. n / 10 ^ length l) f ∙ digits-div (c - 48) v in
     let tails : worth l ≡ worth m = sym (digits-mod (b - 48) u) ∙ ap (λ (n : ℕ). n % 10 ^ length l) f ∙ digits-mod (c - 48) v in
     let g : b ≡ c = omega (arith, p 0 (omega arith), q 0 (omega arith)) in
     let t : l ≡ m = same l m (tail b l p) (tail c m q) (sym k) tails in
@@ -59,14 +59,14 @@ lead b l h = at-power (10 ^ length l) (mul-le-mul-right (10 ^ length l) one)
 
 least : {b n : ℕ} {l : List ℕ} → Decimal (b ∷ l) n → 0 < length l → 10 ^ length l ≤ n
 least {b} {n} {l} d h =
-    subst (λ (m : ℕ). 10 ^ length l ≤ m) (d .number)
+    subst (λ m. 10 ^ length l ≤ m) (d .number)
     (lead b l (omega (arith, d .digits 0 (omega arith), d .spare (omega arith))))
 
 no-longer : (l m : List ℕ) {n : ℕ} → Decimal l n → Decimal m n → length l < length m → ⊥
 no-longer l [] p q h = omega arith
 no-longer l (b ∷ m) p q h =
     let k : 10 ^ length l ≤ 10 ^ length m = pow-le-pow-right (omega arith) (omega arith) in
-    omega (arith, p .number, worth-lt l (p .digits), least q (omega (arith, p .some)))
+    omega (arith, worth-lt l (p .digits), least q (omega arith))
 
 -- a number has no second decimal
 pub one-decimal : {l m : List ℕ} {n : ℕ} → Decimal l n → Decimal m n → l ≡ m
@@ -87,7 +87,7 @@ at-most-20 (b ∷ l) p = by-cases (decLe 20 (length l)) long (λ h. omega arith)
     long : 20 ≤ length l → suc (length l) ≤ 20
     long h =
         let k : 10 ^ 20 ≤ 10 ^ length l = pow-le-pow-right (omega arith) h in
-        absurd (omega (arith, p .fits, least p (omega arith)))
+        absurd (omega (arith, least p (omega arith)))
 
 -- ---- how a decimal is made, the last digit first: of n the digits t are there, and m is what is left
 
@@ -107,7 +107,7 @@ tail-short {n} {m} {t} f h = by-cases (decLe 20 (length t)) long (λ k. omega ar
     long : 20 ≤ length t → length t ≤ 19
     long k =
         let p : 10 ^ 20 ≤ 10 ^ length t = pow-le-pow-right (omega arith) k in
-        absurd (omega (arith, mul-le-mul-right (10 ^ length t) (h .more (omega arith)), h .number))
+        absurd (omega (arith, mul-le-mul-right (10 ^ length t) (h .more (omega arith))))
 
 module _ {n m : ℕ} {t : List ℕ} (h : Tail n m t) where
   abbrev digit : ℕ
@@ -120,9 +120,9 @@ module _ {n m : ℕ} {t : List ℕ} (h : Tail n m t) where
   next : m / 10 * 10 ^ suc (length t) + worth (digit ∷ t) ≡ n
   unfolding worth
   next =
-      ap (λ (d : ℕ). m / 10 * 10 ^ suc (length t) + (d * 10 ^ length t + worth t)) (omega arith)
+      ap (λ d. m / 10 * 10 ^ suc (length t) + (d * 10 ^ length t + worth t)) (omega arith)
       ∙ shift (m / 10) (m % 10) (length t) (worth t)
-      ∙ ap (λ (x : ℕ). x * 10 ^ length t + worth t) (omega arith)
+      ∙ ap (λ x. x * 10 ^ length t + worth t) (omega arith)
       ∙ h .number
 
   pub tail-more : 0 < m / 10 → Tail n (m / 10) (digit ∷ t)
@@ -134,7 +134,7 @@ module _ {n m : ℕ} {t : List ℕ} (h : Tail n m t) where
         some = omega arith;
         digits = all;
         spare = λ k z. omega (arith, h .more (omega arith));
-        number = omega (arith, next, ap (λ (q : ℕ). q * 10 ^ suc (length t)) e);
+        number = omega (arith, next, ap (λ q. q * 10 ^ suc (length t)) e);
         fits = f;
       }
 
@@ -145,5 +145,5 @@ some-decimal n f = go n n [] (omega arith) (tail-none n)
     go : (k m : ℕ) (t : List ℕ) → m ≤ k → Tail n m t → (l : List ℕ) × Decimal l n
     go zero m t b h = (_, tail-end h f (omega arith))
     go (suc k) m t b h =
-        by-cases (ℕ-discrete (m / 10) 0) (λ (e : m / 10 ≡ 0). (_, tail-end h f e))
-        (λ (e : m / 10 ≡ 0 → ⊥). go k (m / 10) ((48 + m % 10) ∷ t) (omega arith) (tail-more h (omega arith)))
+        by-cases (ℕ-discrete (m / 10) 0) (λ e. (_, tail-end h f e))
+        (λ e. go k (m / 10) ((48 + m % 10) ∷ t) (omega arith) (tail-more h (omega arith)))

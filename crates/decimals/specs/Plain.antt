@@ -2,13 +2,13 @@
 use mathlib.Core.Path.{_≡_, refl}
 use mathlib.Core.Bool.{Bool, true, _&&_}
 use mathlib.Core.List.{List, [], _∷_, _++_}
-use Prim.Native.Nat.{ℕ, zero, suc, _≤_, _<_, _^_}
+use Prim.Native.Nat.{ℕ, zero, suc, _<_, _^_}
 use Prim.Native.Char.{code}
 use native.Mathlib.Omega.{arith}
 use lib.Dec.{T, leb, leb→le}
 use lib.ListN.{length, getD}
 use mir.Facts.{and-yes}
-use Rattle.decimals.specs.Text.{Digits, worth, Decimal, Spaced}
+use Rattle.decimals.specs.Text.{Digits, worth, Spaced}
 
 -- a test of each byte, which computes
 unfoldable pub every : (ℕ → Bool) → List ℕ → Bool

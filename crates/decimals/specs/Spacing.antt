@@ -17,7 +17,7 @@ Ends [] = Unit
 Ends (b ∷ l) = b ≡ 32
 
 pub whole : {l : List ℕ} {n : ℕ} → Decimal l n → Whole l
-whole d i h e = omega (arith, d .digits i h, e)
+whole d i h e = omega (arith, d .digits i h)
 
 pub ends : (l ns : List ℕ) → Spaced l ns → Ends l
 unfolding Spaced
@@ -47,8 +47,8 @@ one-list l (n ∷ ns) (m ∷ ms) p q =
     let e = tail-eq-of-cons-eq (sym (p .2) ∙ q .2) in
     let k = cut (p .0) (q .0) (p .1) (q .1) (whole (p .3)) (whole (q .3)) (ends (p .1) ns (p .4)) (ends (q .1) ms (q .4)) e in
     ap₂ (λ (x : ℕ) (s : List ℕ). x ∷ s)
-    (one-number (p .3) (subst (λ (d : List ℕ). Decimal d m) (sym (k .0)) (q .3)))
-    (one-list (p .1) ns ms (p .4) (subst (λ (r : List ℕ). Spaced r ms) (sym (k .1)) (q .4)))
+    (one-number (p .3) (subst (λ d. Decimal d m) (sym (k .0)) (q .3)))
+    (one-list (p .1) ns ms (p .4) (subst (λ r. Spaced r ms) (sym (k .1)) (q .4)))
 
 -- the numbers have no other bytes
 pub one-text : (l m ns : List ℕ) → Spaced l ns → Spaced m ns → l ≡ m
@@ -74,7 +74,7 @@ some-text (n ∷ ns) f =
 -- a space and at most 20 digits for each
 pub at-most-21 : (l ns : List ℕ) → Spaced l ns → length l ≤ 21 * length ns
 unfolding Spaced
-at-most-21 l [] s = omega (arith, ap (λ (x : List ℕ). length x) s)
+at-most-21 l [] s = omega (arith, ap (λ x. length x) s)
 at-most-21 l (n ∷ ns) s =
     let e : length l ≡ length (32 ∷ s .0 ++ s .1) = ap (λ (x : List ℕ). length x) (s .2) in
     omega (arith, length-append (s .0) (s .1), at-most-20 (s .0) (s .3), at-most-21 (s .1) ns (s .4))

@@ -4,6 +4,7 @@ use mathlib.Core.Bool.{Bool, true, false, not}
 use mathlib.Core.List.{List}
 use Prim.Native.Nat.{ℕ, _≤_}
 use lib.ListN.{length}
+use borrow.Author.Tests.{not-true, not-false}
 use Rattle.stack.specs.Laws as stack
 use Rattle.wheel.specs.Between.{rule-between}
 use Rattle.wheel.specs.Rows.{Rows}
@@ -17,7 +18,7 @@ use Rattle.queue.specs.Steps.{Wakes}
 use Rattle.queue.specs.Calls.{WakeOn, LengthOn}
 use Rattle.queue.specs.PollLaws.{pendingIn, pending-is}
 use Rattle.records.specs.Words.{QueueWords, words, Sound, count, elapsed, markOf, view}
-use Rattle.judge.specs.Judge.{Tells, denied, granted}
+use Rattle.judge.specs.Judge.{Tells}
 use Rattle.delay_queue.specs.declared.Call.{Call}
 use Rattle.delay_queue.specs.Claims.{Judging, CallClaim}
 
@@ -41,16 +42,16 @@ module _ (vs ds ns ps ts ms : List ℕ) where
   turned-down {b = b} T e G =
       record {
         bad = λ f. record { told = ap told (G .0); same = λ i. words (G .1 i) (G .2 i) vs ds ns ps ts ms };
-        good = λ S. absurd (T .no (denied b e) S);
+        good = λ S. absurd (T .no (not-true b e) S);
       }
 
 -- the same, where nothing is handed back
 pub no-answer : {s : QueueWords} {b : Bool} {On : Type 0} → Tells (Sound s) b → not b ≡ true → Judging s (A.No 2) s On
-no-answer {s} {b} T e = record { bad = λ f. record { told = refl; same = refl }; good = λ S. absurd (T .no (denied b e) S) }
+no-answer {s} {b} T e = record { bad = λ f. record { told = refl; same = refl }; good = λ S. absurd (T .no (not-true b e) S) }
 
 -- sound
 pub is-sound : {s : QueueWords} {b : Bool} → Tells (Sound s) b → not b ≡ false → Sound s
-is-sound {s} {b} T e = T .yes (granted b e)
+is-sound {s} {b} T e = T .yes (not-false b e)
 
 pub taken-up : {s s′ : QueueWords} {a : Answer} {On : Type 0} → Sound s → On → Judging s a s′ On
 taken-up S x = record { bad = λ f. absurd (f S); good = λ _. x }

@@ -1,5 +1,5 @@
--- What every call answers and leaves, for any input at all, in document 01's words. `Sound`, `Refused` and what a call does on a sound store stand in
--- `queue`: its specs/Words.antt, specs/Steps.antt and specs/Calls.antt.
+-- What every call answers and leaves, for any input at all, in document 01's words. `Sound`, the view and what happens to one record stand in `records`
+-- (specs/Words.antt, View.antt, Records.antt), `Refused` and what a call does on a sound store in `queue` (specs/Calls.antt, Steps.antt, Told.antt).
 use mathlib.Core.Path.{_≡_}
 use mathlib.Core.Bool.{cond}
 use mathlib.Core.List.{[]}
@@ -9,13 +9,12 @@ use Rattle.links.specs.Lists.{change}
 use Rattle.links.specs.Laws.{Kept, LinksKept}
 use Rattle.stack.specs.Places.{free}
 use Rattle.stack.specs.Format.{range}
-use Rattle.judge.specs.Judge.{Room}
 use Rattle.queue.specs.Told.{told, ok}
 use Rattle.records.specs.View.{View, viewOf}
 use Rattle.queue.specs.declared.Answer.{Answer}
 use Rattle.delay_queue.specs.declared.Call.{Call}
 use Rattle.delay_queue.specs.declared.Call.the-variants as C
-use Rattle.records.specs.Words.{QueueWords, Sound, limit, view}
+use Rattle.records.specs.Words.{QueueWords, Room, Sound, limit, view}
 use Rattle.queue.specs.Calls.{Refused, InsertOn, ResetOn, RemoveOn, PollOn, WakeOn, LengthOn, ClearOn}
 
 -- ---- format
@@ -81,7 +80,7 @@ PollClaim s now a s′ = Judging s a s′ (PollOn s now a s′)
 abbrev pub ClearClaim : QueueWords → Answer → QueueWords → Type 0
 ClearClaim s a s′ = Judging s a s′ (ClearOn s a s′)
 
--- next wake and length change nothing: they lend nothing to be changed, and answer alone
+-- next wake and length change nothing: nothing is lent to them to be changed, and they answer alone
 abbrev pub WakeClaim : QueueWords → Answer → Type 0
 WakeClaim s a = Judging s a s (WakeOn s a)
 

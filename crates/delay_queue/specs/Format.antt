@@ -15,15 +15,13 @@ use Rattle.stack.specs.Words.{StackWords}
 use Rattle.stack.specs.Format.{over, over-step, over-at, over-kept, length-over, range, formatted, format-kept, format-whole, format-lists}
 use Rattle.stack.specs.Laws as stack
 use Rattle.wheel.specs.declared.Wheel.{Wheel}
-use Rattle.wheel.specs.Wheel.{Lists}
 use Rattle.wheel.specs.Rows.{filled, flags}
 use Rattle.wheel.specs.Words.{wheelWords}
 use Rattle.queue.specs.declared.Answer.{Answer}
 use Rattle.queue.specs.declared.Answer.the-variants as A
 use Rattle.queue.specs.Told.{told}
 use Rattle.records.specs.View.{view-eq}
-use Rattle.records.specs.Words.{QueueWords, queueWords, words, limit, Sound}
-use Rattle.judge.specs.Judge.{Room}
+use Rattle.records.specs.Words.{QueueWords, queueWords, words, limit, Room, Sound}
 use Rattle.delay_queue.specs.Claims.{Fits, InRange, first, Formatted, FormatClaim}
 use Rattle.delay_queue.specs.Back.{Goes}
 
@@ -66,12 +64,12 @@ module _ (n x : ℕ) (l : List ℕ) where
   fill-next {i} {m} F h =
       record {
         within = omega arith;
-        words = ap (λ (k : List ℕ). set k i x) (F .words) ∙ sym (over-step i (λ j. x) l);
+        words = ap (λ k. set k i x) (F .words) ∙ sym (over-step i (λ j. x) l);
         size = length-set m i x ∙ F .size;
       }
 
   pub fill-end : {i : ℕ} {m : List ℕ} → FilledSo n x l i m → n ≤ i → m ≡ over n (λ j. x) l
-  fill-end {i} F h = let e : i ≡ n = omega (arith, F .within) in F .words ∙ ap (λ (k : ℕ). over k (λ j. x) l) e
+  fill-end {i} F h = let e : i ≡ n = omega arith in F .words ∙ ap (λ k. over k (λ j. x) l) e
 
   pub over-first : n ≤ length l → at (over n (λ j. x) l) ≡ first n x (at l)
   unfolding first
@@ -79,7 +77,7 @@ module _ (n x : ℕ) (l : List ℕ) where
       fun-ext (λ i.
       by-cases (decLt i n)
       (λ g. rw (lt-ltb i n g) (over-at n (λ j. x) l h i g))
-      (λ g. rw (le-ltb i n (omega (arith, g))) (over-kept n n (λ j. x) l (omega arith) .past i (omega (arith, g)))))
+      (λ g. rw (le-ltb i n (omega arith)) (over-kept n n (λ j. x) l (omega arith) .past i (omega arith))))
 
 -- ---- the store
 
@@ -98,7 +96,7 @@ module _ {n turn : ℕ} {s : QueueWords} (F : Fits s n) (T : InRange turn) where
   new = queueWords (wheelWords 0 (replicate 6 0) made) (over n (λ i. 0) (s .values)) (over n (λ i. 0) (s .deadlines)) (over n (λ i. turn) (s .turns))
 
   small : n ≤ nobody
-  small = omega (arith, F .few)
+  small = omega arith
 
   deep : Deep n (s .wheel .stack .links)
   deep = record { nexts = F .room .nexts; prevs = F .room .prevs; marks = F .room .marks }
@@ -111,7 +109,7 @@ module _ {n turn : ℕ} {s : QueueWords} (F : Fits s n) (T : InRange turn) where
 
   -- no slot and no expired stack has a member
   empty : (p : ℕ) → p < free → stack.lists made p ≡ []
-  empty p h = ap (λ (L : Lists). L p) is ∙ change-other (λ q. []) free (range n 0) p (omega arith)
+  empty p h = ap (λ L. L p) is ∙ change-other (λ q. []) free (range n 0) p (omega arith)
 
   nobody-in : (p x : ℕ) → p < free → Mem x (stack.lists made p) → ⊥
   nobody-in p x h m = rw (empty p h) at m
@@ -126,9 +124,9 @@ module _ {n turn : ℕ} {s : QueueWords} (F : Fits s n) (T : InRange turn) where
         some = rw sized (F .some);
         few = rw sized (F .few);
         roomy = record {
-          values = omega (arith, sized, length-over n (λ i. 0) (s .values), F .room .values);
-          deadlines = omega (arith, sized, length-over n (λ i. 0) (s .deadlines), F .room .deadlines);
-          turns = omega (arith, sized, length-over n (λ i. turn) (s .turns), F .room .turns);
+          values = omega (arith, sized, length-over n (λ i. 0) (s .values));
+          deadlines = omega (arith, sized, length-over n (λ i. 0) (s .deadlines));
+          turns = omega (arith, sized, length-over n (λ i. turn) (s .turns));
         };
         whole = record {
           stack = whole;
@@ -136,10 +134,10 @@ module _ {n turn : ℕ} {s : QueueWords} (F : Fits s n) (T : InRange turn) where
             six = refl;
             row = λ k hk.
                 getD-replicate {A = ℕ} 6 k 0 0 hk
-                ∙ sym (row-none (flags (stack.lists made) k) 64 (λ j hj. ap filled (empty (slotPlace k j) (omega (arith, hk, hj)))));
+                ∙ sym (row-none (flags (stack.lists made) k) 64 (λ j hj. ap filled (empty (slotPlace k j) (omega arith))));
           };
         };
-        turns = λ i h. let e : at (over n (λ j. turn) (s .turns)) i ≡ turn = over-at n (λ j. turn) (s .turns) (F .room .turns) i (omega (arith, h, sized)) in (omega (arith, e, T .some), omega (arith, e, T .last));
+        turns = λ i h. let e : at (over n (λ j. turn) (s .turns)) i ≡ turn = over-at n (λ j. turn) (s .turns) (F .room .turns) i (omega (arith, sized)) in (omega arith, omega arith);
         rule = record { wheel = λ p x h m. absurd (nobody-in p x (omega arith) m); stack = λ x m. absurd (nobody-in expired x (omega arith) m) };
       }
 
@@ -177,8 +175,8 @@ module _ (s : QueueWords) (n turn : ℕ) where
   format-no : {r : ℕ} {a : Answer} {s′ : QueueWords} → FormatNo In (InRange turn) r → r ≢ 0 → a ≡ A.No r → s′ ≡ s → FormatClaim s n turn a s′
   format-no {r} N d e q =
       record {
-        short = λ f. record { told = ap told (e ∙ ap (λ (k : ℕ). A.No k) (N .short (λ I. f (in-fits I)))); same = q };
-        outside = λ F f. record { told = ap told (e ∙ ap (λ (k : ℕ). A.No k) (N .outside (fits-in F) f)); same = q };
+        short = λ f. record { told = ap told (e ∙ ap A.No (N .short (λ I. f (in-fits I)))); same = q };
+        outside = λ F f. record { told = ap told (e ∙ ap A.No (N .outside (fits-in F) f)); same = q };
         done = λ F T. absurd (d (N .near (fits-in F) T));
       }
 

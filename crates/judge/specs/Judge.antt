@@ -1,5 +1,5 @@
 -- The parts of soundness as they are judged, over the words, and that together they are soundness.
-use mathlib.Core.Path.{_≡_, refl, sym, ap, _∙_}
+use mathlib.Core.Path.{_≡_, sym, ap, _∙_}
 use mathlib.Core.Logic.{_≢_, by-cases}
 use mathlib.Core.Bool.{Bool, true, false, not, true≢false}
 use mathlib.Core.List.{List, []}
@@ -8,6 +8,7 @@ use native.Mathlib.Decide.{ℕ-discrete}
 use native.Mathlib.Omega.{arith}
 use lib.ListN.{length, getD}
 use lib.Dec.{eqb, leb}
+use borrow.Author.Count.{below-more}
 use borrow.Author.Tests.{eq-eqb, ne-eqb, eqb-true, eqb-false, leb-true, leb-false}
 use Rattle.times.specs.Times.{slotOf, levelOf, block}
 use Rattle.row.specs.Row.{flagAt, rowOf, flagged}
@@ -23,7 +24,7 @@ use Rattle.wheel.specs.Rows.{flags}
 use Rattle.wheel.specs.Words.{headAt, lists as listsIn}
 use Rattle.wheel.specs.Between.{place-level, place-slot}
 use Rattle.records.specs.Records.{lastTurn}
-use Rattle.records.specs.Words.{QueueWords, count, elapsed, markOf, limit, Sound}
+use Rattle.records.specs.Words.{QueueWords, count, elapsed, markOf, limit, Room, Sound}
 
 -- b tells whether P holds
 pub record Tells (P : Type 0) (b : Bool) : Type 0 where
@@ -40,30 +41,11 @@ tells-no f = record { yes = λ e. absurd (true≢false (sym e)); no = λ e. f }
 pub tells-by : {P Q : Type 0} {b : Bool} → Tells P b → (P → Q) → (Q → P) → Tells Q b
 tells-by t f g = record { yes = λ e. f (t .yes e); no = λ e q. t .no e (g q) }
 
--- a test of what is denied
-pub denied : (b : Bool) → not b ≡ true → b ≡ false
-denied true e = absurd (true≢false (sym e))
-denied false e = refl
-
-pub granted : (b : Bool) → not b ≡ false → b ≡ true
-granted true e = refl
-granted false e = absurd (true≢false e)
-
 pub tells-le : (a b : ℕ) → Tells (a ≤ b) (leb a b)
-tells-le a b = record { yes = leb-true a b; no = λ e h. omega (arith, leb-false a b e, h) }
+tells-le a b = record { yes = leb-true a b; no = λ e h. omega (arith, leb-false a b e) }
 
 pub tells-eq : (a b : ℕ) → Tells (a ≡ b) (eqb a b)
 tells-eq a b = record { yes = eqb-true a b; no = eqb-false a b }
-
--- ---- the slices
-
-pub record Room (n : ℕ) (vs ds ns ps ts ms : List ℕ) : Type 0 where
-  pub values : n ≤ length vs
-  pub deadlines : n ≤ length ds
-  pub nexts : n ≤ length ns
-  pub prevs : n ≤ length ps
-  pub turns : n ≤ length ts
-  pub marks : n ≤ length ms
 
 -- ---- the rows
 
@@ -110,21 +92,17 @@ module _ {f : ℕ → Bool} where
       let was : (j : ℕ) → j < 64 → j ≢ s → flagAt (rowOf (flagged (flagAt x) s true)) j ≡ flagAt x j
       = λ j k d. flag-row (flagged (flagAt x) s true) 64 j k ∙ flagged-other (flagAt x) s true j d in
       record {
-        seen = λ j g k.
-            by-cases (ℕ-discrete j s)
-            (λ (e : j ≡ s). rw e (flag-row (flagged (flagAt x) s true) 64 s h ∙ flagged-here (flagAt x) s true ∙ sym t))
-            (λ d. was j k d ∙ R .seen j (omega (arith, g, d)) k);
-        rest = λ j g k. let d : j ≢ s = omega (arith, g) in was j k d ∙ R .rest j (omega arith) k;
+        seen =
+            below-more _ s (λ j g k. was j k (omega arith) ∙ R .seen j g k)
+            (λ k. flag-row (flagged (flagAt x) s true) 64 s k ∙ flagged-here (flagAt x) s true ∙ sym t);
+        rest = λ j g k. was j k (omega arith) ∙ R .rest j (omega arith) k;
         fits = row-lt (flagged (flagAt x) s true) 64;
       }
 
   pub row-passed : {s x : ℕ} → HasBelow f s x → f s ≡ false → HasBelow f (s + 1) x
   row-passed {s} {x} R t =
       record {
-        seen = λ j g k.
-            by-cases (ℕ-discrete j s)
-            (λ (e : j ≡ s). rw e (R .rest s (omega arith) (omega (arith, k, e)) ∙ sym t))
-            (λ d. R .seen j (omega (arith, g, d)) k);
+        seen = below-more _ s (R .seen) (λ k. R .rest s (omega arith) k ∙ sym t);
         rest = λ j g k. R .rest j (omega arith) k;
         fits = R .fits;
       }
@@ -134,7 +112,7 @@ module _ {f : ℕ → Bool} where
 
 pub row-next : (occ : List ℕ) (hh : List (List ℕ)) {n : ℕ} → ((k : ℕ) → k < n → at occ k ≡ rowOf (held hh k)) → at occ n ≡ rowOf (held hh n)
     → (k : ℕ) → k < n + 1 → at occ k ≡ rowOf (held hh k)
-row-next occ hh {n} R r k h = by-cases (ℕ-discrete k n) (λ (q : k ≡ n). rw q r) (λ d. R k (omega (arith, h, d)))
+row-next occ hh R r = below-more _ _ R r
 
 -- ---- a record
 
@@ -142,23 +120,23 @@ module _ {p e w : ℕ} where
   pub place-told : {l s r : ℕ} → e ≤ w → block w ≡ block e → l ≡ levelOf e w → s ≡ slotOf w l → r ≡ slotPlace l s → Tells (OnWheel p e w) (eqb p r)
   unfolding placeFor
   place-told {l} {s} {r} h b f g k =
-      let is : r ≡ slotPlace (levelOf e w) (slotOf w (levelOf e w)) = k ∙ ap (slotPlace l) g ∙ ap (λ (j : ℕ). slotPlace j (slotOf w j)) f in
+      let is : r ≡ slotPlace (levelOf e w) (slotOf w (levelOf e w)) = k ∙ ap (slotPlace l) g ∙ ap (λ j. slotPlace j (slotOf w j)) f in
       tells-by (tells-eq p r) (λ q. record { place = q ∙ is; late = h; near = b }) (λ o. o .place ∙ sym is)
 
 module _ {e w t m : ℕ} (some : t ≢ 0) (last : t ≤ lastTurn) where
   pub record-slot : {b : Bool} → m < slots → Tells (OnWheel m e w) b → Tells (RecordAgrees e w t m) b
   record-slot h T =
-      tells-by T (λ o. record { some = omega (arith, some); last = omega arith; wheel = λ g. o; stack = λ q. absurd (omega arith) }) (λ R. R .wheel h)
+      tells-by T (λ o. record { some = omega arith; last = omega arith; wheel = λ g. o; stack = λ q. absurd (omega arith) }) (λ R. R .wheel h)
 
   pub record-stack : m ≡ expired → Tells (RecordAgrees e w t m) (eqb w e)
   record-stack h =
-      tells-by (tells-eq w e) (λ o. record { some = omega (arith, some); last = omega arith; wheel = λ g. absurd (omega arith); stack = λ q. o }) (λ R. R .stack h)
+      tells-by (tells-eq w e) (λ o. record { some = omega arith; last = omega arith; wheel = λ g. absurd (omega arith); stack = λ q. o }) (λ R. R .stack h)
 
   pub record-aside : slots ≤ m → m ≢ expired → RecordAgrees e w t m
-  record-aside h d = record { some = omega (arith, some); last = omega arith; wheel = λ g. absurd (omega arith); stack = λ q. absurd (d q) }
+  record-aside h d = record { some = omega arith; last = omega arith; wheel = λ g. absurd (omega arith); stack = λ q. absurd (d q) }
 
 pub record-next : {e n : ℕ} (ds ts ms : List ℕ) → RecordsAgree e n ds ts ms → RecordAgrees e (at ds n) (at ts n) (at ms n) → RecordsAgree e (n + 1) ds ts ms
-record-next {e} {n} ds ts ms R r i h = by-cases (ℕ-discrete i n) (λ (q : i ≡ n). rw q r) (λ d. R i (omega (arith, h, d)))
+record-next ds ts ms R r = below-more _ _ R r
 
 -- ---- the judgement
 
@@ -173,9 +151,9 @@ pub record Judged (s : QueueWords) : Type 0 where
 -- a slot has a head just where its list is not empty
 head-filled : (s : QueueWords) → stack.Whole (s .wheel .stack) → (k j : ℕ) → k < 6 → j < 64 → held (s .wheel .stack .heads) k j ≡ flags (listsIn (s .wheel)) k j
 head-filled s W k j hk hj =
-    let p : ℕ = slotPlace k j in
+    let p = slotPlace k j in
     let h : getD (getD (s .wheel .stack .heads) k []) j 0 ≡ headAt (s .wheel) p
-    = sym (head-slot (s .wheel .stack .stacks) (s .wheel .stack .heads) p (omega (arith, hk, hj)) ∙ rw (place-level k j hj, place-slot k j hj)) in
+    = sym (head-slot (s .wheel .stack .stacks) (s .wheel .stack .heads) p (omega arith) ∙ rw (place-level k j hj, place-slot k j hj)) in
     by-cases (ℕ-discrete (headAt (s .wheel) p) nobody)
     (λ z. rw (h, eq-eqb (headAt (s .wheel) p) nobody z, stack.list-empty W p z))
     (λ z. let r = stack.list-cons W p z in rw (h, ne-eqb (headAt (s .wheel) p) nobody z, r .1))
@@ -207,15 +185,15 @@ module _ {s : QueueWords} where
             record {
               some = S .turns i h .0;
               last = S .turns i h .1;
-              wheel = λ m. S .rule .wheel (markOf s i) i m (stack.marked-member W i h (omega (arith, m)));
-              stack = λ m. S .rule .stack i (rw m at (stack.marked-member W i h (omega (arith, m))));
+              wheel = λ m. S .rule .wheel (markOf s i) i m (stack.marked-member W i h (omega arith));
+              stack = λ m. S .rule .stack i (rw m at (stack.marked-member W i h (omega arith)));
             };
       }
 
   pub judged-sound : Shape (s .wheel .stack .heads) → Judged s → Sound s
   judged-sound H J =
       let W : stack.Whole (s .wheel .stack)
-      = stack.judged-whole (omega (arith, J .few)) H (record { nexts = J .room .nexts; prevs = J .room .prevs; marks = J .room .marks }) (J .lists) in
+      = stack.judged-whole (omega arith) H (record { nexts = J .room .nexts; prevs = J .room .prevs; marks = J .room .marks }) (J .lists) in
       record {
         some = J .some;
         few = J .few;
@@ -233,7 +211,7 @@ module _ {s : QueueWords} where
         rule = record {
           wheel = λ p x h m.
               let e : markOf s x ≡ p = stack.member-mark W p x m in
-              rw e at (J .records x (stack.member-below W p x m) .wheel (omega (arith, e, h)));
+              rw e at (J .records x (stack.member-below W p x m) .wheel (omega arith));
           stack = λ x m. J .records x (stack.member-below W expired x m) .stack (stack.member-mark W expired x m);
         };
       }

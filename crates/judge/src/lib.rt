@@ -4,9 +4,9 @@ ghost use mathlib.Core.Path.{_≡_};
 ghost use Prim.Native.Nat.{_≤_, _<_};
 ghost use lib.ListN.{length};
 ghost use Rattle.row.specs.Row.{rowOf};
-ghost use Rattle.records.specs.Words.{words, Sound};
+ghost use Rattle.records.specs.Words.{words, Room, Sound};
 ghost use Rattle.wheel.specs.Wheel.{OnWheel};
-ghost use Rattle.judge.specs.Judge.{Tells, Room, held, RowsAgree, RecordAgrees, RecordsAgree};
+ghost use Rattle.judge.specs.Judge.{Tells, held, RowsAgree, RecordAgrees, RecordsAgree};
 
 // Whether the slices are long enough for n records.
 pub fn has_room(

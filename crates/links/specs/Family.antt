@@ -70,14 +70,6 @@ module _ {P n : ℕ} {s : Net} {L : ℕ → List ℕ} (F : Fam P n s L) where
       by (inl m) = m
       by (inr l) = absurd (omega (arith, l .mark, F .few))
 
-  -- and one marked nobody is loose
-  pub fam-unmarked : (i : ℕ) → i < n → s .mk i ≡ nobody → Loose s i
-  fam-unmarked i hi h = by (F .cover i hi)
-    where
-      by : Mem i (L (s .mk i)) ⊎ Loose s i → Loose s i
-      by (inl m) = absurd (fam-loose i h (s .mk i) m)
-      by (inr l) = l
-
   -- a list by its head
   pub fam-empty : (p : ℕ) → s .hd p ≡ nobody → L p ≡ []
   fam-empty p h = by (L p) refl

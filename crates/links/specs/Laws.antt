@@ -46,7 +46,7 @@ pub record Changes (P n : ℕ) (hd : ℕ → ℕ) (s : Links) (p : ℕ) (l : Lis
 -- ---- stores into a list
 
 pub upd-set : (l : List ℕ) (i v : ℕ) → i < length l → Upd (at l) i v (at (set l i v))
-upd-set l i v h = record { same = getD-set-same l i v 0 h; other = λ j d. getD-set-other l i j v 0 d }
+upd-set l i v h = record { same = getD-set-same l i v 0 h; other = λ j. getD-set-other l i j v 0 }
 
 pub put-setN : (l : List ℕ) (k v : ℕ) → Inside k l → Put (at l) k v (at (setN l k v))
 put-setN l k v h =
@@ -82,12 +82,7 @@ links-trans A B =
     }
 
 pub deep-kept : {n : ℕ} {s t : Links} → Deep n s → LinksKept n s t → Deep n t
-deep-kept Z K =
-    record {
-      nexts = omega (arith, Z .nexts, K .nexts .size);
-      prevs = omega (arith, Z .prevs, K .prevs .size);
-      marks = omega (arith, Z .marks, K .marks .size);
-    }
+deep-kept Z K = omega arith
 
 -- ---- from a family to the words that hold it
 
@@ -110,10 +105,10 @@ module _ {P n : ℕ} {hd : ℕ → ℕ} {s : Links} (W : Whole P n hd s) where
   pub can-join : (p i : ℕ) → i < n → CanJoin s i (hd p)
   can-join p i hi =
       record {
-        next = omega (arith, W .deep .nexts);
-        prev = omega (arith, W .deep .prevs);
-        mark = omega (arith, W .deep .marks);
-        first = λ h. omega (arith, W .deep .prevs, head-below p h);
+        next = omega arith;
+        prev = omega arith;
+        mark = omega arith;
+        first = λ h. omega (arith, head-below p h);
       }
 
   join-kept : (p i : ℕ) → i < n → LinksKept n s (joined s p i (hd p))
@@ -163,11 +158,11 @@ module _ {P n : ℕ} {hd : ℕ → ℕ} {s : Links} (W : Whole P n hd s) where
     pub can-cut : CanCut s i
     can-cut =
         record {
-          next = omega (arith, W .deep .nexts);
-          prev = omega (arith, W .deep .prevs);
-          mark = omega (arith, W .deep .marks);
-          after = λ h. omega (arith, W .deep .prevs, after-below h);
-          before = λ h. omega (arith, W .deep .nexts, before-below h);
+          next = omega arith;
+          prev = omega arith;
+          mark = omega arith;
+          after = λ h. omega (arith, after-below h);
+          before = λ h. omega (arith, before-below h);
         }
 
     cut-kept : LinksKept n s (cutOut s i)
@@ -195,23 +190,19 @@ module _ {P n : ℕ} {hd : ℕ → ℕ} {s : Links} (W : Whole P n hd s) where
           head = H;
           nx₁ = at ns;
           next = put-setN (s .nexts) (at (s .prevs) i) (at (s .nexts) i) (C .before);
-          next-own = upd-set ns i nobody (omega (arith, C .next, kn .size));
+          next-own = upd-set ns i nobody (omega arith);
           pv₁ = at ps;
           prev = put-setN (s .prevs) (at (s .nexts) i) (at (s .prevs) i) (C .after);
-          prev-own = upd-set ps i nobody (omega (arith, C .prev, kp .size));
+          prev-own = upd-set ps i nobody (omega arith);
           mark = upd-set (s .marks) i nobody (C .mark);
         })
         hi hp)
 
--- ---- what the marks are afterwards
-
-pub mark-joined : {n : ℕ} {s : Links} → Deep n s → (p i h : ℕ) → i < n → Upd (at (s .marks)) i p (at (joined s p i h .marks))
-unfolding joined
-mark-joined {n} {s} Z p i h hi = upd-set (s .marks) i p (omega (arith, Z .marks))
+-- ---- the mark of one that was cut out
 
 pub mark-cut : {n : ℕ} {s : Links} → Deep n s → (i : ℕ) → i < n → Upd (at (s .marks)) i nobody (at (cutOut s i .marks))
 unfolding cutOut
-mark-cut {n} {s} Z i hi = upd-set (s .marks) i nobody (omega (arith, Z .marks))
+mark-cut {n} {s} Z i hi = upd-set (s .marks) i nobody (omega arith)
 
 -- ---- the judge decides it, both ways; a number that is no place has no head
 

@@ -1,5 +1,5 @@
 -- Clear: what is free afterwards, and in which order it is taken.
-use mathlib.Core.Path.{_≡_, refl, sym, ap, _∙_, subst}
+use mathlib.Core.Path.{_≡_, refl, sym, ap, _∙_}
 use mathlib.Core.Logic.{_≢_, inl, inr, ⊎-elim, by-cases}
 use mathlib.Core.Bool.{Bool, true, false, not, cond, _&&_, true≢false, and-eq-true-iff}
 use mathlib.Core.List.{List, [], _∷_, _++_}
@@ -8,20 +8,20 @@ use native.Mathlib.Decide.{ℕ-discrete, decLt}
 use native.Mathlib.Omega.{arith}
 use lib.Dec.{eqb, ltb}
 use borrow.Author.Tests.{eq-eqb, ne-eqb, lt-ltb, le-ltb}
-use Rattle.links.specs.Lists.{Mem, Nodup, without, change, change-same, change-other, mem-app}
+use Rattle.links.specs.Lists.{Mem, Nodup, without, change-same, change-other, mem-app}
 use Rattle.stack.specs.Places.{free, put}
 use Rattle.stack.specs.Laws as stack
-use Rattle.wheel.specs.Wheel.{Lists}
 use Rattle.queue.specs.declared.Answer.{Answer}
 use Rattle.queue.specs.Told.{told}
 use Rattle.queue.specs.Told as T
-use Rattle.records.specs.View.{View, withLists, withTurn, upd}
+use Rattle.records.specs.View.{View}
 use Rattle.records.specs.Records.{lastTurn, At, left, freed}
 use Rattle.queue.specs.Steps.{Clears, begun, kept, gave}
 use Rattle.records.specs.Words.{QueueWords, count, elapsed, view, Sound, upd-same, upd-other}
 use Rattle.records.specs.Laws.{mark-at}
 use Rattle.delay_queue.specs.Claims.{ClearClaim}
 use Rattle.promises.specs.Looking.{isPending, pending-exactly}
+use Rattle.promises.specs.KeysOne.{freed-last, raised, freed-more}
 
 -- a pending record whose turn can be raised: "At turn 2^48-1 it is retired instead."
 abbrev pub comesBack : QueueWords → ℕ → Bool
@@ -62,7 +62,7 @@ from-more k x l h = rw (le-ltb x k h)
 from-zero : (l : List ℕ) → from 0 l ≡ l
 unfolding from
 from-zero [] = refl
-from-zero (x ∷ l) = from-more 0 x l (omega arith) ∙ ap (λ (m : List ℕ). x ∷ m) (from-zero l)
+from-zero (x ∷ l) = from-more 0 x l (omega arith) ∙ ap (λ m. x ∷ m) (from-zero l)
 
 from-all : (k : ℕ) (l : List ℕ) → ((i : ℕ) → Mem i l → i < k) → from k l ≡ []
 unfolding from
@@ -75,7 +75,7 @@ mem-from k i (x ∷ l) h (inl e) = rw (from-more k x l (omega arith)) (inl e)
 mem-from k i (x ∷ l) h (inr m) =
     by-cases (decLt x k)
     (λ g. rw (from-less k x l g) (mem-from k i l h m))
-    (λ g. rw (from-more k x l (omega (arith, g))) (inr (mem-from k i l h m)))
+    (λ g. rw (from-more k x l (omega arith)) (inr (mem-from k i l h m)))
 
 from-mem : (k i : ℕ) (l : List ℕ) → Mem i (from k l) → Mem i l
 unfolding from
@@ -83,7 +83,7 @@ from-mem k i [] m = m
 from-mem k i (x ∷ l) m =
     by-cases (decLt x k)
     (λ g. inr (from-mem k i l (rw (lt-ltb x k g) at m)))
-    (λ g. ⊎-elim (λ e. inl e) (λ n. inr (from-mem k i l n)) (rw (le-ltb x k (omega (arith, g))) at m))
+    (λ g. ⊎-elim (λ e. inl e) (λ n. inr (from-mem k i l n)) (rw (le-ltb x k (omega arith)) at m))
 
 -- k is not in the list
 from-out : (k : ℕ) (l : List ℕ) → (Mem k l → ⊥) → from k l ≡ from (suc k) l
@@ -91,10 +91,10 @@ unfolding from
 from-out k [] f = refl
 from-out k (x ∷ l) f =
     by-cases (decLt x k)
-    (λ g. from-less k x l g ∙ from-out k l (λ m. f (inr m)) ∙ sym (from-less (suc k) x l (omega (arith, g))))
+    (λ g. from-less k x l g ∙ from-out k l (λ m. f (inr m)) ∙ sym (from-less (suc k) x l (omega arith)))
     (λ g.
-    from-more k x l (omega (arith, g)) ∙ ap (λ (m : List ℕ). x ∷ m) (from-out k l (λ m. f (inr m)))
-    ∙ sym (from-more (suc k) x l (by-cases (ℕ-discrete k x) (λ e. absurd (f (inl e))) (λ d. omega (arith, d, g)))))
+    from-more k x l (omega (arith, g)) ∙ ap (λ m. x ∷ m) (from-out k l (λ m. f (inr m)))
+    ∙ sym (from-more (suc k) x l (by-cases (ℕ-discrete k x) (λ e. absurd (f (inl e))) (λ d. omega arith))))
 
 -- or it goes
 from-without : (k : ℕ) (l : List ℕ) → Nodup l → without k (from k l) ≡ from (suc k) l
@@ -102,15 +102,15 @@ unfolding from
 from-without k [] n = refl
 from-without k (x ∷ l) n =
     by-cases (decLt x k)
-    (λ g. ap (without k) (from-less k x l g) ∙ from-without k l (n .1) ∙ sym (from-less (suc k) x l (omega (arith, g))))
+    (λ g. ap (without k) (from-less k x l g) ∙ from-without k l (n .1) ∙ sym (from-less (suc k) x l (omega arith)))
     (λ g.
     by-cases (ℕ-discrete x k)
-    (λ (e : x ≡ k).
+    (λ e.
     ap (without k) (from-more k x l (omega (arith, g))) ∙ rw (eq-eqb x k e) (from-out k l (λ m. n .0 (rw e m)))
-    ∙ sym (from-less (suc k) x l (omega (arith, e))))
+    ∙ sym (from-less (suc k) x l (omega arith)))
     (λ d.
-    ap (without k) (from-more k x l (omega (arith, g))) ∙ rw (ne-eqb x k d) (ap (λ (m : List ℕ). x ∷ m) (from-without k l (n .1)))
-    ∙ sym (from-more (suc k) x l (omega (arith, g, d)))))
+    ap (without k) (from-more k x l (omega arith)) ∙ rw (ne-eqb x k d) (ap (λ m. x ∷ m) (from-without k l (n .1)))
+    ∙ sym (from-more (suc k) x l (omega arith))))
 
 -- ---- the first k records are done
 
@@ -122,15 +122,6 @@ record Upto (s : QueueWords) (k : ℕ) (u : View) : Type 0 where
   same : (i : ℕ) → (i < k → comesBack s i ≡ false) → u .turn i ≡ view s .turn i
   values : u .value ≡ view s .value
   deadlines : u .deadline ≡ view s .deadline
-
-freed-last : (r : ℕ) (v : View) → v .turn r ≡ lastTurn → freed r v ≡ v
-unfolding freed
-freed-last r v e = rw (eq-eqb (v .turn r) lastTurn e)
-
-freed-next : (r : ℕ) (v : View) → v .turn r ≢ lastTurn
-    → freed r v ≡ withLists (change (v .lists) free (put free r (v .lists free))) (withTurn (upd (v .turn) r (v .turn r + 1)) v)
-unfolding freed
-freed-next r v d = rw (ne-eqb (v .turn r) lastTurn d)
 
 begun-so : (s : QueueWords) → Upto s 0 (view s)
 begun-so s =
@@ -162,12 +153,12 @@ module _ {s : QueueWords} (S : Sound s) {k : ℕ} {u : View} (U : Upto s k u) wh
       record {
         size = n ∙ U .size;
         waiting = w;
-        freed = f ∙ U .freed ∙ ap (λ (l : List ℕ). l ++ view s .lists free) (sym (falling-no (comesBack s) k z));
+        freed = f ∙ U .freed ∙ ap (λ l. l ++ view s .lists free) (sym (falling-no (comesBack s) k z));
         raised = λ i h e.
             by-cases (ℕ-discrete i k)
-            (λ (q : i ≡ k). absurd (true≢false (sym e ∙ ap (comesBack s) q ∙ z)))
-            (λ q. ap (λ (g : ℕ → ℕ). g i) t ∙ U .raised i (omega (arith, h, q)) e);
-        same = λ i g. ap (λ (g : ℕ → ℕ). g i) t ∙ U .same i (λ h. g (omega (arith, h)));
+            (λ q. absurd (true≢false (sym e ∙ ap (comesBack s) q ∙ z)))
+            (λ q. ap (λ g. g i) t ∙ U .raised i (omega arith) e);
+        same = λ i g. ap (λ g. g i) t ∙ U .same i (λ h. g (omega arith));
         values = a ∙ U .values;
         deadlines = d ∙ U .deadlines;
       }
@@ -188,7 +179,7 @@ module _ {s : QueueWords} (S : Sound s) {k : ℕ} {u : View} (U : Upto s k u) wh
     unfolding left
     left-waiting q g =
         by-cases (ℕ-discrete q p)
-        (λ (e : q ≡ p).
+        (λ e.
         rw e (change-same (u .lists) p (without k (u .lists p)) ∙ ap (without k) (U .waiting p (a .timed))
         ∙ from-without k (view s .lists p) (stack.list-nodup (S .whole .stack) p)))
         (λ d.
@@ -197,7 +188,7 @@ module _ {s : QueueWords} (S : Sound s) {k : ℕ} {u : View} (U : Upto s k u) wh
 
     left-free : left p k u .lists free ≡ u .lists free
     unfolding left
-    left-free = change-other (u .lists) p (without k (u .lists p)) free (omega (arith, a .timed))
+    left-free = change-other (u .lists) p (without k (u .lists p)) free (omega arith)
 
     turn-now : u .turn k ≡ view s .turn k
     turn-now = U .same k (λ g. absurd (omega arith))
@@ -207,26 +198,23 @@ module _ {s : QueueWords} (S : Sound s) {k : ℕ} {u : View} (U : Upto s k u) wh
     back-is = let e : isPending s k ≡ true = pending-exactly S k h .1 p was in rw e
 
     -- and comes to the head of the free list
-    abbrev back : View
-    back = withLists (change (left p k u .lists) free (put free k (left p k u .lists free))) (withTurn (upd (u .turn) k (u .turn k + 1)) (left p k u))
-
-    back-so : comesBack s k ≡ true → Upto s (suc k) back
+    back-so : comesBack s k ≡ true → Upto s (suc k) (raised k (left p k u))
     unfolding left put
     back-so z =
-        let L : Lists = left p k u .lists in
+        let L = left p k u .lists in
         record {
           size = U .size;
           waiting = λ q g. change-other L free (put free k (L free)) q (omega arith) ∙ left-waiting q g;
-          freed = change-same L free (put free k (L free)) ∙ ap (λ (l : List ℕ). k ∷ l) (left-free ∙ U .freed)
-              ∙ ap (λ (l : List ℕ). l ++ view s .lists free) (sym (falling-yes (comesBack s) k z));
+          freed = change-same L free (put free k (L free)) ∙ ap (λ l. k ∷ l) (left-free ∙ U .freed)
+              ∙ ap (λ l. l ++ view s .lists free) (sym (falling-yes (comesBack s) k z));
           raised = λ i g e.
               by-cases (ℕ-discrete i k)
-              (λ (q : i ≡ k). rw q (upd-same (u .turn) k (u .turn k + 1) ∙ ap (λ (n : ℕ). n + 1) turn-now))
-              (λ q. upd-other (u .turn) k (u .turn k + 1) i q ∙ U .raised i (omega (arith, g, q)) e);
+              (λ q. rw q (upd-same (u .turn) k (u .turn k + 1) ∙ ap (λ n. n + 1) turn-now))
+              (λ q. upd-other (u .turn) k (u .turn k + 1) i q ∙ U .raised i (omega arith) e);
           same = λ i f.
               by-cases (ℕ-discrete i k)
-              (λ (q : i ≡ k). absurd (true≢false (sym z ∙ ap (comesBack s) (sym q) ∙ f (omega (arith, q)))))
-              (λ q. upd-other (u .turn) k (u .turn k + 1) i q ∙ U .same i (λ g. f (omega (arith, g))));
+              (λ q. absurd (true≢false (sym z ∙ ap (comesBack s) (sym q) ∙ f (omega arith))))
+              (λ q. upd-other (u .turn) k (u .turn k + 1) i q ∙ U .same i (λ g. f (omega arith)));
           values = U .values;
           deadlines = U .deadlines;
         }
@@ -234,14 +222,14 @@ module _ {s : QueueWords} (S : Sound s) {k : ℕ} {u : View} (U : Upto s k u) wh
     gave-so : Upto s (suc k) (freed k (left p k u))
     unfolding left
     gave-so =
-        let v : View = left p k u in
+        let v = left p k u in
         by-cases (ℕ-discrete (view s .turn k) lastTurn)
         (λ e.
         let z : comesBack s k ≡ false = back-is ∙ ap not (eq-eqb (view s .turn k) lastTurn e) in
         rw (freed-last k v (turn-now ∙ e)) (stays z refl left-free refl refl refl left-waiting))
         (λ d.
         let z : comesBack s k ≡ true = back-is ∙ ap not (ne-eqb (view s .turn k) lastTurn d) in
-        rw (freed-next k v (λ e. d (sym turn-now ∙ e))) (back-so z))
+        rw (freed-more k v (λ e. d (sym turn-now ∙ e))) (back-so z))
 
 upto : {s : QueueWords} → Sound s → {k : ℕ} {u : View} → Clears (view s) k u → k ≤ count s → Upto s k u
 upto {s} S begun h = begun-so s
@@ -257,7 +245,7 @@ pub back-exactly : {s : QueueWords} → Sound s → (i : ℕ) → i < count s
 back-exactly {s} S i h = (
   λ e.
       let z = and-eq-true-iff (isPending s i) (not (eqb (view s .turn i) lastTurn)) .0 e in
-      (pending-exactly S i h .0 (z .0), λ q. true≢false (sym (z .1) ∙ ap not (eq-eqb (view s .turn i) lastTurn q))),
+      (pending-exactly S i h .0 (z .0), λ q. true≢false (cc)),
   λ p a d. let e : isPending s i ≡ true = pending-exactly S i h .1 p a in rw (e, ne-eqb (view s .turn i) lastTurn d),
 )
 
@@ -277,7 +265,7 @@ clear-order {s} {t} C S =
     let U = upto S (K .clears) (omega arith) in
     let E = K .done .view in
     let W = S .whole .stack in
-    let listed : (p : ℕ) → view t .lists p ≡ K .cleared .lists p = λ p. ap (λ (v : View). v .lists p) E in
+    let listed : (p : ℕ) → view t .lists p ≡ K .cleared .lists p = λ p. ap (λ v. v .lists p) E in
     let empty : (p : ℕ) → p < free → view t .lists p ≡ []
     = λ p h. listed p ∙ U .waiting p h ∙ from-all (count s) (view s .lists p) (λ i m. stack.member-below W p i m) in
     let freed : view t .lists free ≡ falling (comesBack s) (count s) ++ view s .lists free = listed free ∙ U .freed in
@@ -285,23 +273,23 @@ clear-order {s} {t} C S =
     = λ i p a e m.
     ⊎-elim
     (λ k. back-exactly S i (stack.member-below W p i (a .member)) .0 (mem-falling (comesBack s) (count s) i k) .1 e)
-    (λ k. omega (arith, a .timed, mark-at S a, stack.member-mark W free i k))
+    (λ k. omega (arith, mark-at S a, stack.member-mark W free i k))
     (mem-app i (falling (comesBack s) (count s)) (view s .lists free) (rw freed at m)) in (
       K .done .told,
       record {
-        size = ap (λ (v : View). v .n) E ∙ U .size;
-        clock = ap (λ (v : View). v .elapsed) E;
+        size = ap (λ v. v .n) E ∙ U .size;
+        clock = ap (λ v. v .elapsed) E;
         empty = empty;
         freed = freed;
-        raised = λ i h e. ap (λ (v : View). v .turn i) E ∙ U .raised i h e;
-        same = λ i f. ap (λ (v : View). v .turn i) E ∙ U .same i f;
+        raised = λ i h e. ap (λ v. v .turn i) E ∙ U .raised i h e;
+        same = λ i f. ap (λ v. v .turn i) E ∙ U .same i f;
         retired = λ i p a e q m.
             by-cases (decLt q free)
-            (λ h. subst (Mem i) (empty q h) m)
+            (λ h. rw (empty q h) at m)
             (λ h.
-            let z : q ≡ free = omega (arith, h, stack.member-place (K .done .sound .whole .stack) q i m) in
+            let z : q ≡ free = omega (arith, stack.member-place (K .done .sound .whole .stack) q i m) in
             retired i p a e (rw z at m));
-        values = ap (λ (v : View). v .value) E ∙ U .values;
-        deadlines = ap (λ (v : View). v .deadline) E ∙ U .deadlines;
+        values = ap (λ v. v .value) E ∙ U .values;
+        deadlines = ap (λ v. v .deadline) E ∙ U .deadlines;
       },
     )

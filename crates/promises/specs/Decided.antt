@@ -1,23 +1,20 @@
--- Whether a store is sound, whether format takes what it is given, and which line of the table a call meets: all of it is decided.
-use mathlib.Core.Path.{_≡_, refl}
+-- Whether a store is sound, and whether format takes what it is given, is decided.
 use mathlib.Core.Logic.{by-cases, Dec·and}
 use mathlib.Core.Bool.{true, Bool-discrete}
 use mathlib.Core.List.{List, []}
-use Prim.Native.Nat.{ℕ, zero, suc, _-_, _/_, _%_, _^_, _<_}
+use Prim.Native.Nat.{ℕ, zero, suc, _^_, _<_}
 use native.Mathlib.Decide.{ℕ-discrete, decLe, decLt, map-dec}
 use native.Mathlib.Omega.{arith}
 use lib.ListN.{length, getD}
-use Rattle.times.specs.Times.{maxDuration, block}
+use Rattle.times.specs.Times.{block}
 use Rattle.row.specs.Row.{rowOf}
 use Rattle.links.specs.Links.{at}
-use Rattle.stack.specs.Places.{slots, expired, free}
+use Rattle.stack.specs.Places.{slots, expired}
 use Rattle.stack.specs.Heads.{Shape}
 use Rattle.stack.specs.Words.{judged}
 use Rattle.wheel.specs.Wheel.{placeFor, OnWheel}
-use Rattle.records.specs.Records.{Names, TooFar, OtherBlock, Near}
-use Rattle.records.specs.Words.{QueueWords, count, elapsed, markOf, limit, view, Sound}
-use Rattle.records.specs.Code.{key-names, names-key, find-mark, find-turn}
-use Rattle.judge.specs.Judge.{Room, held, RowsAgree, RecordAgrees, Judged, sound-judged, judged-sound}
+use Rattle.records.specs.Words.{QueueWords, Room, count, elapsed, markOf, limit, Sound}
+use Rattle.judge.specs.Judge.{held, RowsAgree, RecordAgrees, Judged, sound-judged, judged-sound}
 use Rattle.delay_queue.specs.Claims.{Fits, InRange}
 
 -- ---- soundness, and what format asks
@@ -35,7 +32,7 @@ below-dec : {P : ℕ → Type 0} → ((i : ℕ) → Dec (P i)) → (n : ℕ) →
 below-dec d zero = yes (λ i h. absurd (omega arith))
 below-dec {P} d (suc n) =
     by-dec (Dec·and (d n) (below-dec d n))
-    (λ x i h. by-cases (ℕ-discrete i n) (λ (e : i ≡ n). rw e (x .0)) (λ e. x .1 i (omega (arith, h, e))))
+    (λ x i h. by-cases (ℕ-discrete i n) (λ e. rw e (x .0)) (λ e. x .1 i (omega arith)))
     (λ f. (f n (omega arith), λ i h. f i (omega arith)))
 
 room-dec : (n : ℕ) (vs ds ns ps ts ms : List ℕ) → Dec (Room n vs ds ns ps ts ms)

@@ -67,7 +67,7 @@ module _ {s : QueueWords} {a : Answer} {t : QueueWords} (S : Sound s) where
   remove-does {key} R = by-key S key (λ r p N. removed N (R .done r p N)) (λ f. refused (R .dead f))
 
   poll-does : {now : ℕ} → PollClaim s now a t → Does s a t (C.Poll now)
-  poll-does {now} P = by-cases (decLt now (elapsed s)) (λ h. refused (P .good S .back h)) (λ h. polled (omega (arith, h)) P)
+  poll-does {now} P = by-cases (decLt now (elapsed s)) (λ h. refused (P .good S .back h)) (λ h. polled (omega arith) P)
 
   pub does : (c : Call) → CallClaim c s a t → Does s a t c
   does (C.Format n turn) A = format-does A

@@ -121,8 +121,8 @@ module _ {s t u : QueueWords} {l : List Asked} {k : ℕ} (S : Sound s) where
     dead-key-changes-nothing (C.Format n turn) b w h B = absurd h
     dead-key-changes-nothing (C.Insert value when) b w h B = absurd h
     dead-key-changes-nothing (C.Reset key when) b w h B =
-        left-is-dead .reset when b w (subst (λ (j : ℕ). CallClaim (C.Reset j when) u b w) h B) .same
-    dead-key-changes-nothing (C.Remove key) b w h B = left-is-dead .remove b w (subst (λ (j : ℕ). CallClaim (C.Remove j) u b w) h B) .same
+        left-is-dead .reset when b w (rw h at B) .same
+    dead-key-changes-nothing (C.Remove key) b w h B = left-is-dead .remove b w (rw h at B) .same
     dead-key-changes-nothing (C.Poll now) b w h B = absurd h
     dead-key-changes-nothing C.Wake b w h B = absurd h
     dead-key-changes-nothing C.Length b w h B = absurd h
@@ -156,7 +156,7 @@ taken-next : {u : View} {k : ℕ} {x : Told} {w : View} → Steps u (C.Remove k)
 unfolding left put
 taken-next refuses z d = let y : _≡_ {A = ℕ} 0 1 = cc in absurd (omega arith)
 taken-next {u} {k} (removes {r = i} {p = p} N) z d =
-    let u : View = left p i u in
+    let u = left p i u in
     rw (freed-more i u (λ e. d (sym (N .turn) ∙ e)), ← N .number, ← N .turn)
     (_, change-same (u .lists) free (put free i (u .lists free)), upd-same (u .turn) i (u .turn i + 1))
 
@@ -173,16 +173,16 @@ dead-shown =
     let I = insert-shown in
     let m = remove-met (I .0) 65536 in
     let e : m .0 ≡ A.Gone 7 70 = told-one (m .0) (A.Gone 7 70) (key-removes one-sound (I .1) refl rest tt (m .2)) in
-    let R : CallClaim (C.Remove 65536) (I .0) (A.Gone 7 70) (m .1) = subst (λ (a : Answer). CallClaim (C.Remove 65536) (I .0) a (m .1)) e (m .2) in
+    let R : CallClaim (C.Remove 65536) (I .0) (A.Gone 7 70) (m .1) = subst (λ a. CallClaim (C.Remove 65536) (I .0) a (m .1)) e (m .2) in
     let S = step-sound (C.Remove 65536) (I .0) (A.Gone 7 70) (m .1) R (I .2) in
     let h = taken-next (call-steps (C.Remove 65536) (I .0) (A.Gone 7 70) (m .1) (I .2) R) refl (omega arith) in
     let j = insert-met (m .1) 8 0 in
     let g : told (j .0) ≡ T.key 131072
-    = j .2 .good S .done 0 (h .0) (h .1) (λ z. absurd (omega (arith, z))) .told ∙ ap (λ (c : ℕ). T.key (c * 65536 + 0)) (h .2) in
+    = j .2 .good S .done 0 (h .0) (h .1) (λ z. absurd (omega arith)) .told ∙ ap (λ c. T.key (c * 65536 + 0)) (h .2) in
     let J : CallClaim (C.Insert 8 0) (m .1) (A.Key 131072) (j .1)
-    = subst (λ (a : Answer). CallClaim (C.Insert 8 0) (m .1) a (j .1)) (told-one (j .0) (A.Key 131072) g) (j .2) in
+    = subst (λ a. CallClaim (C.Insert 8 0) (m .1) a (j .1)) (told-one (j .0) (A.Key 131072) g) (j .2) in
     let n = remove-met (j .1) 65536 in
     let D = left-is-dead (I .2) (C.Remove 65536) (A.Gone 7 70) R (removed refl) (next {x = asked (C.Insert 8 0) (A.Key 131072)} J rest) (refl, tt) in
     let f : n .0 ≡ A.No 6 = told-one (n .0) (A.No 6) (D .remove (n .0) (n .1) (n .2) .told) in
-    let Q : CallClaim (C.Remove 65536) (j .1) (A.No 6) (n .1) = subst (λ (a : Answer). CallClaim (C.Remove 65536) (j .1) a (n .1)) f (n .2) in
+    let Q : CallClaim (C.Remove 65536) (j .1) (A.No 6) (n .1) = subst (λ a. CallClaim (C.Remove 65536) (j .1) a (n .1)) f (n .2) in
     (n .1, next (I .1) (next R (next J (next Q rest))))

@@ -1,19 +1,18 @@
 -- A key that was given, and one whose record has left: what no call but format undoes (`given-onward`, `spent-onward`), and that a poll, a remove and a
 -- clear spend the keys of the records that they free.
-use mathlib.Core.Path.{_≡_, refl, sym, ap, _∙_, subst}
-use mathlib.Core.Logic.{_≢_, inl, inr, ⊎-elim, by-cases}
+use mathlib.Core.Path.{_≡_, refl, sym, ap, _∙_}
+use mathlib.Core.Logic.{_≢_, inl, ⊎-elim, by-cases}
 use mathlib.Core.List.{List, [], _∷_}
 use mathlib.Core.Option.{some}
-use Prim.Native.Nat.{ℕ, zero, suc, _+_, _*_, _/_, _%_, _≤_, _<_}
+use Prim.Native.Nat.{ℕ, _+_, _/_, _%_, _≤_}
 use native.Mathlib.Decide.{ℕ-discrete, decLt}
 use native.Mathlib.Omega.{arith}
-use native.Mathlib.Numerals.{add-one}
 use borrow.Author.Tests.{eq-eqb, ne-eqb}
 use Rattle.links.specs.Lists.{Mem, Nodup, without, change}
 use Rattle.stack.specs.Places.{slots, expired, free}
 use Rattle.stack.specs.Laws as stack
 use Rattle.wheel.specs.Wheel.{Lists}
-use Rattle.wheel.specs.Sums.{sumOf, total, mem-change, hits, lies-times, times-lies}
+use Rattle.wheel.specs.Sums.{mem-change, hits, lies-times}
 use Rattle.wheel.specs.Drain.{amount}
 use Rattle.wheel.specs.Poll.{Promise}
 use Rattle.queue.specs.declared.Answer.{Answer}
@@ -31,6 +30,7 @@ use Rattle.delay_queue.specs.Back.{taken-up}
 use Rattle.promises.specs.Met.{clear-first}
 use Rattle.promises.specs.Once.{clear-once}
 use Rattle.promises.specs.Steps.{Steps, refuses, inserts, call-steps, key-inserts, out-polls}
+use Rattle.promises.specs.Polling.{one-list, lies-once, key-of-names}
 use Rattle.promises.specs.KeysOne.{Onward, freed-last, freed-more, wheel-promise, does-onward}
 
 -- the record r was given under the turn c: that turn is past, or r is no longer free
@@ -52,12 +52,12 @@ Spent v k = SpentAt v (k / 65536) (k % 65536)
 
 module _ {v w : View} {c r : ℕ} (O : Onward v w r) where
   same-turn : c ≤ v .turn r → w .turn r ≡ c → (v .turn r ≡ c) × (w .turn r ≡ v .turn r)
-  same-turn h e = (omega (arith, O .turn), omega (arith, O .turn))
+  same-turn h e = (omega arith, omega (arith, O .turn))
 
   pub given-onward : GivenAt v c r → GivenAt w c r
   given-onward G =
       record {
-        turn = omega (arith, O .turn, G .turn);
+        turn = omega arith;
         taken = λ e m. let z = same-turn (G .turn) e in G .taken (z .0) (O .idle (z .1) m);
       }
 
@@ -70,78 +70,30 @@ module _ {v w : View} {c r : ℕ} (O : Onward v w r) where
             ⊎-elim (P .given .taken (z .0)) (λ b. P .gone (z .0) (b .0) (b .1)) (O .waits (z .1) p a);
       }
 
--- ---- the parts of a key
-
-pub key-number : (c r : ℕ) → r < 65536 → r ≡ (c * 65536 + r) % 65536
-key-number c r h = omega arith
-
-pub key-turn : (c r : ℕ) → r < 65536 → c ≡ (c * 65536 + r) / 65536
-key-turn c r h = omega arith
-
--- ---- lists without repeats
+-- ---- on a sound store
 
 without-out : (i : ℕ) (l : List ℕ) → Nodup l → Mem i (without i l) → ⊥
 without-out i [] d m = m
 without-out i (x ∷ l) d m =
     by-cases (ℕ-discrete x i)
-    (λ (e : x ≡ i). d .0 (rw e (rw (eq-eqb x i e) at m)))
+    (λ e. d .0 (rw e (rw (eq-eqb x i e) at m)))
     (λ n. ⊎-elim (λ e. n (sym e)) (without-out i l (d .1)) (rw (ne-eqb x i n) at m))
 
--- how often it lies there
-sum-none : (y : ℕ) (l : List ℕ) → (Mem y l → ⊥) → sumOf (hits y) l ≡ 0
-sum-none y [] out = refl
-sum-none y (x ∷ l) out = rw (ne-eqb x y (λ e. out (inl (sym e)))) (omega (arith, sum-none y l (λ m. out (inr m))))
-
-sum-once : (y : ℕ) (l : List ℕ) → Nodup l → sumOf (hits y) l ≤ 1
-sum-once y [] d = omega arith
-sum-once y (x ∷ l) d =
-    by-cases (ℕ-discrete x y)
-    (λ (e : x ≡ y). rw (eq-eqb x y e) (omega (arith, sum-none y l (λ m. d .0 (rw e m)))))
-    (λ n. rw (ne-eqb x y n) (omega (arith, sum-once y l (d .1))))
-
--- ---- on a sound store every record is in one list at most
-
 module _ {s : QueueWords} (S : Sound s) where
-  -- in two lists at once is nobody
-  pub one-list : (i p q : ℕ) → Mem i (view s .lists p) → Mem i (view s .lists q) → p ≡ q
-  one-list i p q m k = sym (stack.member-mark (S .whole .stack) p i m) ∙ stack.member-mark (S .whole .stack) q i k
-
-  -- a key of a pending record names it
-  pub key-names : {i p : ℕ} → At (view s) i p → Names (view s) (keyOf (view s) i) i p
-  key-names {i} {p} a =
-      let h : i < count s = stack.member-below (S .whole .stack) p i (a .member) in
-      record {
-        number = key-number (view s .turn i) i (omega (arith, h, S .few));
-        below = h;
-        pending = a;
-        turn = key-turn (view s .turn i) i (omega (arith, h, S .few));
-      }
-
+  -- the key of a pending record was given
   pub names-given : {k r p : ℕ} → Names (view s) k r p → Given (view s) k
   names-given {k} {r} {p} N =
       rw (← N .number, ← N .turn)
-      (record { turn = omega arith; taken = λ e m. omega (arith, one-list r free p m (N .pending .member), N .pending .timed) })
+      (record { turn = omega arith; taken = λ e m. omega (arith, one-list S r free p m (N .pending .member)) })
 
-  -- ---- a record that leaves a list is in none
-
+  -- a record that leaves a list is in none
   pub moved-out : (i p : ℕ) → Mem i (view s .lists p) → (l : List ℕ) → (Mem i l → ⊥) → (q : ℕ) → Mem i (change (view s .lists) p l q) → ⊥
-  moved-out i p m l out q k = ⊎-elim (λ a. out (a .1)) (λ a. a .0 (one-list i q p (a .1) m)) (mem-change (view s .lists) p l q i k)
+  moved-out i p m l out q k = ⊎-elim (λ a. out (a .1)) (λ a. a .0 (one-list S i q p (a .1) m)) (mem-change (view s .lists) p l q i k)
 
   pub left-out : {i p : ℕ} → At (view s) i p → (q : ℕ) → Mem i (left p i (view s) .lists q) → ⊥
   unfolding left
   left-out {i} {p} a q m =
       moved-out i p (a .member) (without i (view s .lists p)) (without-out i (view s .lists p) (stack.list-nodup (S .whole .stack) p)) q m
-
-  -- nobody lies twice in all the lists together
-  lies-once : (y n : ℕ) → total (λ q x. hits y x) n (view s .lists) ≤ 1
-  unfolding total
-  lies-once y zero = omega arith
-  lies-once y (suc n) =
-      by-cases (decLt 0 (total (λ q x. hits y x) n (view s .lists)))
-      (λ h.
-      let b = times-lies n (view s .lists) y h in
-      omega (arith, lies-once y n, sum-none y (view s .lists n) (λ m. omega (arith, b .1, one-list y (b .0) n (b .2) m))))
-      (λ h. omega (arith, h, sum-once y (view s .lists n) (stack.list-nodup (S .whole .stack) n)))
 
   pub handed-out : {now i m n e : ℕ} {N : Lists} → Promise (view s .deadline) now (view s .elapsed) (view s .lists) (some i) m n e N → (q : ℕ) → Mem i (N q) → ⊥
   unfolding amount
@@ -149,8 +101,8 @@ module _ {s : QueueWords} (S : Sound s) where
       let w = P .fair .0 in
       let one : hits i i ≡ 1 = rw (eq-eqb i i refl) in
       by-cases (decLt q slots)
-      (λ h. omega (arith, lies-times slots N i q h m, P .kept (hits i), lies-once i slots, one))
-      (λ h. omega (arith, h, w .1, one-list i (w .0) q (w .2) (rw (P .aside q (omega (arith, h))) at m)))
+      (λ h. omega (arith, lies-times slots N i q h m, P .kept (hits i), lies-once S i slots))
+      (λ h. omega (arith, one-list S i (w .0) q (w .2) (rw (P .aside q (omega arith)) at m)))
 
 -- ---- the key of a record that is freed is spent
 
@@ -163,7 +115,7 @@ freed-spent i v out =
     (λ z.
     let t = upd-same (v .turn) i (v .turn i + 1) in
     rw (freed-more i v z)
-    (record { given = record { turn = omega (arith, t); taken = λ e m. absurd (omega (arith, t, e)) }; gone = λ e p a. absurd (omega (arith, t, e)) }))
+    (record { given = record { turn = omega arith; taken = λ e m. absurd (omega arith) }; gone = λ e p a. absurd (omega (arith, t)) }))
 
 module _ {s : QueueWords} (S : Sound s) where
   spent-by : {k i p : ℕ} {w : View} → Names (view s) k i p → SpentAt w (view s .turn i) i → Spent w k
@@ -182,20 +134,20 @@ module _ {s : QueueWords} (S : Sound s) where
 
   hands-out : {k i p : ℕ} {w : View} → At (view s) i p → k ≡ keyOf (view s) i → SpentAt w (view s .turn i) i → HandsOut k w
   hands-out {k} {i} {p} {w} a e P =
-      rw e (let N = key-names S a in record { number = i; place = p; names = N; spent = spent-by N P })
+      rw e (let N = key-of-names S a in record { number = i; place = p; names = N; spent = spent-by N P })
 
   poll-spent : {now : ℕ} {x : Told} {w : View} → view s .elapsed ≤ now → QueuePolls (view s) now x w → {k v d m n : ℕ} → x ≡ T.out k v d m n → HandsOut k w
   poll-spent h (popped {r = i} {l = l} e) {k} z =
       let m : Mem i (view s .lists expired) = rw e (inl refl) in
       let d : Nodup (i ∷ l) = rw e at (stack.list-nodup (S .whole .stack) expired) in
       let q : k ≡ keyOf (view s) i = cc in
-      let u : View = withLists (change (view s .lists) expired l) (view s) in
+      let u = withLists (change (view s .lists) expired l) (view s) in
       hands-out (record { timed = omega arith; member = m }) q (freed-spent i u (moved-out S i expired m l (d .0)))
   poll-spent h (handed {r = i} {e = c} {L = L} e P) {k} z =
       let R = wheel-promise S e h P in
       let w = R .fair .0 in
       let q : k ≡ keyOf (view s) i = cc in
-      hands-out (record { timed = omega (arith, w .1); member = w .2 }) q (freed-spent i (withElapsed c (withLists L (view s))) (handed-out S R))
+      hands-out (record { timed = omega arith; member = w .2 }) q (freed-spent i (withElapsed c (withLists L (view s))) (handed-out S R))
   poll-spent h (nothing e P) z = let y : _≡_ {A = ℕ} 0 1 = cc in absurd (omega arith)
 
   -- ---- clear
@@ -208,7 +160,7 @@ module _ {s : QueueWords} (S : Sound s) where
       let e = clear-once A (taken-up S (clear-done C refl)) .1 in
       let x = rw e at b in
       let y : At (view (m .0)) r p = record { timed = x .timed; member = x .member } in
-      C .gone r (omega (arith, stack.member-below (C .sound .whole .stack) p r (y .member), C .kept .links .size)) p y
+      C .gone r (omega (arith, stack.member-below (C .sound .whole .stack) p r (y .member))) p y
 
   pub clear-spent : {k i p : ℕ} → Names (view s) k i p → {a : Answer} {t : QueueWords} → ClearClaim s a t → Spent (view t) k
   clear-spent {k} N {a} {t} A =
@@ -221,7 +173,7 @@ module _ {s : QueueWords} (S : Sound s) where
 
 pub spent-unnamed : {v : View} {k : ℕ} → Spent v k → (r p : ℕ) → Names v k r p → ⊥
 spent-unnamed {v} {k} P r p N =
-    P .gone (ap (v .turn) (sym (N .number)) ∙ N .turn) p (subst (λ (i : ℕ). At v i p) (N .number) (N .pending))
+    P .gone (ap (v .turn) (sym (N .number)) ∙ N .turn) p (rw (N .number) at (N .pending))
 
 module _ {s : QueueWords} (S : Sound s) {k : ℕ} where
   insert-new : Given (view s) k → {value when : ℕ} {x : Told} {w : View} → Steps (view s) (C.Insert value when) x w → x ≢ T.key k
@@ -229,14 +181,14 @@ module _ {s : QueueWords} (S : Sound s) {k : ℕ} where
   insert-new G (inserts {r = i} e) z =
       let h = stack.member-below (S .whole .stack) free i (rw e (inl refl)) in
       let q : k ≡ keyOf (view s) i = cc in
-      let number : i ≡ k % 65536 = rw q (key-number (view s .turn i) i (omega (arith, h, S .few))) in
-      let turn : view s .turn i ≡ k / 65536 = rw q (key-turn (view s .turn i) i (omega (arith, h, S .few))) in
+      let number : i ≡ k % 65536 = omega arith in
+      let turn : view s .turn i ≡ k / 65536 = omega arith in
       (rw (← number) at (G .taken)) turn (rw e (inl refl))
 
   module _ {c : Call} {x : Told} {w : View} (D : Steps (view s) c x w) where
     -- a key that was given is not answered
     pub given-kept : Given (view s) k → x ≢ T.key k
-    given-kept G z = insert-new G (subst (λ (b : Call). Steps (view s) b x w) (key-inserts D z .2) D) z
+    given-kept G z = insert-new G (rw (key-inserts D z .2) at D) z
 
     module _ {v d m n : ℕ} where
       -- what is handed out was pending under its key

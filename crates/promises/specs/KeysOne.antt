@@ -11,19 +11,19 @@ use borrow.Author.Tests.{eq-eqb, ne-eqb}
 use Rattle.times.specs.Times.{levelOf}
 use Rattle.times.specs.Quotients.{slot-lt}
 use Rattle.times.specs.Levels.{level-is}
-use Rattle.links.specs.Lists.{Mem, without, change, change-other}
+use Rattle.links.specs.Lists.{Mem, change, change-other}
 use Rattle.stack.specs.Places.{slots, expired, free, put}
 use Rattle.wheel.specs.Wheel.{Lists, placeFor, Polls}
-use Rattle.wheel.specs.Sums.{mem-change, mem-joined, mem-left, hits, lies-times, times-lies}
+use Rattle.wheel.specs.Sums.{mem-joined, mem-left, hits, lies-times, times-lies}
 use Rattle.wheel.specs.Drain.{amount}
 use Rattle.wheel.specs.Between.{rule-between}
 use Rattle.wheel.specs.Poll.{Promise, poll-law}
 use Rattle.queue.specs.Told.{Told}
 use Rattle.records.specs.View.{View, withElapsed, withLists, withTurn, withValue, upd}
 use Rattle.records.specs.Records.{lastTurn, At, taken, left, target, placed, freed}
+use Rattle.queue.specs.PollLaws.{left-less}
 use Rattle.queue.specs.Steps.{QueuePolls, popped, handed, nothing, Clears, begun, kept, gave}
 use Rattle.records.specs.Words.{QueueWords, view, Sound, upd-same, upd-other}
-use Rattle.records.specs.Laws.{mem-without}
 use Rattle.delay_queue.specs.declared.Call.{Call}
 use Rattle.promises.specs.Step.{isNo}
 use Rattle.promises.specs.Runs.{isFormat}
@@ -40,10 +40,10 @@ onward-same v r = record { turn = omega arith; idle = λ e m. m; waits = λ e p 
 
 pub onward-then : {u v w : View} {r : ℕ} → Onward u v r → Onward v w r → Onward u w r
 onward-then {u} {v} {w} {r} A B =
-    let low : w .turn r ≡ u .turn r → w .turn r ≡ v .turn r = λ e. omega (arith, A .turn, B .turn, e) in
-    let high : w .turn r ≡ u .turn r → v .turn r ≡ u .turn r = λ e. omega (arith, A .turn, B .turn, e) in
+    let low : w .turn r ≡ u .turn r → w .turn r ≡ v .turn r = λ e. omega arith in
+    let high : w .turn r ≡ u .turn r → v .turn r ≡ u .turn r = λ e. omega arith in
     record {
-      turn = omega (arith, A .turn, B .turn);
+      turn = omega arith;
       idle = λ e m. A .idle (high e) (B .idle (low e) m);
       waits = λ e p a. ⊎-elim (λ m. inl (A .idle (high e) m)) (λ x. A .waits (high e) (x .0) (x .1)) (B .waits (low e) p a);
     }
@@ -53,10 +53,6 @@ onward-then {u} {v} {w} {r} A B =
 less-onward : (v w : View) (r : ℕ) → w .turn r ≡ v .turn r → ((q : ℕ) → Mem r (w .lists q) → Mem r (v .lists q)) → Onward v w r
 less-onward v w r t h =
     record { turn = omega arith; idle = λ z m. h free m; waits = λ z p a. inr (p, record { timed = a .timed; member = h p (a .member) }) }
-
-pub left-less : (p i : ℕ) (v : View) (q x : ℕ) → Mem x (left p i v .lists q) → Mem x (v .lists q)
-unfolding left
-left-less p i v q x m = ⊎-elim (λ a. rw (a .0) (mem-without i x (v .lists p) (a .1))) (λ a. a .1) (mem-change (v .lists) p (without i (v .lists p)) q x m)
 
 left-onward : (p i : ℕ) (v : View) (r : ℕ) → Onward v (left p i v) r
 unfolding left
@@ -84,7 +80,7 @@ freed-onward i v r =
     same : r ≡ i → Onward v (raised i v) r
     same e =
         let t : upd (v .turn) i (v .turn i + 1) r ≡ v .turn r + 1 = rw e (upd-same (v .turn) i (v .turn i + 1)) in
-        record { turn = omega (arith, t); idle = λ z m. absurd (omega (arith, t, z)); waits = λ z p a. absurd (omega (arith, t, z)) }
+        record { turn = omega arith; idle = λ z m. absurd (omega arith); waits = λ z p a. absurd (omega (arith, t)) }
 
     other : r ≢ i → Onward v (raised i v) r
     other d =
@@ -92,7 +88,7 @@ freed-onward i v r =
           turn = omega (arith, upd-other (v .turn) i (v .turn i + 1) r d);
           idle = λ z m. ⊎-elim (λ a. absurd (d (a .1))) (λ k. k) (mem-joined (v .lists) free i free r m);
           waits = λ z p a.
-              let m = rw (change-other (v .lists) free (put free i (v .lists free)) p (omega (arith, a .timed))) at (a .member) in
+              let m = rw (change-other (v .lists) free (put free i (v .lists free)) p (omega arith)) at (a .member) in
               inr (p, record { timed = a .timed; member = m });
         }
 
@@ -105,7 +101,7 @@ target-timed e w =
 placed-onward : (i when : ℕ) (v u : View) → Mem i (v .lists free) ⊎ ((q : ℕ) × At v i q) → (r : ℕ) → Onward v u r → Onward v (placed i when u) r
 unfolding placed
 placed-onward i when v u was r O =
-    let p : ℕ = target (u .elapsed) (max when (u .elapsed)) in
+    let p = target (u .elapsed) (max when (u .elapsed)) in
     let h : p < free = target-timed (u .elapsed) (max when (u .elapsed)) in
     record {
       turn = O .turn;
@@ -127,8 +123,8 @@ waits-before {L = L} {o = o} {N = N} P y p h m =
     by-cases (decLt p slots)
     (λ g.
     let r = times-lies slots L y (omega (arith, P .kept (hits y), lies-times slots N y p g m)) in
-    (r .0, omega (arith, r .1), r .2))
-    (λ g. (p, h, rw (P .aside p (omega (arith, g))) at m))
+    (r .0, omega arith, r .2))
+    (λ g. (p, h, rw (P .aside p (omega arith)) at m))
 
 wheel-onward : {v : View} {now m n e : ℕ} {o : Option ℕ} {L : Lists} → Promise (v .deadline) now (v .elapsed) (v .lists) o m n e L → (r : ℕ)
     → Onward v (withElapsed e (withLists L v)) r
@@ -142,7 +138,7 @@ wheel-onward P r =
 module _ {s : QueueWords} (S : Sound s) where
   poll-onward : {now : ℕ} {x : Told} {w : View} → view s .elapsed ≤ now → QueuePolls (view s) now x w → (r : ℕ) → Onward (view s) w r
   poll-onward h (popped {r = i} {l = l} e) r =
-      let u : View = withLists (change (view s .lists) expired l) (view s) in
+      let u = withLists (change (view s .lists) expired l) (view s) in
       onward-then (less-onward (view s) u r refl (λ q m. mem-left (view s .lists) expired i l e q r m)) (freed-onward i u r)
   poll-onward h (handed {r = i} e P) r = onward-then (wheel-onward (wheel-promise S e h P) r) (freed-onward i _ r)
   poll-onward h (nothing e P) r = wheel-onward (wheel-promise S e h P) r
@@ -159,7 +155,7 @@ pub does-onward : {s : QueueWords} → Sound s → {c : Call} {x : Told} {w : Vi
 does-onward {s} S refuses f r = onward-same (view s) r
 does-onward S formats f r = absurd (true≢false f)
 does-onward {s} S (inserts {value} {when} {r = i} {l = l} e) f r =
-    let u : View = withValue (upd (view s .value) i value) (taken l (view s)) in
+    let u = withValue (upd (view s .value) i value) (taken l (view s)) in
     placed-onward i when (view s) u (inl (rw e (inl refl))) r (less-onward (view s) u r refl (λ q m. mem-left (view s .lists) free i l e q r m))
 does-onward {s} S (resets {when = when} {r = i} {p = p} N) f r =
     placed-onward i when (view s) (left p i (view s)) (inr (p, N .pending)) r (left-onward p i (view s) r)

@@ -3,10 +3,11 @@ use mathlib.Core.Path.{_≡_, refl, sym, ap, _∙_, subst}
 use mathlib.Core.Logic.{inl}
 use mathlib.Core.Bool.{false}
 use mathlib.Core.List.{List}
+use mathlib.Core.Option.{Option, none, some}
 use Prim.Native.Nat.{ℕ, _/_, _%_, _≤_, _<_, max}
 use native.Mathlib.Omega.{arith}
 use Rattle.links.specs.Lists.{change-same}
-use Rattle.stack.specs.Places.{expired, free, put}
+use Rattle.stack.specs.Places.{free}
 use Rattle.stack.specs.Laws as stack
 use Rattle.wheel.specs.Sums.{put-mem}
 use Rattle.queue.specs.declared.Answer.{Answer}
@@ -14,15 +15,16 @@ use Rattle.queue.specs.Told.{Told, told}
 use Rattle.queue.specs.Told as T
 use Rattle.records.specs.View.{View, withValue, upd}
 use Rattle.records.specs.Records.{keyOf, At, Names, taken, left, target, placed}
-use Rattle.queue.specs.Steps.{QueuePolls, popped, handed, nothing}
+use Rattle.queue.specs.CallLaws.{names-one}
+use Rattle.queue.specs.Steps.{QueuePolls}
 use Rattle.records.specs.Words.{QueueWords, elapsed, view, Sound, upd-same}
 use Rattle.delay_queue.specs.declared.Call.the-variants as C
 use Rattle.delay_queue.specs.Claims.{CallClaim}
 use Rattle.promises.specs.Step.{step-sound}
 use Rattle.promises.specs.Runs.{Asked, Runs, rest, next, run-sound, accepted, All}
 use Rattle.promises.specs.Steps.{Steps, refuses, inserts, resets, polls, call-steps}
-use Rattle.promises.specs.KeysOne.{target-timed, wheel-promise}
-use Rattle.promises.specs.KeysGone.{key-number, key-turn, one-list, key-names}
+use Rattle.promises.specs.KeysOne.{target-timed}
+use Rattle.promises.specs.Polling.{key-of-names, saysOf, Fairly, Polled, poll-works, none-out}
 use Rattle.promises.specs.KeysStay.{Aims, Out, Stays, does-stays}
 
 -- ---- what is said
@@ -46,8 +48,8 @@ placed-reaches : (u : View) (i when : ℕ) {k : ℕ} → i ≡ k % 65536 → i <
     → Reaches (placed i when u) k (u .value i) (max when (u .elapsed))
 unfolding placed
 placed-reaches u i when number below turn =
-    let w : ℕ = max when (u .elapsed) in
-    let p : ℕ = target (u .elapsed) w in
+    let w = max when (u .elapsed) in
+    let p = target (u .elapsed) w in
     record {
       number = i;
       place = p;
@@ -68,57 +70,50 @@ module _ {s : QueueWords} (S : Sound s) where
   insert-does {value} {when} (inserts {r = i} {l = l} e) {k} z =
       let h = stack.member-below (S .whole .stack) free i (rw e (inl refl)) in
       let q : k ≡ keyOf (view s) i = cc in
-      let u : View = withValue (upd (view s .value) i value) (taken l (view s)) in
-      let number : i ≡ k % 65536 = rw q (key-number (view s .turn i) i (omega (arith, h, S .few))) in
-      let turn : view s .turn i ≡ k / 65536 = rw q (key-turn (view s .turn i) i (omega (arith, h, S .few))) in
-      subst (λ (x : ℕ). Reaches (placed i when u) k x (max when (elapsed s))) (upd-same (view s .value) i value) (placed-reaches u i when number h turn)
+      let u = withValue (upd (view s .value) i value) (taken l (view s)) in
+      let number : i ≡ k % 65536 = omega arith in
+      let turn : view s .turn i ≡ k / 65536 = omega arith in
+      subst (λ x. Reaches (placed i when u) k x (max when (elapsed s))) (upd-same (view s .value) i value) (placed-reaches u i when number h turn)
 
   reset-does : {k when : ℕ} {x : Told} {w : View} → Steps (view s) (C.Reset k when) x w → x ≡ T.ok → {y d : ℕ} → Reaches (view s) k y d
       → Reaches w k y (max when (elapsed s))
   unfolding left
   reset-does refuses z R = let y : _≡_ {A = ℕ} 0 1 = cc in absurd (omega arith)
   reset-does {k} {when} (resets {r = i} {p = p} N) z {y} R =
-      let e : view s .value i ≡ y = ap (view s .value) (N .number ∙ sym (R .names .number)) ∙ R .value in
-      subst (λ (x : ℕ). Reaches (placed i when (left p i (view s))) k x (max when (elapsed s))) e
+      let e : view s .value i ≡ y = cc in
+      subst (λ x. Reaches (placed i when (left p i (view s))) k x (max when (elapsed s))) e
       (placed-reaches (left p i (view s)) i when (N .number) (N .below) (N .turn))
 
   -- what is handed out under the key is the record that the key names
-  told-of : {k y d i p v e : ℕ} (R : Reaches (view s) k y d) → At (view s) i p → k ≡ keyOf (view s) i → v ≡ view s .value i → e ≡ view s .deadline i
-      → (v ≡ y) × (e ≡ d)
-  told-of {k} {i = i} R a q g c =
-      let j : i ≡ R .number = (rw (← q) at (key-names S a .number)) ∙ sym (R .names .number) in
-      (g ∙ ap (view s .value) j ∙ R .value, c ∙ ap (view s .deadline) j ∙ R .deadline)
-
-  poll-tells : {now : ℕ} {x : Told} {w : View} → view s .elapsed ≤ now → QueuePolls (view s) now x w → {k y d v e m n : ℕ} → Reaches (view s) k y d
+  pub poll-tells : {now : ℕ} {x : Told} {w : View} → view s .elapsed ≤ now → QueuePolls (view s) now x w → {k y d v e m n : ℕ} → Reaches (view s) k y d
       → x ≡ T.out k v e m n → (v ≡ y) × (e ≡ d)
-  poll-tells h (popped {r = i} e) {k} {v = v} {e = f} R z =
-      let a : At (view s) i expired = record { timed = omega arith; member = rw e (inl refl) } in
-      let q : k ≡ keyOf (view s) i = cc in
-      let g : v ≡ view s .value i = cc in
-      let c : f ≡ view s .deadline i = cc in
-      told-of R a q g c
-  poll-tells h (handed {r = i} e P) {k} {v = v} {e = f} R z =
-      let w = wheel-promise S e h P .fair .0 in
-      let a : At (view s) i (w .0) = record { timed = omega (arith, w .1); member = w .2 } in
-      let q : k ≡ keyOf (view s) i = cc in
-      let g : v ≡ view s .value i = cc in
-      let c : f ≡ view s .deadline i = cc in
-      told-of R a q g c
-  poll-tells h (nothing e P) R z = let y : _≡_ {A = ℕ} 0 1 = cc in absurd (omega arith)
+  poll-tells {now} {x} {w} h Q {k} {y} {d} {v} {e} R z = by (P .got) (P .is) (P .fair)
+    where
+      P : Polled (view s) now x w
+      P = poll-works (view s) (S .rule) h Q
+
+      by : (o : Option ℕ) → x ≡ saysOf (view s) o (P .moves) (P .drains) → Fairly (view s) now o → (v ≡ y) × (e ≡ d)
+      by none is f = absurd (none-out (sym is ∙ z))
+      by (some i) is f =
+          let q : k ≡ keyOf (view s) i = cc in
+          let a : v ≡ view s .value i = cc in
+          let b : e ≡ view s .deadline i = cc in
+          let j : i ≡ R .number = (rw (← q) at (key-of-names S (f .0 .1) .number)) ∙ sym (R .names .number) in
+          (a ∙ ap (view s .value) j ∙ R .value, b ∙ ap (view s .deadline) j ∙ R .deadline)
 
   out-does : {now : ℕ} {x : Told} {w : View} → Steps (view s) (C.Poll now) x w → {k y d v e m n : ℕ} → Reaches (view s) k y d → x ≡ T.out k v e m n
       → (v ≡ y) × (e ≡ d)
   out-does refuses R z = let y : _≡_ {A = ℕ} 0 1 = cc in absurd (omega arith)
   out-does (polls h Q) R z = poll-tells h Q R z
 
-stays-reaches : {v w : View} {k x d : ℕ} (R : Reaches v k x d) → Stays v w (R .number) → Reaches w k x d
+pub stays-reaches : {v w : View} {k x d : ℕ} (R : Reaches v k x d) → Stays v w (R .number) → Reaches w k x d
 stays-reaches {v} {w} {k} R Y =
     let N = R .names in
     let b = Y .waits (R .place) (N .pending) in
     record {
       number = R .number;
       place = b .0;
-      names = record { number = N .number; below = omega (arith, N .below, Y .n); pending = b .1; turn = Y .turn ∙ N .turn };
+      names = record { number = N .number; below = omega arith; pending = b .1; turn = Y .turn ∙ N .turn };
       value = Y .value ∙ R .value;
       deadline = Y .deadline ∙ R .deadline;
     }
@@ -128,14 +123,12 @@ stays-reaches {v} {w} {k} R Y =
 module _ {s : QueueWords} (S : Sound s) where
   -- a key names one record only, in one place
   pub key-one : {k r p q o : ℕ} → Names (view s) k r p → Names (view s) k q o → (r ≡ q) × (p ≡ o)
-  key-one {k} {r} {p} {q} {o} N M =
-      let e : r ≡ q = N .number ∙ sym (M .number) in
-      (e, one-list S q p o (rw e at (N .pending .member)) (M .pending .member))
+  key-one N M = names-one S N M
 
   -- two pending records have different keys
   pub keys-apart : {r p q o : ℕ} → At (view s) r p → At (view s) q o → keyOf (view s) r ≡ keyOf (view s) q → r ≡ q
   keys-apart {r} {p} {q} {o} a b e =
-      omega (arith, e, S .few, stack.member-below (S .whole .stack) p r (a .member), stack.member-below (S .whole .stack) o q (b .member))
+      omega (arith, stack.member-below (S .whole .stack) p r (a .member), stack.member-below (S .whole .stack) o q (b .member))
 
   -- the key that an insert answers reaches what was inserted: "Insert and reset first raise the deadline to elapsed if it is smaller"
   pub insert-reaches : {t : QueueWords} {value when k : ℕ} {a : Answer} → CallClaim (C.Insert value when) s a t → told a ≡ T.key k

@@ -4,7 +4,7 @@ use mathlib.Core.Logic.{_≢_, inl, inr, ⊎-elim, by-cases}
 use mathlib.Core.Bool.{false, not, true≢false}
 use mathlib.Core.List.{List, [], _∷_}
 use mathlib.Core.Option.{Option}
-use Prim.Native.Nat.{ℕ, _+_, _≤_, _<_, max}
+use Prim.Native.Nat.{ℕ, _≤_, _<_, max}
 use native.Mathlib.Decide.{ℕ-discrete}
 use native.Mathlib.Omega.{arith}
 use borrow.Author.Tests.{eq-eqb, ne-eqb}
@@ -17,15 +17,15 @@ use Rattle.wheel.specs.Poll.{Promise, given}
 use Rattle.queue.specs.Told.{Told}
 use Rattle.queue.specs.Told as T
 use Rattle.records.specs.View.{View, withElapsed, withLists, withValue, upd}
-use Rattle.records.specs.Records.{lastTurn, keyOf, At, Names, taken, left, target, placed, freed}
+use Rattle.records.specs.Records.{keyOf, At, Names, taken, left, target, placed, freed}
 use Rattle.queue.specs.Steps.{QueuePolls, popped, handed, nothing}
 use Rattle.records.specs.Words.{QueueWords, elapsed, view, Sound, upd-other}
 use Rattle.delay_queue.specs.declared.Call.{Call}
 use Rattle.delay_queue.specs.declared.Call.the-variants as C
 use Rattle.promises.specs.Step.{isNo}
 use Rattle.promises.specs.Steps.{Steps, refuses, formats, inserts, resets, removes, polls, wakes, counts, clears}
-use Rattle.promises.specs.KeysOne.{freed-last, freed-more, wheel-promise}
-use Rattle.promises.specs.KeysGone.{one-list}
+use Rattle.promises.specs.KeysOne.{wheel-promise}
+use Rattle.promises.specs.Polling.{one-list, freed-beside}
 
 -- the call is a reset or a remove of k, or one that takes every timer, as format and clear do
 abbrev pub Aims : ℕ → Call → Type 0
@@ -44,7 +44,7 @@ Out k x = (value : ℕ) × (deadline : ℕ) × (moves : ℕ) × (drains : ℕ) �
 
 -- a key is its record's number and turn
 pub key-is : {v : View} {k r p : ℕ} → Names v k r p → k ≡ keyOf v r
-key-is {v} {k} N = omega (arith, N .number, N .turn)
+key-is {v} {k} N = omega arith
 
 -- ---- a record that is not the one that moves
 
@@ -72,7 +72,7 @@ stays-then A B =
 mem-kept : (L : Lists) (p : ℕ) (l : List ℕ) (q x : ℕ) → (Mem x (L p) → Mem x l) → Mem x (L q) → Mem x (change L p l q)
 mem-kept L p l q x h m =
     by-cases (ℕ-discrete q p)
-    (λ (e : q ≡ p). rw (e, change-same) (h (rw e at m)))
+    (λ e. rw (e, change-same) (h (rw e at m)))
     (λ d. rw (change-other L p l q d) m)
 
 -- one list changes, and r stays in it
@@ -90,7 +90,7 @@ mem-other : (i x : ℕ) (l : List ℕ) → x ≢ i → Mem x l → Mem x (withou
 mem-other i x [] d m = m
 mem-other i x (y ∷ l) d m =
     by-cases (ℕ-discrete y i)
-    (λ (e : y ≡ i). rw (eq-eqb y i e) (⊎-elim (λ z. absurd (d (z ∙ e))) (λ k. k) m))
+    (λ e. rw (eq-eqb y i e) (⊎-elim (λ z. absurd (d (z ∙ e))) (λ k. k) m))
     (λ n. rw (ne-eqb y i n) (⊎-elim (λ z. inl z) (λ k. inr (mem-other i x l d k)) m))
 
 stays-left : (p i : ℕ) (v : View) (r : ℕ) → r ≢ i → Stays v (left p i v) r
@@ -99,26 +99,20 @@ stays-left p i v r d = stays-lists v p (without i (v .lists p)) r (mem-other i r
 
 stays-freed : (i : ℕ) (v : View) (r : ℕ) → r ≢ i → Stays v (freed i v) r
 stays-freed i v r d =
-    by-cases (ℕ-discrete (v .turn i) lastTurn)
-    (λ z. rw (freed-last i v z) (stays-same v r))
-    (λ z.
-    rw (freed-more i v z)
-    (record {
-      n = refl;
-      turn = upd-other (v .turn) i (v .turn i + 1) r d;
-      value = refl;
-      deadline = refl;
-      waits = λ q a. (
-        q,
-        record { timed = a .timed; member = mem-kept (v .lists) free _ q r (λ m. put-mem free i r (v .lists free) (inr m)) (a .member) },
-      );
-    }))
+    let B = freed-beside i v in
+    record {
+      n = B .size;
+      turn = B .turn r d;
+      value = rw (B .value);
+      deadline = rw (B .deadline);
+      waits = λ q a. (q, record { timed = a .timed; member = rw (B .lists q (a .timed)) (a .member) });
+    }
 
 stays-placed : (i when : ℕ) (v : View) (r : ℕ) → r ≢ i → Stays v (placed i when v) r
 unfolding placed
 stays-placed i when v r d =
-    let w : ℕ = max when (v .elapsed) in
-    let p : ℕ = target (v .elapsed) w in
+    let w = max when (v .elapsed) in
+    let p = target (v .elapsed) w in
     record {
       n = refl;
       turn = refl;
@@ -152,11 +146,11 @@ stays-wheel {v} {L = L} x P r z =
       deadline = refl;
       waits = λ p a.
           by-cases (ℕ-discrete p expired)
-          (λ (e : p ≡ expired). absurd (rw (e, x) at (a .member)))
+          (λ e. absurd (rw (e, x) at (a .member)))
           (λ d.
-          let h : p < slots = omega (arith, d, a .timed) in
-          let b = times-lies slots L r (omega (arith, P .kept (hits r), z, lies-times slots (v .lists) r p h (a .member))) in
-          (b .0, record { timed = omega (arith, b .1); member = b .2 }));
+          let h : p < slots = omega arith in
+          let b = times-lies slots L r (omega (arith, P .kept (hits r), lies-times slots (v .lists) r p h (a .member))) in
+          (b .0, record { timed = omega arith; member = b .2 }));
     }
 
 -- ---- one call
@@ -164,10 +158,10 @@ stays-wheel {v} {L = L} x P r z =
 module _ {s : QueueWords} (S : Sound s) {k r p : ℕ} (N : Names (view s) k r p) where
   -- another key names another record
   other-record : {key i q : ℕ} → Names (view s) key i q → key ≢ k → r ≢ i
-  other-record {key} {i} M d e = d (omega (arith, N .number, M .number, N .turn, M .turn, e, ap (view s .turn) e))
+  other-record {key} {i} M d e = d (omega (arith, ap (view s .turn) e))
 
   not-handed : (i : ℕ) {x y m n : ℕ} → (Out k (T.out (keyOf (view s) i) x y m n) → ⊥) → r ≢ i
-  not-handed i {x} {y} {m} {n} out e = out (x, y, m, n, ap (λ (j : ℕ). T.out j x y m n) (ap (keyOf (view s)) (sym e) ∙ sym (key-is N)))
+  not-handed i {x} {y} {m} {n} out e = out (x, y, m, n, ap (λ j. T.out j x y m n) (ap (keyOf (view s)) (sym e) ∙ sym (key-is N)))
 
   poll-stays : {now : ℕ} {x : Told} {w : View} → view s .elapsed ≤ now → QueuePolls (view s) now x w → (Out k x → ⊥)
       → Stays (view s) w r
@@ -188,7 +182,7 @@ module _ {s : QueueWords} (S : Sound s) {k r p : ℕ} (N : Names (view s) k r p)
   does-stays refuses aims out = stays-same (view s) r
   does-stays formats aims out = absurd (true≢false (aims tt))
   does-stays (inserts {value} {when} {r = i} {l = l} e) aims out =
-      let d : r ≢ i = λ (z : r ≡ i). omega (arith, N .pending .timed, one-list S i p free (rw z at (N .pending .member)) (rw e (inl refl))) in
+      let d : r ≢ i = λ z. omega (arith, one-list S i p free (rw z at (N .pending .member)) (rw e (inl refl))) in
       stays-then (stays-taken (view s) value e r d) (stays-placed i when _ r d)
   does-stays (resets {when = when} {r = i} {p = q} M) aims out =
       let d : r ≢ i = other-record M (λ z. true≢false (aims z)) in

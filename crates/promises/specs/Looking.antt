@@ -1,9 +1,9 @@
 -- Next wake and length: what they answer, in deadlines and in timers.
 use mathlib.Core.Path.{_≡_, refl, sym, ap, _∙_}
-use mathlib.Core.Logic.{_⊎_, inl, inr, by-cases}
+use mathlib.Core.Logic.{by-cases}
 use mathlib.Core.Bool.{Bool, true}
 use mathlib.Core.List.{[]}
-use mathlib.Core.Option.{Option, none, some, Option·some-ne-none}
+use mathlib.Core.Option.{Option, none, Option·some-ne-none}
 use Prim.Native.Nat.{ℕ, _/_, _≤_, _<_}
 use native.Mathlib.Nat.{le-trans}
 use native.Mathlib.Decide.{ℕ-discrete}
@@ -53,10 +53,10 @@ pub record WakesAt (v : View) (w : ℕ) : Type 0 where
 first-wakes : {v : View} → Between (v .deadline) (v .elapsed) (v .lists) → {k s : ℕ} → FirstSlot (v .elapsed) (v .lists) k s
     → WakesAt v (startAt (v .elapsed) k s)
 first-wakes {v} B {k} {s} F =
-    let here : ℕ = slotPlace k s in
+    let here = slotPlace k s in
     let level : here / 64 ≡ k = place-level k s (slot-below B F) in
     let is : (x : ℕ) → Mem x (v .lists here) → startAt (v .elapsed) k s ≡ floor (here / 64) (v .deadline x)
-    = λ x m. start-is B F x m ∙ ap (λ (j : ℕ). floor j (v .deadline x)) (sym level) in
+    = λ x m. start-is B F x m ∙ ap (λ j. floor j (v .deadline x)) (sym level) in
     let h = F .head in
     record {
       not-past = start-late B F;
@@ -65,14 +65,14 @@ first-wakes {v} B {k} {s} F =
       place = here;
       waits = record { slot = here-below B F; member = first-in B F };
       rounded = is h (first-in B F);
-      exact = λ l. start-is B F h (first-in B F) ∙ ap (λ (j : ℕ). floor j (v .deadline h)) (zero-level l level) ∙ floor-zero (v .deadline h);
+      exact = λ l. start-is B F h (first-in B F) ∙ ap (λ j. floor j (v .deadline h)) (zero-level l level) ∙ floor-zero (v .deadline h);
       least = λ x p o f.
           by-cases (ℕ-discrete p here)
-          (λ (e : p ≡ here). rw e (is x (rw e at (o .member))))
+          (λ e. rw e (is x (rw e at (o .member))))
           (λ d.
           let a : v .deadline x ≤ v .deadline h = f h here (record { slot = here-below B F; member = first-in B F }) in
           let b = next-before B F p x (o .slot) (o .member) h (first-in B F) d in
-          absurd (omega (arith, a, b, floor-le (p / 64) (v .deadline x))));
+          absurd (omega (arith, floor-le (p / 64) (v .deadline x))));
     }
   where
     zero-level : {p k : ℕ} → p < 64 → p / 64 ≡ k → k ≡ 0
@@ -99,14 +99,6 @@ module _ {s : QueueWords} {a : Answer} (W : WakeClaim s a) (S : Sound s) where
   -- ".. else the start of the first slot as above"
   pub wake-in-time : {w : ℕ} → told a ≡ T.wake w → WakesAt (view s) w
   wake-in-time e = wakes-at (rule-between (S .rule)) (W .good S .done) e
-
-  -- one of the two
-  pub wake-answers : (told a ≡ T.never) ⊎ ((w : ℕ) × (told a ≡ T.wake w))
-  wake-answers = by (W .good S .done)
-    where
-      by : {x : Told} → Wakes (view s) x → (x ≡ T.never) ⊎ ((w : ℕ) × (x ≡ T.wake w))
-      by (sleeps E) = inl refl
-      by (starts F) = inr (_, refl)
 
 -- ---- a poll before the wake
 
@@ -154,8 +146,8 @@ isPending s i = ltb (markOf s i) free
 pub pending-exactly : {s : QueueWords} → Sound s → (i : ℕ) → i < count s
     → (isPending s i ≡ true → (p : ℕ) × At (view s) i p) × ((p : ℕ) → At (view s) i p → isPending s i ≡ true)
 pending-exactly {s} S i h = (
-  λ e. let l = ltb-true (markOf s i) free e in (markOf s i, record { timed = l; member = stack.marked-member (S .whole .stack) i h (omega (arith, l)) }),
-  λ p a. lt-ltb (markOf s i) free (omega (arith, mark-at S a, a .timed)),
+  λ e. let l = ltb-true (markOf s i) free e in (markOf s i, record { timed = l; member = stack.marked-member (S .whole .stack) i h (omega arith) }),
+  λ p a. lt-ltb (markOf s i) free (omega (arith, mark-at S a)),
 )
 
 -- "`len n`": n is how many of the records 0, .., N - 1 are pending

@@ -78,11 +78,11 @@ deadline-met e w =
     by-cases (decLt maxDuration (w - e))
     (λ k. (4, no-far e w h (sym (lt-ltb maxDuration (w - e) k))))
     (λ k.
-    let f = sym (le-ltb maxDuration (w - e) (omega (arith, k))) in
+    let f = sym (le-ltb maxDuration (w - e) (omega arith)) in
     by-cases (ℕ-discrete (block w) (block e))
     (λ b. (0, no-near e w h f (sym (eq-eqb (block w) (block e) b))))
     (λ b. (5, no-other e w h f (sym (ne-eqb (block w) (block e) b))))))
-    (λ h. (0, no-past e w (omega (arith, h))))
+    (λ h. (0, no-past e w (omega arith)))
 
 -- an entry comes into the slot of its deadline
 add-met : {t : WheelWords} {k i : ℕ} → CanAdd t k i → (w : ℕ) → (u : WheelWords) × Becomes t (arrive k w i (listsIn t)) u
@@ -101,7 +101,7 @@ leave-met {t} {i} C =
     by-cases (ℕ-discrete (headIn (remove (t .stack) i) (markIn t i)) nobody)
     (λ z. (_, leaves-last C refl h z refl))
     (λ z. (_, leaves-more C refl z)))
-    (λ h. (_, leaves-aside C refl (omega (arith, h))))
+    (λ h. (_, leaves-aside C refl (omega arith)))
 
 free-met : {t : WheelWords} {ts : List ℕ} {i : ℕ} → CanFree t ts i → (u : WheelWords) × (ts′ : List ℕ) × LeavesTo t ts i u ts′
 free-met {t} {ts} {i} C =
@@ -173,10 +173,10 @@ first-of f zero = inl (λ i h. absurd (omega arith))
 first-of f (suc n) = ⊎-elim (λ e. by e (f n) refl) (λ F. inr (more F)) (first-of f n)
   where
     more : FirstOf f n → FirstOf f (suc n)
-    more F = record { index = F .index; within = omega (arith, F .within); before = F .before; head = F .head; rest = F .rest; filled = F .filled }
+    more F = record { index = F .index; within = omega arith; before = F .before; head = F .head; rest = F .rest; filled = F .filled }
 
     by : ((i : ℕ) → i < n → f i ≡ []) → (l : List ℕ) → f n ≡ l → ((i : ℕ) → i < suc n → f i ≡ []) ⊎ FirstOf f (suc n)
-    by e [] q = inl (λ i h. by-cases (ℕ-discrete i n) (λ (z : i ≡ n). rw z q) (λ z. e i (omega (arith, h, z))))
+    by e [] q = inl (λ i h. by-cases (ℕ-discrete i n) (λ z. rw z q) (λ z. e i (omega arith)))
     by e (x ∷ l) q = inr (record { index = n; within = omega arith; before = e; head = x; rest = l; filled = q })
 
 module _ (e : ℕ) (L : Lists) where
@@ -195,38 +195,37 @@ module _ (e : ℕ) (L : Lists) where
   turnOf : ℕ → ℕ
   turnOf q = (q % 64 + 64 - slotOf e (q / 64)) % 64
 
-  look-slot : (q : ℕ) → look (64 * (q / 64) + turnOf q) ≡ L q
-  unfolding turnOf
-  look-slot q =
-      let h = slot-lt e (q / 64) in
-      let z : slotPlace (q / 64) ((slotOf e (q / 64) + (q % 64 + 64 - slotOf e (q / 64)) % 64) % 64) ≡ q = omega (arith, h) in
-      look-at (q / 64) ((q % 64 + 64 - slotOf e (q / 64)) % 64) (omega arith) ∙ ap L z
-
   turn-lt : (q : ℕ) → turnOf q < 64
   unfolding turnOf
   turn-lt q = omega arith
 
+  look-slot : (q : ℕ) → look (64 * (q / 64) + turnOf q) ≡ L q
+  unfolding turnOf
+  look-slot q =
+      let z : slotPlace (q / 64) ((slotOf e (q / 64) + turnOf q) % 64) ≡ q = omega (arith, slot-lt e (q / 64)) in
+      look-at (q / 64) (turnOf q) (turn-lt q) ∙ ap L z
+
   next-met : EmptyWheel L ⊎ ((k : ℕ) × (s : ℕ) × FirstSlot e L k s)
   next-met =
       ⊎-elim
-      (λ E. inl (λ q h. sym (look-slot q) ∙ E (64 * (q / 64) + turnOf q) (omega (arith, h, turn-lt q))))
+      (λ E. inl (λ q h. sym (look-slot q) ∙ E (64 * (q / 64) + turnOf q) (omega (arith, turn-lt q))))
       (λ F. inr (found F))
       (first-of look slots)
     where
       found : FirstOf look slots → (k : ℕ) × (s : ℕ) × FirstSlot e L k s
       found F =
-          let k : ℕ = F .index / 64 in
-          let j : ℕ = F .index % 64 in
+          let k = F .index / 64 in
+          let j = F .index % 64 in
           let z : 64 * k + j ≡ F .index = omega arith in (
             k,
             (slotOf e k + j) % 64,
             record {
-              within = omega (arith, F .within);
-              lowest = λ q h. sym (look-slot q) ∙ F .before (64 * (q / 64) + turnOf q) (omega (arith, h, turn-lt q));
+              within = omega arith;
+              lowest = λ q h. sym (look-slot q) ∙ F .before (64 * (q / 64) + turnOf q) (omega (arith, turn-lt q));
               steps = j;
               near = omega arith;
               is = refl;
-              before = λ i h. sym (look-at k i (omega (arith, h))) ∙ F .before (64 * k + i) (omega (arith, h));
+              before = λ i h. sym (look-at k i (omega arith)) ∙ F .before (64 * k + i) (omega (arith, h));
               head = F .head;
               rest = F .rest;
               filled = sym (look-at k j (omega arith)) ∙ ap look z ∙ F .filled;
@@ -257,16 +256,16 @@ clear-one {s} S {i} h =
     let L = leave-met (clear-leaves S h g) in
     let F = free-met (clear-frees S h g (L .1)) in
     (_, clear-goes S h g (L .1) (F .2)))
-    (λ g. (s, clear-stays S h (omega (arith, g))))
+    (λ g. (s, clear-stays S h (omega arith)))
 
 pub clear-first : {s : QueueWords} → Sound s → (k : ℕ) → k ≤ count s → (t : QueueWords) × ClearedSo s k t
 clear-first {s} S zero h = (s, clear-none S)
 clear-first {s} S (suc k) h =
     let m = clear-first S k (omega arith) in
     let C = m .1 in
-    let g : k < count (m .0) = omega (arith, C .kept .links .size) in
+    let g : k < count (m .0) = omega arith in
     let o = clear-one (C .sound) g in
-    (o .0, subst (λ (i : ℕ). ClearedSo s i (o .0)) (add-one k) (clear-turn C g (o .1)))
+    (o .0, subst (λ i. ClearedSo s i (o .0)) (add-one k) (clear-turn C g (o .1)))
 
 pub clear-met : (s : QueueWords) → Met (ClearClaim s)
 clear-met s = judging-met s (λ S. let m = clear-first S (count s) (omega arith) in (A.Done, _, clear-done (m .1) refl))
@@ -276,7 +275,7 @@ clear-met s = judging-met s (λ S. let m = clear-first S (count s) (omega arith)
 -- the head of a slot leaves it
 pop-met : {t : WheelWords} {k s : ℕ} → CanPop t k s → (item : ℕ) × (u : WheelWords) × Pops t (slotPlace k s) item u
 pop-met {t} {k} {s} C =
-    let p : ℕ = slotPlace k s in
+    let p = slotPlace k s in
     by-cases (ℕ-discrete (headAt t p) nobody)
     (λ z. (headAt t p, _, popped-none (C .whole) p (headAt t p) refl refl z))
     (λ d.
@@ -300,7 +299,7 @@ module _ {t₀ : WheelWords} {ds : List ℕ} {k s : ℕ} (C : CanMove t₀ ds k 
       let M = move-met (turn-can C S) in
       by-cases (ℕ-discrete (M .0) nobody)
       (λ z. (moves, M .1, turn-done C S (M .2) z))
-      (λ d. let r = turn-more C S (M .2) d in drain-loop fuel (r .0) (omega (arith, h, r .1)))
+      (λ d. let r = turn-more C S (M .2) d in drain-loop fuel (r .0) (omega arith))
 
   drain-met : (m : ℕ) × (u : WheelWords) × DrainsTo (at ds) t₀ (k - 1) (slotPlace k s) m u
   drain-met = drain-loop (suc (length (listsIn t₀ (slotPlace k s)))) (turn-start C) (omega arith)
@@ -319,11 +318,11 @@ module _ {t₀ : WheelWords} {ds : List ℕ} {now : ℕ} (C : CanPoll t₀ ds no
       ⊎-elim
       (λ E. inl (nobody, moves, drains, _, poll-idle C S E))
       (λ F.
-      let c : ℕ = startAt (t .elapsed) (F .0) (F .1) in
+      let c = startAt (t .elapsed) (F .0) (F .1) in
       by-cases (decLt now c)
       (λ l. inl (nobody, moves, drains, _, poll-early C S (F .2) c refl l))
       (λ l.
-      let due : c ≤ now = omega (arith, l) in
+      let due : c ≤ now = omega arith in
       by-cases (ℕ-discrete (F .0) 0)
       (λ z. let Q = pop-met (pop-can C S (F .2) c refl) in inl (Q .0, moves, drains, Q .1, poll-out C S (F .2) c refl z due (Q .0) (Q .2)))
       (λ z.
@@ -335,7 +334,7 @@ module _ {t₀ : WheelWords} {ds : List ℕ} {now : ℕ} (C : CanPoll t₀ ds no
   poll-loop : (fuel : ℕ) (t : WheelWords) (moves drains : ℕ) → PolledSo (at ds) now t₀ moves drains t → heights (listsIn t) < fuel → Ended
   poll-loop zero t moves drains S h = absurd (omega arith)
   poll-loop (suc fuel) t moves drains S h =
-      ⊎-elim (λ E. E) (λ (G : Again t). poll-loop fuel (G .0) (G .1) (G .2) (G .3) (omega (arith, h, G .4))) (poll-look S)
+      ⊎-elim (λ E. E) (λ G. poll-loop fuel (G .0) (G .1) (G .2) (G .3) (omega arith)) (poll-look S)
 
   wheel-met : Ended
   wheel-met = poll-loop (suc (heights (listsIn t₀))) t₀ 0 0 (poll-start C) (omega arith)
@@ -349,8 +348,8 @@ poll-on {s} S time =
     by-cases (decLt time (elapsed s))
     (λ h. (A.No 7, s, poll-back S time h))
     (λ h.
-    let g : elapsed s ≤ time = omega (arith, h) in
-    let item : ℕ = headAt (s .wheel) expired in
+    let g : elapsed s ≤ time = omega arith in
+    let item = headAt (s .wheel) expired in
     let Q = pops-aside (S .whole) expired item refl refl (omega arith) in
     by-cases (ℕ-discrete item nobody)
     (λ z.

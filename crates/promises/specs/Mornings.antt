@@ -2,7 +2,7 @@
 use mathlib.Core.Path.{_≡_, refl, sym, ap, _∙_}
 use mathlib.Core.Logic.{_≢_, by-cases}
 use mathlib.Core.List.{List, [], _∷_, nil≢cons}
-use mathlib.Core.Option.{none, some, Option·some-ne-none}
+use mathlib.Core.Option.{none, Option·some-ne-none}
 use Prim.Native.Nat.{ℕ, _+_, _-_, _%_, _≤_, _<_, max}
 use native.Mathlib.Decide.{ℕ-discrete}
 use native.Mathlib.Omega.{arith}
@@ -79,12 +79,12 @@ same-so R = (R .told, R .same)
 
 four-at : Holds (refused 0 68719476736 4)
 four-at s t a S e =
-    let f : TooFar (elapsed s) 68719476736 = (omega (arith, e), omega (arith, e)) in
+    let f : TooFar (elapsed s) 68719476736 = (omega arith, omega (arith, e)) in
     (λ value r l g I. same-so (I .good S .far r l g f), λ key r p N I. same-so (I .good S .far r p N f))
 
 five-at : Holds (refused 1 68719476736 5)
 five-at s t a S e =
-    let f : OtherBlock (elapsed s) 68719476736 = (omega (arith, e), omega (arith, e), rw e (λ z. omega (arith, z))) in
+    let f : OtherBlock (elapsed s) 68719476736 = (omega arith, omega (arith, e), rw e (λ z. omega arith)) in
     (λ value r l g I. same-so (I .good S .other r l g f), λ key r p N I. same-so (I .good S .other r p N f))
 
 -- ---- one timer on the wheel
@@ -114,7 +114,7 @@ only-put : (L : Lists) (p x : ℕ) → p < slots → ((q : ℕ) → q < slots �
 unfolding put
 only-put L p x hp E =
     record {
-      here = change-same L p (put p x (L p)) ∙ ap (λ (l : List ℕ). put p x l) (E p hp);
+      here = change-same L p (put p x (L p)) ∙ ap (λ l. put p x l) (E p hp);
       else = λ q h d. change-other L p (put p x (L p)) q d ∙ E q h;
     }
 
@@ -124,9 +124,9 @@ only-drained : {L : Lists} {p x : ℕ} (d : ℕ → ℕ) (k q : ℕ) → p < slo
 unfolding arrive
 only-drained {L} {p} {x} d k q hp hq n e O =
     let rest : (r : ℕ) → r < slots → change L p [] r ≡ []
-    = λ r h. by-cases (ℕ-discrete r p) (λ (z : r ≡ p). rw (z, change-same L p [])) (λ z. change-other L p [] r z ∙ O .else r h z) in
-    let M : Lists = arrive k (d x) x (change L p []) in
-    let A : Only M q x = rw (← e) (only-put (change L p []) (slotPlace k (slotOf (d x) k)) x (omega (arith, e)) rest) in
+    = λ r h. by-cases (ℕ-discrete r p) (λ z. rw (z, change-same L p [])) (λ z. change-other L p [] r z ∙ O .else r h z) in
+    let M = arrive k (d x) x (change L p []) in
+    let A : Only M q x = rw (← e) (only-put (change L p []) (slotPlace k (slotOf (d x) k)) x (omega arith) rest) in
     (M, moved (O .here) (drained (A .else p hp n)), A)
 
 -- ---- "4101 inserted at 0 wakes at 4096; poll(4096) gives none, 2 moves, 2 drains"
@@ -140,8 +140,8 @@ first-then O = only-first 0 2 1 (omega arith) (omega arith) (omega arith) O
 one-polls : {L : Lists} {x : ℕ} (d : ℕ → ℕ) → d x ≡ 4101 → Only L 129 x → (M : Lists) × Polls d 4096 0 L none 2 2 4096 M × Only M 5 x
 unfolding slotOf width startAt
 one-polls {L} {x} d e O =
-    let A = only-drained d 1 64 (omega arith) (omega arith) (omega arith) (ap (λ (w : ℕ). slotPlace 1 (slotOf w 1)) e) O in
-    let B = only-drained d 0 5 (omega arith) (omega arith) (omega arith) (ap (λ (w : ℕ). slotPlace 0 (slotOf w 0)) e) (A .2) in
+    let A = only-drained d 1 64 (omega arith) (omega arith) (omega arith) (ap (λ w. slotPlace 1 (slotOf w 1)) e) O in
+    let B = only-drained d 0 5 (omega arith) (omega arith) (omega arith) (ap (λ w. slotPlace 0 (slotOf w 0)) e) (A .2) in
     let F = only-first 4096 1 0 (omega arith) (omega arith) (omega arith) (A .2) in
     let G = only-first 4096 0 5 (omega arith) (omega arith) (omega arith) (B .2) in
     (B .0, drain (first-then O) (omega arith) (A .1) (drain F (omega arith) (B .1) (early G (omega arith))), B .2)
@@ -194,7 +194,7 @@ polls-so v x R (nothing e P) =
 polls-then : Holds (polls 0 4101 4096 2 2)
 polls-then s s′ s″ a b value Q I P =
     let R = inserted Q I in
-    polls-so (view s′) (Q .item) (R .1) (P .good (R .0) .done (omega (arith, R .1 .clock)) .1)
+    polls-so (view s′) (Q .item) (R .1) (P .good (R .0) .done (omega arith) .1)
 
 -- ---- all of them
 

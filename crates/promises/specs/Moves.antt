@@ -56,23 +56,23 @@ total-none u (suc n) = omega (arith, total-none u n)
 pub left-total : (u : ℕ → ℕ → ℕ) (n p r : ℕ) (v : View) → total u n (left p r v .lists) ≤ total u n (v .lists)
 unfolding left
 left-total u n p r v =
-    let L : Lists = v .lists in
+    let L = v .lists in
     total-fewer u n L (change L p (without r (L p)))
     (λ q.
     by-cases (ℕ-discrete q p)
-    (λ (e : q ≡ p). rw (e, change-same) (sum-without (u p) r (L p)))
+    (λ e. rw (e, change-same) (sum-without (u p) r (L p)))
     (λ d. rw (change-other L p (without r (L p)) q d) (omega arith)))
 
 pub freed-total : (u : ℕ → ℕ → ℕ) (n r : ℕ) (v : View) → n ≤ free → total u n (freed r v .lists) ≡ total u n (v .lists)
-freed-total u n r v h = total-ext u n (freed r v .lists) (v .lists) (λ p k. freed-beside r v .lists p (omega (arith, k)))
+freed-total u n r v h = total-ext u n (freed r v .lists) (v .lists) (λ p k. freed-beside r v .lists p (omega arith))
 
 -- ---- heights
 
 placed-heights : (r when : ℕ) (v : View) → heights (placed r when v .lists) ≤ heights (v .lists) + 5
 unfolding placed heights
 placed-heights r when v =
-    let p : ℕ = target (v .elapsed) (max when (v .elapsed)) in
-    let L : Lists = v .lists in
+    let p = target (v .elapsed) (max when (v .elapsed)) in
+    let L = v .lists in
     by-cases (decLt p slots)
     (λ h. omega (arith, total-more (λ q x. q / 64) slots L p r h))
     (λ h.
@@ -80,7 +80,7 @@ placed-heights r when v =
 
 taken-heights : (l : List ℕ) (v : View) → heights (taken l v .lists) ≡ heights (v .lists)
 unfolding heights
-taken-heights l v = total-ext (λ q x. q / 64) slots (change (v .lists) free l) (v .lists) (λ q k. change-other (v .lists) free l q (omega (arith, k)))
+taken-heights l v = total-ext (λ q x. q / 64) slots (change (v .lists) free l) (v .lists) (λ q k. change-other (v .lists) free l q (omega arith))
 
 left-heights : (p r : ℕ) (v : View) → heights (left p r v .lists) ≤ heights (v .lists)
 unfolding heights
@@ -98,11 +98,11 @@ clears-heights (gave {k} {p} {u} r a) = omega (arith, freed-heights k (left p k 
 fresh-heights : (l : List ℕ) → heights (change (λ p. []) free l) ≡ 0
 unfolding heights
 fresh-heights l =
-    total-ext (λ q x. q / 64) slots (change (λ p. []) free l) (λ p. []) (λ q k. change-other (λ p. []) free l q (omega (arith, k)))
+    total-ext (λ q x. q / 64) slots (change (λ p. []) free l) (λ p. []) (λ q k. change-other (λ p. []) free l q (omega arith))
     ∙ total-none (λ q x. q / 64) slots
 
 formatted-heights : {s : QueueWords} {n turn : ℕ} {a : Answer} {t : QueueWords} → Formatted s n turn a t → heights (view t .lists) ≡ 0
-formatted-heights {n = n} F = ap (λ (v : View). heights (v .lists)) (F .view) ∙ fresh-heights (range n 0)
+formatted-heights {n = n} F = ap (λ v. heights (v .lists)) (F .view) ∙ fresh-heights (range n 0)
 
 -- ---- one call
 
@@ -120,19 +120,19 @@ wakes-moves (starts F) = refl
 
 module _ (s : QueueWords) (a : Answer) (t : QueueWords) where
   same-paid : (c : Call) → t ≡ s → movesOf (told a) ≡ 0 → Paid s a t c
-  same-paid c e m = omega (arith, ap (λ (z : QueueWords). heights (view z .lists)) e, m)
+  same-paid c e m = omega (arith, ap (λ z. heights (view z .lists)) e)
 
   -- it is answered, and the heights have risen by no more than it pays for
   answered-paid : (c : Call) {x : Told} {v : View} → Answered s a x v t → movesOf x ≡ 0 → heights (v .lists) ≤ heights (view s .lists) + 5 * pays c x
       → Paid s a t c
   answered-paid c {x} {v} A m h =
-      omega (arith, ap movesOf (A .told), m, h, ap (pays c) (A .told), ap (λ (w : View). heights (w .lists)) (A .view))
+      omega (arith, ap movesOf (A .told), ap (pays c) (A .told), ap (λ w. heights (w .lists)) (A .view))
 
   does-paid : (c : Call) → Sound s → Does s a t c → Paid s a t c
   does-paid c S (refused R) = same-paid c (R .same) (ap movesOf (R .told))
   does-paid c S (formatted F) = omega (arith, ap movesOf (F .told), formatted-heights F)
   does-paid c S (inserted {value} {when} {r} {l} e n A) =
-      let v : View = withValue (upd (view s .value) r value) (taken l (view s)) in
+      let v = withValue (upd (view s .value) r value) (taken l (view s)) in
       answered-paid c A refl (omega (arith, placed-heights r when v, taken-heights l (view s)))
   does-paid c S (replaced {key} {when} {r} {p} N n A) =
       answered-paid c A refl (omega (arith, placed-heights r when (left p r (view s)), left-heights p r (view s)))

@@ -2,7 +2,7 @@
 use mathlib.Core.Path.{_≡_, refl, sym, ap, _∙_}
 use mathlib.Core.Logic.{by-cases}
 use mathlib.Core.List.{List, [], _∷_, nil≢cons}
-use mathlib.Core.Option.{none, some, Option·some-ne-none}
+use mathlib.Core.Option.{none, Option·some-ne-none}
 use Prim.Native.Nat.{ℕ, _≤_, _<_}
 use native.Mathlib.Decide.{decLt}
 use native.Mathlib.Omega.{arith}
@@ -86,8 +86,8 @@ Same a t a′ t′ = (a ≡ a′) × (t ≡ t′)
 
 -- ---- a refusal, and an accepted call
 
-refused-once : {s t t′ : QueueWords} {a a′ : Answer} {n : ℕ} → Refused n s a t → Refused n s a′ t′ → Same a t a′ t′
-refused-once {a = a} {a′ = a′} R Q = (told-one a a′ (R .told ∙ sym (Q .told)), R .same ∙ sym (Q .same))
+one-refusal : {s t t′ : QueueWords} {a a′ : Answer} {n : ℕ} → Refused n s a t → Refused n s a′ t′ → Same a t a′ t′
+one-refusal {a = a} {a′ = a′} R Q = (told-one a a′ (R .told ∙ sym (Q .told)), R .same ∙ sym (Q .same))
 
 -- two that keep the same words keep each other's
 kept-from : {n : ℕ} {l m k : List ℕ} → Kept n l m → Kept n l k → Kept n m k
@@ -130,7 +130,7 @@ answered-once {a = a} {a′ = a′} A B = (
 
 judging-once : {s t t′ : QueueWords} {a a′ : Answer} {On On′ : Type 0} → Judging s a t On → Judging s a′ t′ On′ → (Sound s → On → On′ → Same a t a′ t′)
     → Same a t a′ t′
-judging-once {s} J K f = by-cases (sound-dec s) (λ S. f S (J .good S) (K .good S)) (λ n. refused-once (J .bad n) (K .bad n))
+judging-once {s} J K f = by-cases (sound-dec s) (λ S. f S (J .good S) (K .good S)) (λ n. one-refusal (J .bad n) (K .bad n))
 
 -- ---- insert, reset, remove
 
@@ -140,11 +140,11 @@ module _ {s t t′ : QueueWords} {a a′ : Answer} where
     insert-on C D = by (view s .lists free) refl
       where
         by : (l : List ℕ) → view s .lists free ≡ l → Same a t a′ t′
-        by [] e = refused-once (C .full e) (D .full e)
+        by [] e = one-refusal (C .full e) (D .full e)
         by (r ∷ l) e =
             by-deadline (elapsed s) when
-            (λ f. refused-once (C .far r l e f) (D .far r l e f))
-            (λ f. refused-once (C .other r l e f) (D .other r l e f))
+            (λ f. one-refusal (C .far r l e f) (D .far r l e f))
+            (λ f. one-refusal (C .other r l e f) (D .other r l e f))
             (λ f. answered-once (C .done r l e f) (D .done r l e f))
 
     pub insert-once : InsertClaim s value when a t → InsertClaim s value when a′ t′ → (a ≡ a′) × (t ≡ t′)
@@ -156,17 +156,17 @@ module _ {s t t′ : QueueWords} {a a′ : Answer} where
         by-key S key
         (λ r p N.
         by-deadline (elapsed s) when
-        (λ f. refused-once (C .far r p N f) (D .far r p N f))
-        (λ f. refused-once (C .other r p N f) (D .other r p N f))
+        (λ f. one-refusal (C .far r p N f) (D .far r p N f))
+        (λ f. one-refusal (C .other r p N f) (D .other r p N f))
         (λ f. answered-once (C .done r p N f) (D .done r p N f)))
-        (λ f. refused-once (C .dead f) (D .dead f))
+        (λ f. one-refusal (C .dead f) (D .dead f))
 
     pub reset-once : ResetClaim s key when a t → ResetClaim s key when a′ t′ → (a ≡ a′) × (t ≡ t′)
     reset-once C D = judging-once C D reset-on
 
   module _ {key : ℕ} where
     remove-on : Sound s → RemoveOn s key a t → RemoveOn s key a′ t′ → Same a t a′ t′
-    remove-on S C D = by-key S key (λ r p N. answered-once (C .done r p N) (D .done r p N)) (λ f. refused-once (C .dead f) (D .dead f))
+    remove-on S C D = by-key S key (λ r p N. answered-once (C .done r p N) (D .done r p N)) (λ f. one-refusal (C .dead f) (D .dead f))
 
     pub remove-once : RemoveClaim s key a t → RemoveClaim s key a′ t′ → (a ≡ a′) × (t ≡ t′)
     remove-once C D = judging-once C D remove-on
@@ -176,7 +176,6 @@ module _ {s t t′ : QueueWords} {a a′ : Answer} where
 -- what a poll hands out, and the view after it
 queue-polls-one : {v : View} {now : ℕ} {x y : Told} {u w : View} → QueuePolls v now x u → QueuePolls v now y w → (x ≡ y) × (u ≡ w)
 queue-polls-one {v} (popped {r} {l} e) (popped {r = q} {l = k} f) =
-    let z : r ∷ l ≡ q ∷ k = sym e ∙ f in
     let a : r ≡ q = cc in
     let b : l ≡ k = cc in
     (rw a, rw (a, b))
@@ -185,7 +184,6 @@ queue-polls-one (popped e) (nothing f P) = absurd (nil≢cons (sym f ∙ e))
 queue-polls-one (handed e P) (popped f) = absurd (nil≢cons (sym e ∙ f))
 queue-polls-one {v} (handed {r} e P) (handed {r = q} f Q) =
     let S = polls-one P Q in
-    let g : some r ≡ some q = S .got in
     let a : r ≡ q = cc in
     (rw (a, S .moves, S .drains), rw (a, S .elapsed, S .lists))
 queue-polls-one (handed e P) (nothing f Q) = absurd (Option·some-ne-none _ (polls-one P Q .got))
@@ -200,9 +198,9 @@ module _ {s t t′ : QueueWords} {a a′ : Answer} where
     poll-on : PollOn s time a t → PollOn s time a′ t′ → Same a t a′ t′
     poll-on C D =
         by-cases (decLt time (elapsed s))
-        (λ h. refused-once (C .back h) (D .back h))
+        (λ h. one-refusal (C .back h) (D .back h))
         (λ h.
-        let g : elapsed s ≤ time = omega (arith, h) in
+        let g : elapsed s ≤ time = omega arith in
         let c = C .done g in
         let d = D .done g in
         let q = queue-polls-one (c .1) (d .1) in
@@ -234,16 +232,16 @@ module _ {s : QueueWords} {a a′ : Answer} where
 
 formatted-once : {s t t′ : QueueWords} {a a′ : Answer} {n turn : ℕ} → Formatted s n turn a t → Formatted s n turn a′ t′ → Same a t a′ t′
 formatted-once {s} {t} {t′} {a} {a′} {n} A B =
-    let c : count t ≡ n = ap (λ (v : View). v .n) (A .view) in
-    let d : count t′ ≡ n = ap (λ (v : View). v .n) (B .view) in
+    let c : count t ≡ n = ap (λ v. v .n) (A .view) in
+    let d : count t′ ≡ n = ap (λ v. v .n) (B .view) in
     let k : AllKept t′ t = past-all (sym d) (c ∙ sym d) (past-from (B .kept) (A .kept)) in
     (told-one a a′ (A .told ∙ sym (B .told)), view-fixed (B .sound) (A .sound) (A .view ∙ sym (B .view)) k)
 
 pub format-once : {s t t′ : QueueWords} {n turn : ℕ} {a a′ : Answer} → FormatClaim s n turn a t → FormatClaim s n turn a′ t′ → (a ≡ a′) × (t ≡ t′)
 format-once {s} {n = n} {turn = turn} C D =
     by-cases (fits-dec s n)
-    (λ F. by-cases (range-dec turn) (λ I. formatted-once (C .done F I) (D .done F I)) (λ f. refused-once (C .outside F f) (D .outside F f)))
-    (λ f. refused-once (C .short f) (D .short f))
+    (λ F. by-cases (range-dec turn) (λ I. formatted-once (C .done F I) (D .done F I)) (λ f. one-refusal (C .outside F f) (D .outside F f)))
+    (λ f. one-refusal (C .short f) (D .short f))
 
 -- ---- clear
 
@@ -260,13 +258,13 @@ reached {s} S begun h = record { store = s; sound = S; view = refl; size = refl 
 reached S (kept r n) h = reached S r (omega arith)
 reached S (gave {k} {p} {u} r a) h =
     let R = reached S r (omega arith) in
-    let g : k < count (R .store) = omega (arith, h, R .size) in
+    let g : k < count (R .store) = omega arith in
     let o = clear-one (R .sound) g in
     let G = o .1 .goes p (rw (R .view) a) in
     record {
       store = o .0;
       sound = G .sound;
-      view = G .view ∙ ap (λ (w : View). freed k (left p k w)) (R .view);
+      view = G .view ∙ ap (λ w. freed k (left p k w)) (R .view);
       size = G .kept .links .size ∙ R .size;
     }
 

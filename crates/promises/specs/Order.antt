@@ -1,10 +1,10 @@
 -- The order in which equal deadlines leave is that of the lists.
-use mathlib.Core.Path.{_≡_, refl, sym, ap, _∙_, subst}
+use mathlib.Core.Path.{_≡_, refl, sym, ap, _∙_}
 use mathlib.Core.Logic.{_≢_, _⊎_, inl, inr, ⊎-elim, by-cases}
 use mathlib.Core.Bool.{Bool, true, false, cond, true≢false}
 use mathlib.Core.List.{List, [], _∷_, _++_, reverse, reverseAux, reverseAux-eq, reverse-reverse, nil≢cons}
 use mathlib.Core.Option.{some}
-use Prim.Native.Nat.{ℕ, zero, suc, _/_, _%_, _≤_, _<_}
+use Prim.Native.Nat.{ℕ, zero, suc, _/_, _≤_, _<_}
 use native.Mathlib.Decide.{ℕ-discrete}
 use native.Mathlib.Omega.{arith}
 use lib.Dec.{eqb}
@@ -23,11 +23,11 @@ use Rattle.queue.specs.Told.{Told, told}
 use Rattle.queue.specs.Told as T
 use Rattle.records.specs.View.{View, withElapsed, withLists}
 use Rattle.records.specs.Records.{keyOf, At, Names}
+use Rattle.queue.specs.CallLaws.{names-one}
 use Rattle.queue.specs.Steps.{QueuePolls, popped, handed, nothing}
-use Rattle.records.specs.Words.{QueueWords, elapsed, markOf, view, Sound}
-use Rattle.records.specs.Laws.{mark-at}
+use Rattle.records.specs.Words.{QueueWords, elapsed, view, Sound}
 use Rattle.delay_queue.specs.Claims.{PollClaim}
-use Rattle.promises.specs.Polling.{none-out, freed-beside, key-of-names}
+use Rattle.promises.specs.Polling.{none-out, freed-beside, one-list, key-of-names}
 
 -- ---- what is said
 
@@ -93,9 +93,6 @@ mem-turn y [] ys m = inr m
 mem-turn y (x ∷ xs) ys m =
     ⊎-elim (λ h. inl (inr h)) (λ h. ⊎-elim (λ e. inl (inl e)) (λ k. inr k) h) (mem-turn y xs (x ∷ ys) m)
 
-none-in : (y : ℕ) {l : List ℕ} → l ≡ [] → Mem y l → ⊥
-none-in y e m = subst (Mem y) e m
-
 -- ---- a drain
 
 module _ (d : ℕ → ℕ) (k h : ℕ) (level : h / 64 ≡ suc k) (below : h < slots) where
@@ -103,25 +100,21 @@ module _ (d : ℕ → ℕ) (k h : ℕ) (level : h / 64 ≡ suc k) (below : h < s
   move-order : (L : Lists) (x : ℕ) (l : List ℕ) (r : ℕ) → r ≢ h → arrive k (d x) x (change L h l) r ≡ cond (goesTo d k r x) (x ∷ L r) (L r)
   unfolding arrive put
   move-order L x l r n =
-      let q : ℕ = slotPlace k (slotOf (d x) k) in
-      let M : Lists = change L h l in
+      let q = slotPlace k (slotOf (d x) k) in
+      let M = change L h l in
       let other : M r ≡ L r = change-other L h l r n in
       by-cases (ℕ-discrete q r)
-      (λ (e : q ≡ r). rw (eq-eqb q r e, e) (change-same M r (put r x (M r)) ∙ ap (put r x) other))
+      (λ e. rw (eq-eqb q r e, e) (change-same M r (put r x (M r)) ∙ ap (put r x) other))
       (λ e. rw (ne-eqb q r e) (change-other M q (put q x (M q)) r (λ z. e (sym z)) ∙ other))
 
   drains-order : {L M : Lists} {m : ℕ} → Drains d k h L m M → (r : ℕ) → r ≢ h → M r ≡ reverseAux (keep (goesTo d k r) (L h)) (L r)
   drains-order (drained {L} e) r n = rw e
   drains-order (moved {L} {M} {m} {x} {l} e D) r n =
-      let f : ℕ → Bool = goesTo d k r in
-      let W : Lists = arrive k (d x) x (change L h l) in
+      let f = goesTo d k r in
+      let W = arrive k (d x) x (change L h l) in
       let a : W h ≡ l = move-rest d k h level below L x l e in
       let b : W r ≡ cond (f x) (x ∷ L r) (L r) = move-order L x l r n in
-      drains-order D r n
-      ∙ ap (λ (z : List ℕ). reverseAux (keep f z) (W r)) a
-      ∙ ap (reverseAux (keep f l)) b
-      ∙ turn-cond (f x) x (keep f l) (L r)
-      ∙ ap (λ (z : List ℕ). reverseAux (keep f z) (L r)) (sym e)
+      cc (drains-order D r n, turn-cond (f x) x (keep f l) (L r))
 
   -- "each entry, from the head, is moved to the head of its slot one level down": those that go to one slot stand before what it held, in reverse
   pub drain-order : {L M : Lists} {m : ℕ} → Drains d k h L m M → (r : ℕ) → r ≢ h → M r ≡ reverse (keep (goesTo d k r) (L h)) ++ L r
@@ -150,17 +143,17 @@ drained-order {d} {e} {L} B {k} {s} F {m} {M} D {x} {N} O = by (ℕ-discrete (O 
     empty = drains-law d k (slotPlace (suc k) s) level (here-below B F) D .1
 
     not-here : O .place ≢ slotPlace (suc k) s
-    not-here = λ z. none-in x empty (subst (λ (q : ℕ). Mem x (M q)) z (O .member))
+    not-here = λ z. rw (z, empty) at (O .member)
 
     is : M (O .place) ≡ reverseAux (keep (goesTo d k (O .place)) (L (slotPlace (suc k) s))) (L (O .place))
     is = drains-order d k (slotPlace (suc k) s) level (here-below B F) D (O .place) not-here
 
     by : Dec (O .place / 64 ≡ k) → Ordered d L x N
     by (yes z) =
-        let f : ℕ → Bool = goesTo d k (O .place) in
+        let f = goesTo d k (O .place) in
         let w : ℕ → Bool = λ y. eqb (d y) (d x) in
-        let l : List ℕ = L (slotPlace (suc k) s) in
-        let e₁ : M (O .place) ≡ reverse (keep f l) = is ∙ ap (reverseAux (keep f l)) (F .lowest (O .place) (omega (arith, z))) in
+        let l = L (slotPlace (suc k) s) in
+        let e₁ : M (O .place) ≡ reverse (keep f l) = is ∙ ap (reverseAux (keep f l)) (F .lowest (O .place) (omega arith)) in
         let m₁ : Mem x (reverse (keep f l)) = rw e₁ at (O .member) in
         let m₂ : Mem x (keep f l) = ⊎-elim (λ a. a) (λ a. absurd a) (mem-turn x (keep f l) [] m₁) in
         let m₃ = mem-keep f x l m₂ in
@@ -173,44 +166,40 @@ drained-order {d} {e} {L} B {k} {s} F {m} {M} D {x} {N} O = by (ℕ-discrete (O 
           member = m₃ .0;
           slot = O .slot;
           low = O .low;
-          order =
-              ap (λ (j : ℕ). turned j (keep w l)) level
-              ∙ ap (turned k) (sym e₂)
-              ∙ ap (λ (j : ℕ). turned j (keep w (M (O .place)))) (sym z)
-              ∙ O .order;
+          order = rw level (cc);
         }
     by (no z) =
-        let f : ℕ → Bool = goesTo d k (O .place) in
-        let l : List ℕ = L (slotPlace (suc k) s) in
+        let f = goesTo d k (O .place) in
+        let l = L (slotPlace (suc k) s) in
         let nobody : (y : ℕ) → f y ≡ false
         = λ y.
         ne-eqb (slotPlace k (slotOf (d y) k)) (O .place)
-        (λ g. z (ap (λ (q : ℕ). q / 64) (sym g) ∙ place-level k (slotOf (d y) k) (slot-lt (d y) k))) in
-        let e₁ : M (O .place) ≡ L (O .place) = is ∙ ap (λ (a : List ℕ). reverseAux a (L (O .place))) (keep-none f l nobody) in
+        (λ g. z (ap (λ q. q / 64) (sym g) ∙ place-level k (slotOf (d y) k) (slot-lt (d y) k))) in
+        let e₁ : M (O .place) ≡ L (O .place) = is ∙ ap (λ a. reverseAux a (L (O .place))) (keep-none f l nobody) in
         record {
           place = O .place;
           below = O .below;
           member = rw e₁ at (O .member);
           slot = O .slot;
           low = O .low;
-          order = ap (λ (a : List ℕ). turned (O .place / 64) (ofDeadline d (d x) a)) (sym e₁) ∙ O .order;
+          order = cc;
         }
 
 polls-order : {d : ℕ → ℕ} {now e : ℕ} {L : Lists} {x m n c : ℕ} {N : Lists} → Between d e L → Polls d now e L (some x) m n c N → Ordered d L x N
 polls-order {d} B (out {e} {s} {x} {L} {l} F due is) =
-    let p : ℕ = slotPlace 0 s in
+    let p = slotPlace 0 s in
     let low : p / 64 ≡ 0 = place-level 0 s (slot-below B F) in
     record {
       place = p;
       below = here-below B F;
       member = rw is (inl refl);
       slot = p;
-      low = omega (arith, slot-below B F);
+      low = omega arith;
       order =
-          ap (λ (j : ℕ). turned j (ofDeadline d (d x) (L p))) low
+          ap (λ j. turned j (ofDeadline d (d x) (L p))) low
           ∙ ap (ofDeadline d (d x)) is
-          ∙ ap (λ (b : Bool). cond b (x ∷ ofDeadline d (d x) l) (ofDeadline d (d x) l)) (eq-eqb (d x) (d x) refl)
-          ∙ ap (λ (a : List ℕ). x ∷ ofDeadline d (d x) a) (sym (change-same L p l));
+          ∙ ap (λ b. cond b (x ∷ ofDeadline d (d x) l) (ofDeadline d (d x) l)) (eq-eqb (d x) (d x) refl)
+          ∙ ap (λ a. x ∷ ofDeadline d (d x) a) (sym (change-same L p l));
     }
 polls-order B (drain F due D r) = drained-order B F D (polls-order (drain-law B F D .rule) r)
 
@@ -220,7 +209,7 @@ polls-head : {d : ℕ → ℕ} {now e : ℕ} {L : Lists} {x m n c : ℕ} {N : Li
 polls-head (out {e} {s} {x} {L} {l} F due is) p low m one =
     let z : slotPlace 0 s ≡ p = one (slotPlace 0 s) (rw is (inl refl)) in
     (l, ap L (sym z) ∙ is, ap (change L (slotPlace 0 s) l) (sym z) ∙ change-same L (slotPlace 0 s) l)
-polls-head {x = x} (drain {k = k} F due D r) p low m one = absurd (none-in x (F .lowest p (omega arith)) m)
+polls-head {x = x} (drain {k = k} F due D r) p low m one = absurd (rw (F .lowest p (omega arith)) at m)
 
 -- ---- a poll of the queue
 
@@ -238,21 +227,15 @@ pub record PollOrder (v : View) (x : Told) (u : View) : Type 0 where
 module _ {s : QueueWords} (S : Sound s) where
   -- the key of a pending record names it, and it alone, in its place
   names-it : {i q k r p : ℕ} → At (view s) i q → keyOf (view s) i ≡ k → Names (view s) k r p → (i ≡ r) × (q ≡ p)
-  names-it {i} {q} {k} {r} {p} a e N =
-      let M = key-of-names S a in
-      let z : i ≡ r = M .number ∙ ap (λ (j : ℕ). j % 65536) e ∙ sym (N .number) in
-      (z, sym (mark-at S a) ∙ ap (markOf s) z ∙ mark-at S (N .pending))
-
-  one-place : {r p : ℕ} → At (view s) r p → (q : ℕ) → Mem r (view s .lists q) → q ≡ p
-  one-place {r} a q m = sym (stack.member-mark (S .whole .stack) q r m) ∙ mark-at S a
+  names-it a e N = names-one S (rw e at (key-of-names S a)) N
 
   module _ {now : ℕ} (not-back : elapsed s ≤ now) where
     order-of : {x : Told} {u : View} → QueuePolls (view s) now x u → PollOrder (view s) x u
     order-of (popped {r} {l} e) =
-        let v : View = view s in
+        let v = view s in
         let a : At v r expired = record { timed = omega arith; member = rw e (inl refl) } in
         let away : (k w d m n i p : ℕ) → T.out (keyOf v r) (v .value r) (v .deadline r) 0 0 ≡ T.out k w d m n → Names v k i p → p < slots → ⊥
-        = λ k w d m n i p is N h. let f : keyOf v r ≡ k = cc in omega (arith, names-it a f N .1, h) in
+        = λ k w d m n i p is N h. let f : keyOf v r ≡ k = cc in omega (arith, names-it a f N .1) in
         record {
           stack = λ i j f.
               let z : r ∷ l ≡ i ∷ j = sym e ∙ f in
@@ -260,26 +243,26 @@ module _ {s : QueueWords} (S : Sound s) where
               let z₂ : l ≡ j = cc in
               let B = freed-beside r (withLists (change (v .lists) expired l) v) in
               (rw z₁, B .lists expired (omega arith) ∙ change-same (v .lists) expired l ∙ z₂, B .elapsed);
-          head = λ k w d m n i p is N h. absurd (away k w d m n i p is N (omega (arith, h)));
+          head = λ k w d m n i p is N h. absurd (away k w d m n i p is N (omega arith));
           equals = λ k w d m n i p is N h. absurd (away k w d m n i p is N h);
         }
     order-of (handed {r} {m} {n} {e} {L} empty P) =
-        let v : View = view s in
+        let v = view s in
         let B = freed-beside r (withElapsed e (withLists L v)) in
         let O = polls-order (rule-between (S .rule)) P in
-        let a : At v r (O .place) = record { timed = omega (arith, O .below); member = O .member } in
+        let a : At v r (O .place) = record { timed = omega arith; member = O .member } in
         record {
           stack = λ i j f. absurd (nil≢cons (sym empty ∙ f));
           head = λ k w d m₁ n₁ i p is N h.
               let f : keyOf v r ≡ k = cc in
               let z : r ≡ i = names-it a f N .0 in
               let b : At v r p = rw z (N .pending) in
-              rw (← z, B .lists p (omega (arith, h))) (polls-head P p h (b .member) (one-place b));
+              rw (← z, B .lists p (omega (arith, h))) (polls-head P p h (b .member) (λ q m. one-list S r q p m (b .member)));
           equals = λ k w d m₁ n₁ i p is N h.
               let f : keyOf v r ≡ k = cc in
               let g : d ≡ v .deadline r = cc in
               let z = names-it a f N in
-              (O .slot, O .low, rw (g, ← z .0, ← z .1, B .lists (O .slot) (omega (arith, O .low))) (O .order));
+              (O .slot, O .low, rw (g, ← z .0, ← z .1, B .lists (O .slot) (omega arith)) (O .order));
         }
     order-of (nothing empty P) =
         record {

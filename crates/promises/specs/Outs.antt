@@ -10,7 +10,7 @@ use native.Mathlib.Omega.{arith}
 use lib.Dec.{eqb}
 use borrow.Author.Tests.{eq-eqb, ne-eqb}
 use Rattle.links.specs.Lists.{Mem, Nodup, change, change-other}
-use Rattle.stack.specs.Places.{expired, free, put}
+use Rattle.stack.specs.Places.{expired, free}
 use Rattle.stack.specs.Laws as stack
 use Rattle.stack.specs.Format.{range}
 use Rattle.wheel.specs.Wheel.{Lists}
@@ -20,9 +20,10 @@ use Rattle.queue.specs.declared.Answer.{Answer}
 use Rattle.queue.specs.Told.{Told, told}
 use Rattle.queue.specs.Told as T
 use Rattle.records.specs.View.{View, withElapsed, withLists, withValue, upd}
-use Rattle.records.specs.Records.{lastTurn, keyOf, At, Names, taken, left, target, placed, freed}
+use Rattle.records.specs.Records.{keyOf, At, Names, taken, left, target, placed, freed}
+use Rattle.queue.specs.PollLaws.{left-less}
 use Rattle.queue.specs.Steps.{QueuePolls, popped, handed, nothing}
-use Rattle.records.specs.Words.{QueueWords, view, Sound, upd-other}
+use Rattle.records.specs.Words.{QueueWords, view, Sound}
 use Rattle.delay_queue.specs.declared.Call.{Call}
 use Rattle.delay_queue.specs.declared.Call.the-variants as C
 use Rattle.delay_queue.specs.Claims.{Fits, InRange, CallClaim}
@@ -30,7 +31,8 @@ use Rattle.promises.specs.Decided.{fits-dec, range-dec}
 use Rattle.promises.specs.Step.{step-sound}
 use Rattle.promises.specs.Runs.{Asked, Runs, rest, next, All, NoFormat}
 use Rattle.promises.specs.Steps.{Steps, refuses, formats, inserts, resets, removes, polls, wakes, counts, clears, call-steps, key-inserts}
-use Rattle.promises.specs.KeysOne.{freed-last, freed-more, left-less, wheel-promise, waits-before}
+use Rattle.promises.specs.Polling.{freed-beside}
+use Rattle.promises.specs.KeysOne.{wheel-promise, waits-before}
 use Rattle.promises.specs.KeysGone.{moved-out, left-out, handed-out, clear-empty, spent-unnamed, out-spent}
 use Rattle.promises.specs.KeysStay.{Out, key-is}
 use Rattle.promises.specs.Keys.{no-key-twice}
@@ -95,22 +97,18 @@ left-turn p i v r = refl
 
 was-freed : (i : ℕ) (v : View) → ((q : ℕ) → Mem i (v .lists q) → ⊥) → (r : ℕ) → Was v (freed i v) r
 was-freed i v out r =
-    by-cases (ℕ-discrete (v .turn i) lastTurn)
-    (λ z. rw (freed-last i v z) (was-same v r))
-    (λ z.
-    rw (freed-more i v z)
-    (record {
+    let B = freed-beside i v in
+    record {
       was = λ p a.
-          let m : Mem r (v .lists p) = rw (change-other (v .lists) free (put free i (v .lists free)) p (omega (arith, a .timed))) at (a .member) in
-          let d : r ≢ i = λ (e : r ≡ i). out p (rw e at m) in
-          (upd-other (v .turn) i (v .turn i + 1) r d, (p, record { timed = a .timed; member = m }));
-    }))
+          let m : Mem r (v .lists p) = rw (B .lists p (a .timed)) at (a .member) in
+          (B .turn r (λ e. out p (rw e at m)), (p, record { timed = a .timed; member = m }));
+    }
 
 -- or it is the one that is placed
 was-placed : (i when : ℕ) (v : View) (r p : ℕ) → At (placed i when v) r p → (placed i when v .turn r ≡ v .turn r) × ((r ≡ i) ⊎ At v r p)
 unfolding placed
 was-placed i when v r p a =
-    let q : ℕ = target (v .elapsed) (max when (v .elapsed)) in
+    let q = target (v .elapsed) (max when (v .elapsed)) in
     (refl, ⊎-elim (λ b. inl (b .1)) (λ m. inr (record { timed = a .timed; member = m })) (mem-joined (v .lists) q i p r (a .member)))
 
 module _ {s : QueueWords} (S : Sound s) where
@@ -123,7 +121,7 @@ module _ {s : QueueWords} (S : Sound s) where
   poll-was h (popped {r = i} {l = l} e) r =
       let m : Mem i (view s .lists expired) = rw e (inl refl) in
       let d : Nodup (i ∷ l) = rw e at (stack.list-nodup (S .whole .stack) expired) in
-      let u : View = withLists (change (view s .lists) expired l) (view s) in
+      let u = withLists (change (view s .lists) expired l) (view s) in
       was-then (was-less (view s) u r refl (λ q k. mem-left (view s .lists) expired i l e q r k)) (was-freed i u (moved-out S i expired m l (d .0)) r)
   poll-was h (handed {r = i} {e = c} {L = L} e P) r =
       let R = wheel-promise S e h P in
@@ -137,24 +135,24 @@ module _ {s : QueueWords} (S : Sound s) where
   named-was : {w : View} {k r p : ℕ} → Was (view s) w r → Names w k r p → (q : ℕ) × Names (view s) k r q
   named-was {p = p} F N = let b = F .was p (N .pending) in (b .1 .0, named-so N (b .0) (b .1 .1))
 
-  does-was : {c : Call} {x : Told} {w : View} → Steps (view s) c x w → (c ≡ C.Clear → (r p : ℕ) → At w r p → ⊥) → {k r p : ℕ} → Names w k r p
+  pub does-was : {c : Call} {x : Told} {w : View} → Steps (view s) c x w → (c ≡ C.Clear → (r p : ℕ) → At w r p → ⊥) → {k r p : ℕ} → Names w k r p
       → (x ≡ T.key k) ⊎ ((q : ℕ) × Names (view s) k r q)
   does-was refuses empty {p = p} N = inr (p, N)
   does-was (formats {n}) empty {p = p} N =
-      absurd (rw (change-other (λ q. []) free (range n 0) p (omega (arith, N .pending .timed))) at (N .pending .member))
+      absurd (rw (change-other (λ q. []) free (range n 0) p (omega arith)) at (N .pending .member))
   does-was (inserts {value} {when} {r = i} {l = l} e) empty {k} {r} {p} N =
-      let u : View = withValue (upd (view s .value) i value) (taken l (view s)) in
+      let u = withValue (upd (view s .value) i value) (taken l (view s)) in
       let b = was-placed i when u r p (N .pending) in
       let t : placed i when u .turn r ≡ view s .turn r = b .0 in
       ⊎-elim
-      (λ (z : r ≡ i). inl (ap T.key (ap (keyOf (view s)) (sym z) ∙ ap (λ (c : ℕ). c * 65536 + r) (sym t) ∙ sym (key-is N))))
+      (λ z. inl (ap T.key (ap (keyOf (view s)) (sym z) ∙ ap (λ c. c * 65536 + r) (sym t) ∙ sym (key-is N))))
       (λ a. inr (p, named-so N t (record { timed = a .timed; member = mem-left (view s .lists) free i l e p r (a .member) })))
       (b .1)
   does-was (resets {when = when} {r = i} {p = q} M) empty {k} {r} {p} N =
       let b = was-placed i when (left q i (view s)) r p (N .pending) in
       let t : placed i when (left q i (view s)) .turn r ≡ view s .turn r = b .0 ∙ left-turn q i (view s) r in
       ⊎-elim
-      (λ (z : r ≡ i). inr (q, named-so N t (rw z (M .pending))))
+      (λ z. inr (q, named-so N t (rw z (M .pending))))
       (λ a. inr (p, named-so N t (record { timed = a .timed; member = left-less q i (view s) p r (a .member) })))
       (b .1)
   does-was (removes {r = i} {p = q} M) empty {r = r} N =
@@ -176,7 +174,7 @@ kind k T.ok = other refl refl
 kind k (T.key j) = by-cases (ℕ-discrete j k) (λ e. gives (ap T.key e)) (λ d. other (rw (ne-eqb j k d)) refl)
 kind k (T.gone v d) = other refl refl
 kind k (T.out j v d m n) =
-    by-cases (ℕ-discrete j k) (λ e. hands (v, d, m, n, ap (λ (i : ℕ). T.out i v d m n) e)) (λ z. other refl (rw (ne-eqb j k z)))
+    by-cases (ℕ-discrete j k) (λ e. hands (v, d, m, n, ap (λ i. T.out i v d m n) e)) (λ z. other refl (rw (ne-eqb j k z)))
 kind k (T.none m n) = other refl refl
 kind k (T.wake t) = other refl refl
 kind k T.never = other refl refl
@@ -200,24 +198,24 @@ module _ {s : QueueWords} (S : Sound s) (x : Asked) (t : QueueWords) (A : CallCl
   abbrev D : Steps (view s) (x .call) (told (x .answer)) (view t)
   D = call-steps (x .call) s (x .answer) t S A
 
-  emptied : x .call ≡ C.Clear → (r p : ℕ) → At (view t) r p → ⊥
-  emptied e = clear-empty S (subst (λ (c : Call). CallClaim c s (x .answer) t) e A)
+  pub emptied : x .call ≡ C.Clear → (r p : ℕ) → At (view t) r p → ⊥
+  emptied e = clear-empty S (rw e at A)
 
   bound-more : {k : ℕ} {l : List Asked} → Kind k (told (x .answer)) → Bound k t l → Bound k s (x ∷ l)
   bound-more (gives e) B =
       let n = gives-counts e in
-      record { most = omega (arith, n .0, n .1, B .most); few = λ f. omega (arith, n .0, n .1, B .most) }
+      record { most = omega arith; few = λ f. omega arith }
   bound-more (hands o) B =
       let n = hands-counts o in
       let H = out-spent S D (o .4) in
-      record { most = omega (arith, n .0, n .1, B .few (spent-unnamed (H .spent))); few = λ f. absurd (f (H .number) (H .place) (H .names)) }
+      record { most = omega (arith, n .0, B .few (spent-unnamed (H .spent))); few = λ f. absurd (f (H .number) (H .place) (H .names)) }
   bound-more {k} (other y z) B =
       record {
-        most = omega (arith, y, z, B .most);
+        most = omega arith;
         few = λ f.
             let g : (r p : ℕ) → Names (view t) k r p → ⊥
-            = λ r p N. ⊎-elim (λ e. omega (arith, y, gives-counts e .0)) (λ M. f r (M .0) (M .1)) (does-was S D emptied N) in
-            omega (arith, y, z, B .few g);
+            = λ r p N. ⊎-elim (λ e. omega (arith, gives-counts e .0)) (λ M. f r (M .0) (M .1)) (does-was S D emptied N) in
+            omega (arith, B .few g);
       }
 
 bound : (k : ℕ) {s t : QueueWords} {l : List Asked} → Sound s → Runs s l t → Bound k s l
@@ -231,7 +229,7 @@ keys-none k (x ∷ l) a = by (kind k (told (x .answer))) (keys-none k l (a .1))
     by : Kind k (told (x .answer)) → keys k l ≡ 0 → keyed k (told (x .answer)) + keys k l ≡ 0
     by (gives e) h = absurd (a .0 e)
     by (hands o) h = omega (arith, hands-counts o .0)
-    by (other y z) h = omega (arith, y)
+    by (other y z) h = omega arith
 
 -- ---- what is promised
 
@@ -253,10 +251,10 @@ keys-once k S (next {s} {t} {x = x} {l = l} c r) f =
     by : Kind k (told (x .answer)) → keys k l ≤ 1 → keyed k (told (x .answer)) + keys k l ≤ 1
     by (gives e) h =
         let i = key-inserts (call-steps (x .call) s (x .answer) t S c) e .2 in
-        let A = subst (λ (b : Call). CallClaim b s (x .answer) t) i c in
+        let A = subst (λ b. CallClaim b s (x .answer) t) i c in
         omega (arith, gives-counts e .0, keys-none k l (no-key-twice S A e r (f .1)))
     by (hands o) h = omega (arith, hands-counts o .0)
-    by (other y z) h = omega (arith, y)
+    by (other y z) h = omega arith
 
 -- so from a format on, with nothing asked of the store: what was handed out was inserted, and no more often
 pub outs-fresh : {s t u : QueueWords} {n turn : ℕ} {a : Answer} {l : List Asked} (k : ℕ) → CallClaim (C.Format n turn) s a t → told a ≡ T.ok → Runs t l u
@@ -273,4 +271,4 @@ outs-fresh {s} {t} {n = n} {turn = turn} {a = a} {l = l} k A e r = by (fits-dec 
         let F = A .done x y in
         outs-few k (F .sound) (λ q p N.
         let b = rw (F .view) at (N .pending) in
-        rw (change-other (λ z. []) free (range n 0) p (omega (arith, b .timed))) at (b .member)) r
+        rw (change-other (λ z. []) free (range n 0) p (omega arith)) at (b .member)) r

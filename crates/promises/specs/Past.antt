@@ -61,8 +61,8 @@ step-past : (m : ℕ) (s t : QueueWords) (x : Asked) → CallClaim (x .call) s (
     → (count t ≤ m) × PastKept m s t
 step-past m s t x A h f =
     ⊎-elim
-    (λ (e : t ≡ s). rw e (h, past-refl m s))
-    (λ y. let g : reach (x .call) s ≤ m = reach-within (x .call) s h (f (ap not (y .0))) in (omega (arith, y .1, g), past-beyond g (y .2)))
+    (λ e. rw e (h, past-refl m s))
+    (λ y. let g : reach (x .call) s ≤ m = reach-within (x .call) s h (f (ap not (y .0))) in (omega arith, past-beyond g (y .2)))
     (step-size (x .call) s (x .answer) t A)
 
 -- "Words of a slice past what N records need are never changed by any call": whatever formats the run has, words past m are kept, and all lengths, where no

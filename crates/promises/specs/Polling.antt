@@ -1,20 +1,20 @@
--- One poll: what it hands out, what stays, the clock, the drains, and the order of equal deadlines.
-use mathlib.Core.Path.{_≡_, refl, sym, ap, _∙_, subst}
+-- One poll: what it hands out, what stays, the clock and the drains.
+use mathlib.Core.Path.{_≡_, refl, sym, ap, _∙_}
 use mathlib.Core.Logic.{_↔_, _≢_, inl, by-cases}
 use mathlib.Core.List.{List, [], _∷_}
 use mathlib.Core.Option.{Option, none, some}
 use Prim.Native.Nat.{ℕ, zero, suc, _+_, _*_, _/_, _%_, _≤_, _<_, max}
-use native.Mathlib.Decide.{ℕ-discrete, decLe}
+use native.Mathlib.Decide.{ℕ-discrete, decLt}
 use native.Mathlib.Omega.{arith}
 use borrow.Author.Tests.{eq-eqb, ne-eqb}
 use Rattle.links.specs.Lists.{Mem, Nodup, change, change-other}
 use Rattle.stack.specs.Places.{slots, expired, free, put}
 use Rattle.stack.specs.Laws as stack
-use Rattle.wheel.specs.Wheel.{Lists, Rule}
+use Rattle.wheel.specs.Wheel.{Lists, Rule, Polls}
 use Rattle.wheel.specs.Sums.{sumOf, total, total-ext, total-less, hits, mem-sum, lies-times, times-lies}
 use Rattle.wheel.specs.Between.{rule-between}
 use Rattle.wheel.specs.Drain.{heights, amount}
-use Rattle.wheel.specs.Poll.{given, Fair, clockAfter, Promise, poll-law}
+use Rattle.wheel.specs.Poll.{given, Fair, clockAfter, poll-law}
 use Rattle.queue.specs.declared.Answer.{Answer}
 use Rattle.queue.specs.Told.{Told, told}
 use Rattle.queue.specs.Told as T
@@ -32,7 +32,7 @@ abbrev pub IsPending : View → ℕ → Type 0
 IsPending v r = (p : ℕ) × At v r p
 
 -- y has in u the value, the deadline and the turn that it has in v, and so the key
-pub record Stays (v u : View) (y : ℕ) : Type 0 where
+pub record SameRecord (v u : View) (y : ℕ) : Type 0 where
   pub value : u .value y ≡ v .value y
   pub deadline : u .deadline y ≡ v .deadline y
   pub turn : u .turn y ≡ v .turn y
@@ -64,13 +64,13 @@ pub record HandsLeast (v : View) (now k w d : ℕ) (u : View) : Type 0 where
   pub least : (y : ℕ) → IsPending v y → d ≤ v .deadline y
   pub gone : IsPending u timer → ⊥
   pub dead : Dead u k
-  pub others : (y : ℕ) → IsPending v y → y ≢ timer → IsPending u y × Stays v u y
+  pub others : (y : ℕ) → IsPending v y → y ≢ timer → IsPending u y × SameRecord v u y
   pub only : (y : ℕ) → IsPending u y → IsPending v y × (y ≢ timer)
   pub fewer : pending u + 1 ≡ pending v
 
 -- all that was pending is pending, and nothing else
 pub record AllStay (v u : View) : Type 0 where
-  pub stay : (y : ℕ) → IsPending v y → IsPending u y × Stays v u y
+  pub stay : (y : ℕ) → IsPending v y → IsPending u y × SameRecord v u y
   pub only : (y : ℕ) → IsPending u y → IsPending v y
   pub same : pending u ≡ pending v
 
@@ -87,38 +87,40 @@ weigh-split : (w : ℕ → ℕ) (L : Lists) → weigh w L ≡ amount w L + sumOf
 unfolding amount
 weigh-split w L = total-last (λ p x. w x) 384 L
 
--- nobody lies twice in the lists of a sound store
+-- ---- on a sound store every record is in one list at most
+
+-- how often it lies there
+sum-none : (y : ℕ) (l : List ℕ) → (Mem y l → ⊥) → sumOf (hits y) l ≡ 0
+sum-none y l out = by-cases (decLt 0 (sumOf (hits y) l)) (λ h. absurd (out (mem-sum y l h))) (λ h. omega arith)
+
 sum-once : (y : ℕ) (l : List ℕ) → Nodup l → sumOf (hits y) l ≤ 1
-sum-once y [] n = omega arith
-sum-once y (x ∷ l) n = by (ℕ-discrete x y) (decLe 1 (sumOf (hits y) l)) (sum-once y l (n .1))
-  where
-    by : Dec (x ≡ y) → Dec (1 ≤ sumOf (hits y) l) → sumOf (hits y) l ≤ 1 → hits y x + sumOf (hits y) l ≤ 1
-    by (no d) h ih = rw (ne-eqb x y d) (omega (arith, ih))
-    by (yes e) (no h) ih = rw (eq-eqb x y e) (omega (arith, h))
-    by (yes e) (yes h) ih = absurd (n .0 (rw e (mem-sum y l h)))
+sum-once y [] d = omega arith
+sum-once y (x ∷ l) d =
+    by-cases (ℕ-discrete x y)
+    (λ e. rw (eq-eqb x y e) (omega (arith, sum-none y l (λ m. d .0 (rw e m)))))
+    (λ n. rw (ne-eqb x y n) (omega (arith, sum-once y l (d .1))))
 
-times-once : (L : Lists) (y : ℕ) → ((p : ℕ) → Nodup (L p)) → ((p q : ℕ) → Mem y (L p) → Mem y (L q) → p ≡ q)
-    → (n : ℕ) → total (λ q x. hits y x) n L ≤ 1
-unfolding total
-times-once L y nd one zero = omega arith
-times-once L y nd one (suc n) =
-    by-cases (decLe 1 (sumOf (hits y) (L n)))
-    (λ h.
-    by-cases (decLe 1 (total (λ q x. hits y x) n L))
-    (λ g. let r = times-lies n L y g in absurd (omega (arith, r .1, one (r .0) n (r .2) (mem-sum y (L n) h))))
-    (λ g. omega (arith, g, sum-once y (L n) (nd n))))
-    (λ h. omega (arith, h, times-once L y nd one n))
+module _ {s : QueueWords} (S : Sound s) where
+  -- in two lists at once is nobody
+  pub one-list : (i p q : ℕ) → Mem i (view s .lists p) → Mem i (view s .lists q) → p ≡ q
+  one-list i p q m k = sym (stack.member-mark (S .whole .stack) p i m) ∙ stack.member-mark (S .whole .stack) q i k
 
-hit : (y : ℕ) → hits y y ≡ 1
-hit y = rw (eq-eqb y y refl)
+  -- nobody lies twice in all the lists together
+  pub lies-once : (y n : ℕ) → total (λ q x. hits y x) n (view s .lists) ≤ 1
+  unfolding total
+  lies-once y zero = omega arith
+  lies-once y (suc n) =
+      by-cases (decLt 0 (total (λ q x. hits y x) n (view s .lists)))
+      (λ h.
+      let b = times-lies n (view s .lists) y h in
+      omega (arith, lies-once y n, sum-none y (view s .lists n) (λ m. omega (arith, one-list y (b .0) n (b .2) m))))
+      (λ h. omega (arith, sum-once y (view s .lists n) (stack.list-nodup (S .whole .stack) n)))
 
-miss : (x y : ℕ) → x ≢ y → hits y x ≡ 0
-miss x y d = rw (ne-eqb x y d)
-
-once : {s : QueueWords} → Sound s → (y : ℕ) → weigh (hits y) (view s .lists) ≤ 1
-once {s} S y =
-    times-once (view s .lists) y (λ p. stack.list-nodup (S .whole .stack) p)
-    (λ p q m k. sym (stack.member-mark (S .whole .stack) p y m) ∙ stack.member-mark (S .whole .stack) q y k) free
+  -- the key of a pending record names it
+  pub key-of-names : {r p : ℕ} → At (view s) r p → Names (view s) (keyOf (view s) r) r p
+  key-of-names {r} {p} a =
+      let b = stack.member-below (S .whole .stack) p r (a .member) in
+      record { number = omega arith; below = b; pending = a; turn = omega arith }
 
 -- ---- a record is freed: below the free list nothing changes, and of the words only its turn
 
@@ -130,13 +132,14 @@ pub record Beside (r : ℕ) (v u : View) : Type 0 where
   pub turn : (y : ℕ) → y ≢ r → u .turn y ≡ v .turn y
   pub lists : (p : ℕ) → p < free → u .lists p ≡ v .lists p
 
+beside-same : (r : ℕ) (v : View) → Beside r v v
+beside-same r v = record { size = refl; elapsed = refl; value = refl; deadline = refl; turn = λ y d. refl; lists = λ p h. refl }
+
 pub freed-beside : (r : ℕ) (v : View) → Beside r v (freed r v)
 unfolding freed
 freed-beside r v =
     by-cases (ℕ-discrete (v .turn r) lastTurn)
-    (λ z.
-    rw (eq-eqb (v .turn r) lastTurn z)
-    (record { size = refl; elapsed = refl; value = refl; deadline = refl; turn = λ y d. refl; lists = λ p h. refl }))
+    (λ z. rw (eq-eqb (v .turn r) lastTurn z) (beside-same r v))
     (λ z.
     rw (ne-eqb (v .turn r) lastTurn z)
     (record {
@@ -145,7 +148,7 @@ freed-beside r v =
       value = refl;
       deadline = refl;
       turn = λ y d. upd-other (v .turn) r (v .turn r + 1) y d;
-      lists = λ p h. change-other (v .lists) free (put free r (v .lists free)) p (omega (arith, h));
+      lists = λ p h. change-other (v .lists) free (put free r (v .lists free)) p (omega arith);
     }))
 
 -- ---- all of a poll in one law, over what it hands out
@@ -181,40 +184,59 @@ pub record Polled (v : View) (now : ℕ) (x : Told) (u : View) : Type 0 where
 module _ (v : View) (R : Rule (v .deadline) (v .elapsed) (v .lists)) {now : ℕ} (not-back : v .elapsed ≤ now) where
   -- nothing is pending before elapsed
   none-before : (y : ℕ) → IsPending v y → v .elapsed ≤ v .deadline y
-  none-before y k = by (ℕ-discrete (k .0) expired)
-    where
-      by : Dec (k .0 ≡ expired) → v .elapsed ≤ v .deadline y
-      by (yes e) = omega (arith, R .stack y (subst (λ (p : ℕ). Mem y (v .lists p)) e (k .1 .member)))
-      by (no d) = R .wheel (k .0) y (omega (arith, k .1 .timed, d)) (k .1 .member) .late
+  none-before y k =
+      by-cases (ℕ-discrete (k .0) expired)
+      (λ e. omega (arith, R .stack y (rw e at (k .1 .member))))
+      (λ d. R .wheel (k .0) y (omega arith) (k .1 .member) .late)
 
   module _ (empty : v .lists expired ≡ []) where
     -- where the expired stack is empty, all that is pending waits in a slot
     in-slot : (y : ℕ) → IsPending v y → (p : ℕ) × (p < slots) × Mem y (v .lists p)
-    in-slot y k = by (ℕ-discrete (k .0) expired)
-      where
-        by : Dec (k .0 ≡ expired) → (p : ℕ) × (p < slots) × Mem y (v .lists p)
-        by (yes e) = absurd (subst (λ (l : List ℕ). Mem y l) (ap (v .lists) e ∙ empty) (k .1 .member))
-        by (no d) = (k .0, omega (arith, k .1 .timed, d), k .1 .member)
+    in-slot y k =
+        by-cases (ℕ-discrete (k .0) expired)
+        (λ e. absurd (rw (e, empty) at (k .1 .member)))
+        (λ d. (k .0, omega arith, k .1 .member))
 
     fairly : (o : Option ℕ) → Fair (v .deadline) now (v .lists) o → Fairly v now o
     fairly none f = λ y k. f y (in-slot y k)
     fairly (some r) f = (
-      (f .0 .0, record { timed = omega (arith, f .0 .1); member = f .0 .2 }),
+      (f .0 .0, record { timed = omega arith; member = f .0 .2 }),
       f .1,
       λ y k. f .2 y (in-slot y k),
     )
 
-    -- the wheel's law, with the expired stack
-    weighed : {o : Option ℕ} {m n e : ℕ} {L : Lists} → Promise (v .deadline) now (v .elapsed) (v .lists) o m n e L → (w : ℕ → ℕ)
-        → weigh w L + given w o ≡ weigh w (v .lists)
-    weighed {L = L} Q w = omega (arith, weigh-split w L, weigh-split w (v .lists), Q .kept w, ap (sumOf w) (Q .aside expired (omega arith)))
+    -- the wheel's law, with the expired stack and what is freed
+    by-wheel : {o : Option ℕ} {m n e : ℕ} {L : Lists} → Polls (v .deadline) now (v .elapsed) (v .lists) o m n e L → {r : ℕ} (u : View)
+        → Beside r (withElapsed e (withLists L v)) u → ((y : ℕ) → Other o y → u .turn y ≡ v .turn y) → Polled v now (saysOf v o m n) u
+    unfolding heights
+    by-wheel {o} {m} {n} {L = L} P u B turn =
+        let Q = poll-law (rule-between R) empty not-back P in
+        record {
+          got = o;
+          moves = m;
+          drains = n;
+          is = refl;
+          fair = fairly o (Q .fair);
+          kept = λ w.
+              let below = total-ext (λ p x. w x) free (u .lists) L (B .lists) in
+              let aside = ap (sumOf w) (Q .aside expired (omega arith)) in
+              omega (arith, weigh-split w L, weigh-split w (v .lists), Q .kept w);
+          clock = B .elapsed ∙ Q .clock;
+          counted = omega (arith, total-ext (λ p x. p / 64) slots (u .lists) L (λ p h. B .lists p (omega arith)));
+          few = Q .few;
+          idle = Q .none;
+          size = B .size;
+          value = B .value;
+          deadline = B .deadline;
+          turn = turn;
+        }
 
-  poll-works : {x : Told} {u : View} → QueuePolls v now x u → Polled v now x u
+  pub poll-works : {x : Told} {u : View} → QueuePolls v now x u → Polled v now x u
   unfolding heights
   poll-works (popped {r} {l} e) =
-      let L : Lists = change (v .lists) expired l in
+      let L = change (v .lists) expired l in
       let B = freed-beside r (withLists L v) in
-      let M : Lists = freed r (withLists L v) .lists in
+      let M = freed r (withLists L v) .lists in
       let m : Mem r (v .lists expired) = rw e (inl refl) in
       let d = R .stack r m in
       record {
@@ -222,11 +244,11 @@ module _ (v : View) (R : Rule (v .deadline) (v .elapsed) (v .lists)) {now : ℕ}
         moves = 0;
         drains = 0;
         is = refl;
-        fair = ((expired, record { timed = omega arith; member = m }), omega (arith, d), λ y k. omega (arith, d, none-before y k));
+        fair = ((expired, record { timed = omega arith; member = m }), omega arith, λ y k. omega (arith, d, none-before y k));
         kept = λ w. omega (arith, total-ext (λ p x. w x) free M L (B .lists), total-less (λ p x. w x) free (v .lists) expired r l (omega arith) e);
-        clock = omega (arith, B .elapsed, d);
+        clock = omega arith;
         counted =
-            let same : (p : ℕ) → p < slots → M p ≡ v .lists p = λ p h. B .lists p (omega (arith, h)) ∙ change-other (v .lists) expired l p (omega (arith, h)) in
+            let same : (p : ℕ) → p < slots → M p ≡ v .lists p = λ p h. B .lists p (omega arith) ∙ change-other (v .lists) expired l p (omega (arith, h)) in
             omega (arith, total-ext (λ p x. p / 64) slots M (v .lists) same);
         few = omega arith;
         idle = λ z. refl;
@@ -235,45 +257,10 @@ module _ (v : View) (R : Rule (v .deadline) (v .elapsed) (v .lists)) {now : ℕ}
         deadline = B .deadline;
         turn = λ y h. B .turn y h;
       }
-  poll-works (handed {r} {m} {n} {e} {L} empty P) =
-      let Q = poll-law (rule-between R) empty not-back P in
-      let u : View = withElapsed e (withLists L v) in
-      let B = freed-beside r u in
-      let M : Lists = freed r u .lists in
-      record {
-        got = some r;
-        moves = m;
-        drains = n;
-        is = refl;
-        fair = fairly empty (some r) (Q .fair);
-        kept = λ w. omega (arith, total-ext (λ p x. w x) free M L (B .lists), weighed empty Q w);
-        clock = B .elapsed ∙ Q .clock;
-        counted = omega (arith, total-ext (λ p x. p / 64) slots M L (λ p h. B .lists p (omega (arith, h))), Q .counted);
-        few = Q .few;
-        idle = Q .none;
-        size = B .size;
-        value = B .value;
-        deadline = B .deadline;
-        turn = λ y h. B .turn y h;
-      }
-  poll-works (nothing {m} {n} {e} {L} empty P) =
-      let Q = poll-law (rule-between R) empty not-back P in
-      record {
-        got = none;
-        moves = m;
-        drains = n;
-        is = refl;
-        fair = fairly empty none (Q .fair);
-        kept = weighed empty Q;
-        clock = Q .clock;
-        counted = Q .counted;
-        few = Q .few;
-        idle = Q .none;
-        size = refl;
-        value = refl;
-        deadline = refl;
-        turn = λ y h. refl;
-      }
+  poll-works (handed {r} {e = e} {L = L} empty P) =
+      let B = freed-beside r (withElapsed e (withLists L v)) in
+      by-wheel empty P _ B (λ y h. B .turn y h)
+  poll-works (nothing {e = e} {L = L} empty P) = by-wheel empty P _ (beside-same 0 (withElapsed e (withLists L v))) (λ y h. refl)
 
 -- ---- the promises of one poll
 
@@ -310,12 +297,6 @@ pending-times v y k = lies-times free (v .lists) y (k .0) (k .1 .timed) (k .1 .m
 times-pending : (v : View) (y : ℕ) → 0 < weigh (hits y) (v .lists) → IsPending v y
 times-pending v y h = let r = times-lies free (v .lists) y h in (r .0, record { timed = r .1; member = r .2 })
 
--- the key of a pending record names it
-pub key-of-names : {s : QueueWords} → Sound s → {r p : ℕ} → At (view s) r p → Names (view s) (keyOf (view s) r) r p
-key-of-names {s} S {r} {p} a =
-    let b = stack.member-below (S .whole .stack) p r (a .member) in
-    record { number = omega (arith, b, S .few); below = b; pending = a; turn = omega (arith, b, S .few) }
-
 module _ {s : QueueWords} (S : Sound s) {now : ℕ} (not-back : elapsed s ≤ now) {a : Answer} {t : QueueWords} (P : PollClaim s now a t) where
   pub poll-parts : Polled (view s) now (told a) (view t)
   poll-parts = poll-works (view s) (S .rule) not-back (P .good S .done not-back .1)
@@ -324,8 +305,8 @@ module _ {s : QueueWords} (S : Sound s) {now : ℕ} (not-back : elapsed s ≤ no
   unfolding pending
   poll-least = by (poll-parts .got) (poll-parts .is) (poll-parts .fair) (poll-parts .kept) (poll-parts .turn)
     where
-      stays : (o : Option ℕ) → ((y : ℕ) → Other o y → view t .turn y ≡ view s .turn y) → (y : ℕ) → Other o y → Stays (view s) (view t) y
-      stays o f y h = record { value = ap (λ (g : ℕ → ℕ). g y) (poll-parts .value); deadline = ap (λ (g : ℕ → ℕ). g y) (poll-parts .deadline); turn = f y h }
+      stays : (o : Option ℕ) → ((y : ℕ) → Other o y → view t .turn y ≡ view s .turn y) → (y : ℕ) → Other o y → SameRecord (view s) (view t) y
+      stays o f y h = record { value = λ i. poll-parts .value i y; deadline = λ i. poll-parts .deadline i y; turn = f y h }
 
       by : (o : Option ℕ) → told a ≡ saysOf (view s) o (poll-parts .moves) (poll-parts .drains) → Fairly (view s) now o
           → ((w : ℕ → ℕ) → weigh w (view t .lists) + given w o ≡ weigh w (view s .lists))
@@ -336,14 +317,14 @@ module _ {s : QueueWords} (S : Sound s) {now : ℕ} (not-back : elapsed s ≤ no
           let back : (y : ℕ) → IsPending (view t) y → IsPending (view s) y
           = λ y h. times-pending (view s) y (omega (arith, k (hits y), pending-times (view t) y h)) in
           record {
-            hands-out = (λ o. absurd (none-out (sym is ∙ o .5)), λ d. absurd (omega (arith, f (d .0) (d .1), d .2)));
+            hands-out = (λ o. absurd (none-out (sym is ∙ o .5)), λ d. absurd (omega (arith, f (d .0) (d .1))));
             otherwise = λ d. (_, _, is);
             out = λ k w d m n e. absurd (none-out (sym is ∙ e));
             rest = λ m n e. record { stay = λ y h. (there y h, stays none g y tt); only = back; same = omega (arith, k (λ x. 1)) };
           }
       by (some r) is f k g =
           let gone : IsPending (view t) r → ⊥
-          = λ h. omega (arith, k (hits r), hit r, once S r, pending-times (view t) r h) in
+          = λ h. let one : hits r r ≡ 1 = rw (eq-eqb r r refl) in omega (arith, k (hits r), lies-once S r free, pending-times (view t) r h) in
           record {
             hands-out = (λ o. (r, f .0, f .1), λ d. (_, _, _, _, _, is));
             otherwise = λ d. absurd (d (r, f .0, f .1));
@@ -357,16 +338,16 @@ module _ {s : QueueWords} (S : Sound s) {now : ℕ} (not-back : elapsed s ≤ no
                   names = rw a (key-of-names S (f .0 .1));
                   value = cc;
                   deadline = b;
-                  due = omega (arith, b, f .1);
-                  least = λ y h. omega (arith, b, f .2 y h);
+                  due = omega arith;
+                  least = λ y h. omega (arith, f .2 y h);
                   gone = gone;
                   dead = λ j q N.
-                      let z : j ≡ r = N .number ∙ ap (λ (x : ℕ). x % 65536) a ∙ sym (key-of-names S (f .0 .1) .number) in
+                      let z : j ≡ r = N .number ∙ ap (λ x. x % 65536) a ∙ sym (key-of-names S (f .0 .1) .number) in
                       gone (q, rw z at (N .pending));
                   others = λ y h z.
-                      let there = times-pending (view t) y (omega (arith, k (hits y), miss r y (λ e. z (sym e)), pending-times (view s) y h)) in
-                      (there, stays (some r) g y z);
-                  only = λ y h. (times-pending (view s) y (omega (arith, k (hits y), pending-times (view t) y h)), λ (z : y ≡ r). gone (rw z at h));
+                      let none : hits y r ≡ 0 = rw (ne-eqb r y (λ e. z (sym e))) in
+                      (times-pending (view t) y (omega (arith, k (hits y), pending-times (view s) y h)), stays (some r) g y z);
+                  only = λ y h. (times-pending (view s) y (omega (arith, k (hits y), pending-times (view t) y h)), λ z. gone (rw z at h));
                   fewer = k (λ x. 1);
                 };
             rest = λ m n e. absurd (none-out (sym e ∙ is));
@@ -380,10 +361,7 @@ module _ {s : QueueWords} (S : Sound s) {now : ℕ} (not-back : elapsed s ≤ no
       by none is c = record { out = λ k w d m n e. absurd (none-out (sym is ∙ e)); rest = λ m n e. c }
       by (some r) is c =
           record {
-            out = λ k w d m n e.
-                let q : saysOf (view s) (some r) (poll-parts .moves) (poll-parts .drains) ≡ T.out k w d m n = sym is ∙ e in
-                let b : view s .deadline r ≡ d = cc in
-                rw b at c;
+            out = λ k w d m n e. let b : view s .deadline r ≡ d = cc in rw b at c;
             rest = λ m n e. absurd (none-out (sym e ∙ is));
           }
 
@@ -400,4 +378,4 @@ module _ {s : QueueWords} (S : Sound s) {now : ℕ} (not-back : elapsed s ≤ no
   pub poll-drains : (drainsOf (told a) ≤ movesOf (told a)) × ((drainsOf (told a) ≡ 0) ↔ (movesOf (told a) ≡ 0))
   poll-drains =
       let c = poll-counts in
-      (omega (arith, c, poll-parts .few), (λ z. c .0 ∙ poll-parts .idle (sym (c .1) ∙ z), λ z. omega (arith, c, poll-parts .few, z)))
+      (omega (arith, poll-parts .few), (λ z. c .0 ∙ poll-parts .idle (sym (c .1) ∙ z), λ z. omega (arith, poll-parts .few)))

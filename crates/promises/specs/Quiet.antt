@@ -10,7 +10,7 @@ use Rattle.links.specs.Lists.{Mem, change-same, change-other}
 use Rattle.stack.specs.Places.{expired, free, put}
 use Rattle.stack.specs.Format.{formatted}
 use Rattle.stack.specs.Laws as stack
-use Rattle.wheel.specs.Wheel.{Lists, idle}
+use Rattle.wheel.specs.Wheel.{idle}
 use Rattle.wheel.specs.One.{polls-one}
 use Rattle.queue.specs.declared.Answer.{Answer}
 use Rattle.queue.specs.Told.{Told}
@@ -40,15 +40,15 @@ quiet-polls E (nothing e P) = let S = polls-one P (idle (λ q h. E q (omega arit
 
 pub quiet-poll : {s t : QueueWords} {a : Answer} {e now : ℕ} → Quiet s e → e ≤ now → PollClaim s now a t → Quiet t now
 quiet-poll {s} {t} Q h P =
-    let D = P .good (Q .sound) .done (omega (arith, Q .clock)) in
+    let D = P .good (Q .sound) .done (omega arith) in
     let r = quiet-polls (Q .empty) (D .1) in
     record {
       sound = D .0;
       clock = r .0;
-      empty = λ p g. ap (λ (L : Lists). L p) (r .1) ∙ Q .empty p g;
+      empty = λ p g. ap (λ L. L p) (r .1) ∙ Q .empty p g;
       item = Q .item;
       rest = Q .rest;
-      first = ap (λ (L : Lists). L free) (r .1) ∙ Q .first;
+      first = ap (λ L. L free) (r .1) ∙ Q .first;
     }
 
 one-count : count one ≡ 1
@@ -78,17 +78,17 @@ placed-expired : (v : View) (x when : ℕ) → when ≤ v .elapsed → v .lists 
 unfolding placed target put
 placed-expired v x when h e =
     let w : max when (v .elapsed) ≡ v .elapsed = omega arith in
-    (refl, rw (w, eq-eqb (v .elapsed) (v .elapsed) refl) (change-same (v .lists) expired (put expired x (v .lists expired)) ∙ ap (λ (l : List ℕ). x ∷ l) e))
+    (refl, rw (w, eq-eqb (v .elapsed) (v .elapsed) refl) (change-same (v .lists) expired (put expired x (v .lists expired)) ∙ ap (λ l. x ∷ l) e))
 
 -- one that is inserted with a deadline not past elapsed waits on the expired stack
 pub quiet-expired : {s t : QueueWords} {a : Answer} {value when e : ℕ} (Q : Quiet s e) → when ≤ e → InsertClaim s value when a t
     → Sound t × (elapsed t ≡ e) × (view t .lists expired ≡ Q .item ∷ [])
 quiet-expired {s} {t} {value = value} {when = when} Q h I =
-    let A = I .good (Q .sound) .done (Q .item) (Q .rest) (Q .first) (λ k. absurd (omega (arith, Q .clock))) in
-    let v : View = withValue (upd (view s .value) (Q .item) value) (taken (Q .rest) (view s)) in
+    let A = I .good (Q .sound) .done (Q .item) (Q .rest) (Q .first) (λ k. absurd (omega arith)) in
+    let v = withValue (upd (view s .value) (Q .item) value) (taken (Q .rest) (view s)) in
     let e = change-other (view s .lists) free (Q .rest) expired (omega arith) ∙ Q .empty expired (omega arith) in
     let P = placed-expired v (Q .item) when (omega (arith, Q .clock)) e in
-    (A .sound, ap (λ (u : View). u .elapsed) (A .view) ∙ P .0 ∙ Q .clock, ap (λ (u : View). u .lists expired) (A .view) ∙ P .1)
+    (A .sound, cc, cc)
 
 -- so there is a store with an expired timer waiting, at any time
 pub expired-shown : (e : ℕ) → (s : QueueWords) × Sound s × (elapsed s ≡ e) × ((r : ℕ) × (view s .lists expired ≡ r ∷ []))

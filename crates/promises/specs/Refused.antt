@@ -1,5 +1,5 @@
 -- Each refusal has its own number, is given exactly when the table of document 01 says, in its order, and changes nothing.
-use mathlib.Core.Path.{_≡_, refl, sym, ap, _∙_, subst}
+use mathlib.Core.Path.{_≡_, refl, sym, ap, _∙_}
 use mathlib.Core.Logic.{_≢_, _⊎_, inl, inr, ⊎-elim, by-cases}
 use mathlib.Core.Bool.{false, true≢false}
 use mathlib.Core.List.{List, [], _∷_}
@@ -14,7 +14,6 @@ use Rattle.queue.specs.Told.{Told, told}
 use Rattle.queue.specs.Told as T
 use Rattle.records.specs.View.{View}
 use Rattle.records.specs.Records.{At, Names, TooFar, OtherBlock, Near}
-use Rattle.queue.specs.Steps.{QueuePolls, popped, handed, nothing, Wakes, sleeps, starts}
 use Rattle.records.specs.Words.{QueueWords, count, elapsed, markOf, view, Sound, all-refl}
 use Rattle.queue.specs.Calls.{Refused, Answered, InsertOn}
 use Rattle.records.specs.Code.{key-names}
@@ -31,10 +30,10 @@ use Rattle.promises.specs.Once.{all-past}
 -- ---- the table
 
 -- 6: "remove, reset: record number N or above, record not pending, or turn differs"
-pub data Dead (v : View) (key : ℕ) : Type 0 where
-  beyond : v .n ≤ key % 65536 → Dead v key
-  absent : ((p : ℕ) → At v (key % 65536) p → ⊥) → Dead v key
-  stale : v .turn (key % 65536) ≢ key / 65536 → Dead v key
+pub data NoSuchKey (v : View) (key : ℕ) : Type 0 where
+  beyond : v .n ≤ key % 65536 → NoSuchKey v key
+  absent : ((p : ℕ) → At v (key % 65536) p → ⊥) → NoSuchKey v key
+  stale : v .turn (key % 65536) ≢ key / 65536 → NoSuchKey v key
 
 -- lines of the table in the order in which they are judged: a number, and what it is given for
 pub data Lines : Type 1 where
@@ -50,8 +49,8 @@ linesOf (C.Format n turn) s = line 1 (Fits s n → ⊥) (line 8 (InRange turn �
 linesOf (C.Insert value when) s =
     line 2 (Sound s → ⊥) (line 3 (view s .lists free ≡ []) (line 4 (TooFar (elapsed s) when) (line 5 (OtherBlock (elapsed s) when) end)))
 linesOf (C.Reset key when) s =
-    line 2 (Sound s → ⊥) (line 6 (Dead (view s) key) (line 4 (TooFar (elapsed s) when) (line 5 (OtherBlock (elapsed s) when) end)))
-linesOf (C.Remove key) s = line 2 (Sound s → ⊥) (line 6 (Dead (view s) key) end)
+    line 2 (Sound s → ⊥) (line 6 (NoSuchKey (view s) key) (line 4 (TooFar (elapsed s) when) (line 5 (OtherBlock (elapsed s) when) end)))
+linesOf (C.Remove key) s = line 2 (Sound s → ⊥) (line 6 (NoSuchKey (view s) key) end)
 linesOf (C.Poll now) s = line 2 (Sound s → ⊥) (line 7 (now < elapsed s) end)
 linesOf C.Wake s = line 2 (Sound s → ⊥) end
 linesOf C.Length s = line 2 (Sound s → ⊥) end
@@ -90,9 +89,9 @@ first-listed (line j P l) k (inr x) = inr (first-listed l k (x .1))
 -- ---- how the lines and the claims go together
 
 -- a key names a pending record, or is dead
-names-or-dead : {s : QueueWords} → Sound s → (key : ℕ) → Dead (view s) key ⊎ ((r : ℕ) × (p : ℕ) × Names (view s) key r p)
+names-or-dead : {s : QueueWords} → Sound s → (key : ℕ) → NoSuchKey (view s) key ⊎ ((r : ℕ) × (p : ℕ) × Names (view s) key r p)
 names-or-dead {s} S key =
-    let i : ℕ = key % 65536 in
+    let i = key % 65536 in
     by-cases (decLt i (count s))
     (λ b.
     by-cases (decLt (markOf s i) free)
@@ -100,11 +99,11 @@ names-or-dead {s} S key =
     by-cases (ℕ-discrete (at (s .turns) i) (key / 65536))
     (λ t. inr (i, markOf s i, key-names S key (record { number = refl; below = b; pending = m; turn = t })))
     (λ d. inl (stale d)))
-    (λ m. inl (absent (λ p a. m (omega (arith, mark-at S a, a .timed))))))
-    (λ b. inl (beyond (omega (arith, b))))
+    (λ m. inl (absent (λ p a. m (omega (arith, mark-at S a))))))
+    (λ b. inl (beyond (omega arith)))
 
-dead-names : {v : View} {key : ℕ} → Dead v key → (r p : ℕ) → Names v key r p → ⊥
-dead-names (beyond h) r p N = omega (arith, N .number, N .below)
+dead-names : {v : View} {key : ℕ} → NoSuchKey v key → (r p : ℕ) → Names v key r p → ⊥
+dead-names (beyond h) r p N = omega arith
 dead-names {v} (absent f) r p N = f p (rw (N .number) at (N .pending))
 dead-names {v} (stale d) r p N = d (rw (N .number) at (N .turn))
 
@@ -138,11 +137,11 @@ module _ {s t : QueueWords} {a : Answer} where
   by-when w f g h =
       by-deadline (elapsed s) w
       (λ x. stop x (f x))
-      (λ x. pass (λ y. omega (arith, x .1, y .1)) (stop x (g x)))
+      (λ x. pass (λ y. omega arith) (stop x (g x)))
       (λ x. pass (λ y. far-not y x) (pass (λ y. y .2 (x (y .0))) (h x)))
     where
       far-not : TooFar (elapsed s) w → Near (elapsed s) w → ⊥
-      far-not y x = omega (arith, y .1, x (y .0))
+      far-not y x = omega (arith, x (y .0))
 
   format-settled : {n turn : ℕ} → FormatClaim s n turn a t → Settled n s a t (linesOf (C.Format n turn) s)
   format-settled {n} {turn} F =
@@ -152,7 +151,7 @@ module _ {s t : QueueWords} {a : Answer} where
       (by-cases (range-dec turn)
       (λ y.
       let D = F .done x y in
-      pass (λ f. f y) (accepted (λ k z. z) (ap isNo (D .told)) (ap (λ (v : View). v .n) (D .view)) (D .kept)))
+      pass (λ f. f y) (accepted (λ k z. z) (ap isNo (D .told)) (ap (λ v. v .n) (D .view)) (D .kept)))
       (λ f. stop f (F .outside x f))))
       (λ f. stop f (F .short f))
 
@@ -169,7 +168,7 @@ module _ {s t : QueueWords} {a : Answer} where
 
   -- 6
   by-names : {l : Lines} → Sound s → (key : ℕ) → (((r p : ℕ) → Names (view s) key r p → ⊥) → Refused 6 s a t)
-      → ((r p : ℕ) → Names (view s) key r p → Settled (count s) s a t l) → Settled (count s) s a t (line 6 (Dead (view s) key) l)
+      → ((r p : ℕ) → Names (view s) key r p → Settled (count s) s a t l) → Settled (count s) s a t (line 6 (NoSuchKey (view s) key) l)
   by-names S key f g =
       ⊎-elim
       (λ d. stop d (f (dead-names d)))
@@ -181,7 +180,7 @@ looked : {s : QueueWords} {a : Answer} → isNo (told a) ≡ false → Settled (
 looked {s} e = accepted (λ k x. x) e refl (all-past (all-refl s))
 
 looks : {s t : QueueWords} {a : Answer} {l : Lines} → t ≡ s → Settled (count s) s a s l → Settled (count s) s a t l
-looks {s} {t} {a} {l} e E = subst (λ (u : QueueWords). Settled (count s) s a u l) (sym e) E
+looks {s} {t} {a} {l} e E = rw e E
 
 settled : (c : Call) (s : QueueWords) (a : Answer) (t : QueueWords) → CallClaim c s a t → Settled (reach c s) s a t (linesOf c s)
 settled (C.Format n turn) s a t A = format-settled A
@@ -193,7 +192,7 @@ settled (C.Poll now) s a t A =
     judged A (λ S P.
     by-cases (decLt now (elapsed s))
     (λ h. stop h (P .back h))
-    (λ h. pass h (let d = P .done (omega (arith, h)) in accepted (λ k x. x) (polls-says (d .1)) (d .2 .links .size) (all-past (d .2)))))
+    (λ h. pass h (let d = P .done (omega arith) in accepted (λ k x. x) (polls-says (d .1)) (d .2 .links .size) (all-past (d .2)))))
 settled C.Wake s a t A = looks (A .1) (judged (A .0) (λ S W. looked (wakes-says (W .done))))
 settled C.Length s a t A = looks (A .1) (judged (A .0) (λ S W. looked (ap isNo (W .done))))
 settled C.Clear s a t A = judged A (λ S K. done-so refl (K .done))
@@ -241,7 +240,7 @@ seven-though-waiting {s} {t} {a} {now} P S e h = refused-exactly (C.Poll now) s 
 
 -- a store where that happens
 pub seven-shown : (s : QueueWords) × Sound s × (0 < elapsed s) × ((r : ℕ) × (l : List ℕ) × (view s .lists expired ≡ r ∷ l))
-seven-shown = let x = expired-shown 1 in (x .0, x .1, omega (arith, x .2), (x .3 .0, [], x .3 .1))
+seven-shown = let x = expired-shown 1 in (x .0, x .1, omega arith, (x .3 .0, [], x .3 .1))
 
 -- the deadline that a call asks for; 0 where it asks for none
 abbrev pub whenOf : Call → ℕ

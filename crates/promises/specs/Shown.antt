@@ -10,14 +10,14 @@ use Rattle.links.specs.Lists.{Mem, change, change-same, change-other}
 use Rattle.stack.specs.Places.{slots, free, put}
 use Rattle.stack.specs.Format.{over, formatted}
 use Rattle.stack.specs.Laws as stack
-use Rattle.wheel.specs.Wheel.{Lists, placeFor}
+use Rattle.wheel.specs.Wheel.{placeFor}
 use Rattle.wheel.specs.Sums.{total, total-ext, total-more}
 use Rattle.wheel.specs.Drain.{heights}
 use Rattle.queue.specs.declared.Answer.{Answer}
 use Rattle.queue.specs.declared.Answer.the-variants as A
 use Rattle.queue.specs.Told.{told}
 use Rattle.queue.specs.Told as T
-use Rattle.records.specs.View.{View, withValue, upd}
+use Rattle.records.specs.View.{withValue, upd}
 use Rattle.records.specs.Records.{keyOf, At, taken, target, placed}
 use Rattle.queue.specs.Steps.{pending}
 use Rattle.records.specs.Words.{QueueWords, count, elapsed, view, Sound, upd-same}
@@ -45,14 +45,14 @@ alone {s} S c p f = by (view s .lists p) refl
     by [] e = e
     by (x ∷ l) e =
         let m : Mem x (view s .lists p) = rw e (inl refl) in
-        let z : x ≡ 0 = omega (arith, stack.member-below (S .whole .stack) p x m, c) in
-        absurd (f (subst (λ (y : ℕ). Mem y (view s .lists p)) z m))
+        let z : x ≡ 0 = omega (arith, stack.member-below (S .whole .stack) p x m) in
+        absurd (f (rw z at m))
 
 one-empty : (p : ℕ) → p < free → view one .lists p ≡ []
 one-empty p h =
     let W = one-sound .whole .stack in
     let f : Mem 0 (view one .lists free) = rw one-free (inl refl) in
-    alone one-sound one-count p (λ m. omega (arith, h, stack.member-mark W p 0 m, stack.member-mark W free 0 f))
+    alone one-sound one-count p (λ m. omega (arith, stack.member-mark W p 0 m, stack.member-mark W free 0 f))
 
 -- ---- the timer is inserted
 
@@ -72,28 +72,28 @@ place-70 = refl
 waiting-lists : view waiting .lists ≡ change (change (view one .lists) free []) 65 (put 65 0 (change (view one .lists) free [] 65))
 unfolding placed
 waiting-lists =
-    let L : Lists = change (view one .lists) free [] in
-    ap (λ (v : View). v .lists) waiting-view ∙ ap (λ (p : ℕ). change L p (put p 0 (L p))) place-70
+    let L = change (view one .lists) free [] in
+    ap (λ v. v .lists) waiting-view ∙ ap (λ p. change L p (put p 0 (L p))) place-70
 
 waiting-size : count waiting ≡ 1
 unfolding placed
-waiting-size = ap (λ (v : View). v .n) waiting-view ∙ one-count
+waiting-size = ap (λ v. v .n) waiting-view ∙ one-count
 
 waiting-elapsed : elapsed waiting ≡ 0
 unfolding placed
-waiting-elapsed = ap (λ (v : View). v .elapsed) waiting-view
+waiting-elapsed = ap (λ v. v .elapsed) waiting-view
 
 waiting-value : view waiting .value 0 ≡ 7
 unfolding placed
-waiting-value = ap (λ (v : View). v .value 0) waiting-view ∙ upd-same (view one .value) 0 7
+waiting-value = ap (λ v. v .value 0) waiting-view ∙ upd-same (view one .value) 0 7
 
 waiting-deadline : view waiting .deadline 0 ≡ 70
 unfolding placed
-waiting-deadline = ap (λ (v : View). v .deadline 0) waiting-view ∙ upd-same (view one .deadline) 0 70
+waiting-deadline = ap (λ v. v .deadline 0) waiting-view ∙ upd-same (view one .deadline) 0 70
 
 waiting-turn : view waiting .turn 0 ≡ 1
 unfolding placed over
-waiting-turn = ap (λ (v : View). v .turn 0) waiting-view
+waiting-turn = ap (λ v. v .turn 0) waiting-view
 
 waiting-at : At (view waiting) 0 65
 unfolding put
@@ -101,15 +101,15 @@ waiting-at =
     record {
       timed = omega arith;
       member =
-          let L : Lists = change (view one .lists) free [] in
+          let L = change (view one .lists) free [] in
           let m : Mem 0 (change L 65 (put 65 0 (L 65)) 65) = rw (change-same L 65 (put 65 0 (L 65))) (inl refl) in
-          subst (λ (M : Lists). Mem 0 (M 65)) (sym waiting-lists) m;
+          subst (λ M. Mem 0 (M 65)) (sym waiting-lists) m;
     }
 
 waiting-total : (u : ℕ → ℕ → ℕ) (n : ℕ) → 65 < n → n ≤ free → total u n (view waiting .lists) ≡ u 65 0
 waiting-total u n h k =
-    let L : Lists = change (view one .lists) free [] in
-    let empty : (p : ℕ) → p < n → L p ≡ [] = λ p g. change-other (view one .lists) free [] p (omega (arith, g, k)) ∙ one-empty p (omega (arith, g, k)) in
+    let L = change (view one .lists) free [] in
+    let empty : (p : ℕ) → p < n → L p ≡ [] = λ p g. change-other (view one .lists) free [] p (omega arith) ∙ one-empty p (omega arith) in
     omega (arith, ap (total u n) waiting-lists, total-more u n L 65 0 h, total-ext u n L (λ p. []) empty, total-none u n)
 
 waiting-heights : heights (view waiting .lists) ≡ 1
@@ -127,7 +127,7 @@ module _ {s : QueueWords} (S : Sound s) (c : count s ≡ 1) {p now : ℕ} (b : A
   left-empty : {t : QueueWords} → Sound t → count t ≡ 1 → ((q : ℕ) → At (view t) 0 q → ⊥) → heights (view t .lists) ≡ 0
   unfolding heights
   left-empty {t} T e f =
-      total-ext (λ q x. q / 64) slots (view t .lists) (λ q. []) (λ q h. alone T e q (λ m. f q (record { timed = omega (arith, h); member = m })))
+      total-ext (λ q x. q / 64) slots (view t .lists) (λ q. []) (λ q h. alone T e q (λ m. f q (record { timed = omega arith; member = m })))
       ∙ total-none (λ q x. q / 64) slots
 
   -- the only timer, due and at height 1, comes out with one move and one drain
@@ -141,21 +141,20 @@ module _ {s : QueueWords} (S : Sound s) (c : count s ≡ 1) {p now : ℕ} (b : A
       by : {k w d m n : ℕ} → HandsLeast (view s) now k w d (view t) → told a ≡ T.out k w d m n
           → told a ≡ T.out (keyOf (view s) 0) (view s .value 0) (view s .deadline 0) 1 1
       by {k} {w} {d} {m} {n} H is =
-          let z : H .timer ≡ 0 = omega (arith, H .names .below, c) in
-          let N = H .names in
+          let z : H .timer ≡ 0 = omega arith in
           let t₀ : view s .turn (H .timer) ≡ view s .turn 0 = ap (view s .turn) z in
-          let e₁ : k ≡ keyOf (view s) 0 = omega (arith, N .number, N .turn, z, t₀) in
+          let e₁ : k ≡ keyOf (view s) 0 = omega arith in
           let e₂ : w ≡ view s .value 0 = H .value ∙ ap (view s .value) z in
           let e₃ : d ≡ view s .deadline 0 = H .deadline ∙ ap (view s .deadline) z in
           let size : count t ≡ 1 = poll-parts S not-back P .size ∙ c in
           let low : heights (view t .lists) ≡ 0
-          = left-empty (P .good S .done not-back .0) size (λ q x. H .gone (q, subst (λ (i : ℕ). At (view t) i q) (sym z) x)) in
+          = left-empty (P .good S .done not-back .0) size (λ q x. H .gone (q, rw z x)) in
           let D = poll-drains S not-back P in
           let m₁ : movesOf (told a) ≡ m = ap movesOf is in
           let n₁ : drainsOf (told a) ≡ n = ap drainsOf is in
-          let e₄ : m ≡ 1 = omega (arith, moves-are-heights S not-back P, low, high, m₁) in
+          let e₄ : m ≡ 1 = omega (arith, moves-are-heights S not-back P) in
           let some : n ≡ 0 → m ≡ 0 = λ q. sym m₁ ∙ D .1 .0 (n₁ ∙ q) in
-          let e₅ : n ≡ 1 = by-cases (ℕ-discrete n 0) (λ q. absurd (omega (arith, some q, e₄))) (λ q. omega (arith, D .0, m₁, n₁, e₄, q)) in
+          let e₅ : n ≡ 1 = by-cases (ℕ-discrete n 0) (λ q. absurd (omega (arith, some q))) (λ q. omega arith) in
           is ∙ rw (e₁, e₂, e₃, e₄, e₅)
 
 -- a poll that hands out a timer
@@ -165,7 +164,7 @@ poll-shown =
     let e = comes-out waiting-sound waiting-size waiting-at (omega (arith, waiting-elapsed)) (omega (arith, waiting-deadline)) waiting-heights (m .2) in
     let k : keyOf (view waiting) 0 ≡ 65536 = omega (arith, waiting-turn) in
     let f : m .0 ≡ A.Out 65536 7 70 1 1 = told-one (m .0) (A.Out 65536 7 70 1 1) (e ∙ rw (k, waiting-value, waiting-deadline)) in
-    (m .1, subst (λ (a : Answer). PollClaim waiting 70 a (m .1)) f (m .2))
+    (m .1, rw f at (m .2))
 
 -- ---- what `waiting-bounded` and `due-comes-out` ask
 
@@ -180,7 +179,7 @@ waited-shown =
         sound = waiting-sound;
         names = record { number = refl; below = omega (arith, waiting-size); pending = waiting-at; turn = waiting-turn };
         runs = next (m .1) rest;
-        quiet = (refl, tt);
+        undisturbed = (refl, tt);
         enough = rw (waiting-deadline, waiting-pending) (omega arith);
       },
       (λ e. let z : _≡_ {A = ℕ} 0 1 = cc in absurd (omega arith), tt),

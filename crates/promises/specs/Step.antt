@@ -1,6 +1,6 @@
 -- Any call: its claim allows one answer and one final content, and there is one; a sound store stays sound; words past what N records need stay, and
 -- after a refusal all do.
-use mathlib.Core.Path.{_≡_, refl, sym, ap, _∙_, subst}
+use mathlib.Core.Path.{_≡_, refl, sym, ap, _∙_}
 use mathlib.Core.Logic.{by-cases}
 use mathlib.Core.Bool.{Bool, true, false, true≢false}
 use mathlib.Core.List.{List, [], _∷_}
@@ -95,7 +95,7 @@ looks : {s : QueueWords} {a : Answer} → Sound s → isNo (told a) ≡ false �
 looks {s} S e = accepted (record { says = e; sound = S; kept = all-past (all-refl s) })
 
 left-so : {s t : QueueWords} {a : Answer} → t ≡ s → Ends (count s) s a s → Ends (count s) s a t
-left-so {s} {t} {a} e E = subst (λ (u : QueueWords). Ends (count s) s a u) (sym e) E
+left-so {s} {t} {a} e E = rw e E
 
 pub polls-says : {v : View} {now : ℕ} {x : Told} {u : View} → QueuePolls v now x u → isNo x ≡ false
 polls-says (popped e) = refl
@@ -147,7 +147,7 @@ module _ {s t : QueueWords} {a : Answer} where
   poll-ends {time} P =
       by-cases (decLt time (elapsed s))
       (λ h. refused 7 (P .back h))
-      (λ h. let d = P .done (omega (arith, h)) in accepted (record { says = polls-says (d .1); sound = d .0; kept = all-past (d .2) }))
+      (λ h. let d = P .done (omega arith) in accepted (record { says = polls-says (d .1); sound = d .0; kept = all-past (d .2) }))
 
 pub step-ends : (c : Call) (s : QueueWords) (a : Answer) (t : QueueWords) → CallClaim c s a t → Ends (reach c s) s a t
 step-ends (C.Format n turn) s a t A = format-ends A
@@ -223,7 +223,7 @@ one-sound = one-made .sound
 
 pub one-free : view one .lists free ≡ 0 ∷ []
 unfolding range
-one-free = ap (λ (v : View). v .lists free) (one-made .view) ∙ change-same (λ p. []) free (range 1 0)
+one-free = ap (λ v. v .lists free) (one-made .view) ∙ change-same (λ p. []) free (range 1 0)
 
 -- a call that is accepted: the first key of a first turn of 1
 pub insert-shown : (t : QueueWords) × InsertClaim one 7 70 (A.Key 65536) t × Sound t
@@ -232,4 +232,4 @@ insert-shown =
     let m = insert-met one 7 70 in
     let D = m .2 .good one-sound .done 0 [] one-free (λ h. refl) in
     let e : m .0 ≡ A.Key 65536 = told-one (m .0) (A.Key 65536) (D .told) in
-    (m .1, subst (λ (a : Answer). InsertClaim one 7 70 a (m .1)) e (m .2), D .sound)
+    (m .1, rw e at (m .2), D .sound)

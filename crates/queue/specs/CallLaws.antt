@@ -71,7 +71,7 @@ module _ {s : QueueWords} (S : Sound s) (value when : ℕ) where
       c = some-free some
 
       was : view s .lists free ≡ item ∷ c .1
-      was = let q = Q .some (c .0) (c .1) (c .2) in c .2 ∙ ap (λ (x : ℕ). x ∷ c .1) (sym (q .0))
+      was = let q = Q .some (c .0) (c .1) (c .2) in c .2 ∙ ap (λ x. x ∷ c .1) (sym (q .0))
 
       abbrev s₁ : QueueWords
       s₁ = queueWords t (s .values) (s .deadlines) (s .turns)
@@ -88,9 +88,9 @@ module _ {s : QueueWords} (S : Sound s) (value when : ℕ) where
       -- what the code asks on the way
       pub insert-words : (item < length (s .values)) × (item < length (s .turns)) × (at (s .turns) item * 65536 + item < 2 ^ 64)
       insert-words = (
-        omega (arith, item-below, S .roomy .values),
-        omega (arith, item-below, S .roomy .turns),
-        omega (arith, S .turns item item-below .1, item-below, stack.small (S .whole .stack)),
+        omega (arith, item-below),
+        omega (arith, item-below),
+        omega (arith, S .turns item item-below .1, item-below),
       )
 
       abbrev s₂ : QueueWords
@@ -100,7 +100,7 @@ module _ {s : QueueWords} (S : Sound s) (value when : ℕ) where
       G₂ = goes-then (λ v. withValue (upd (v .value) item value) v) G₁ (goes-valued (G₁ .sound) item value (loose₁ .below))
 
       near : Near (elapsed s₂) when
-      near = let e : elapsed s₂ ≡ elapsed s = ap (λ (v : View). v .elapsed) (G₂ .view) in rw e (D .taken z)
+      near = let e : elapsed s₂ ≡ elapsed s = ap (λ v. v .elapsed) (G₂ .view) in rw e (D .taken z)
 
       pub insert-place : CanPlace t (s .deadlines) item when
       insert-place = record { whole = G₁ .sound .whole; item = loose₁; word = omega (arith, loose₁ .below, G₁ .sound .roomy .deadlines); near = near }
@@ -111,8 +111,8 @@ module _ {s : QueueWords} (S : Sound s) (value when : ℕ) where
           let G₃ = goes-then (placed item when) G₂ (goes-placed (G₂ .sound) loose₁ when near P) in
           record {
             full = λ f. absurd (nil≢cons (sym f ∙ was));
-            far = λ r l f g. absurd (omega (arith, z, D .far g));
-            other = λ r l f g. absurd (omega (arith, z, D .other g));
+            far = λ r l f g. absurd (omega (arith, D .far g));
+            other = λ r l f g. absurd (omega (arith, D .other g));
             done = λ r l f g.
                 let e : item ∷ c .1 ≡ r ∷ l = sym was ∙ f in
                 let a : item ≡ r = cc in
@@ -126,7 +126,7 @@ pub found-roomed : {s : QueueWords} → Sound s → Roomed (count s) (s .turns) 
 found-roomed S = record { turns = S .roomy .turns; marks = stack.deep (S .whole .stack) .marks }
 
 -- a key names one record only, in one place
-names-one : {s : QueueWords} → Sound s → {key i p j q : ℕ} → Names (view s) key i p → Names (view s) key j q → (i ≡ j) × (p ≡ q)
+pub names-one : {s : QueueWords} → Sound s → {key i p j q : ℕ} → Names (view s) key i p → Names (view s) key j q → (i ≡ j) × (p ≡ q)
 names-one {s} S {key} {i} {p} {j} {q} M N =
     let e : i ≡ j = M .number ∙ sym (N .number) in
     (e, sym (stack.member-mark (S .whole .stack) p i (M .pending .member)) ∙ ap (markOf s) e ∙ stack.member-mark (S .whole .stack) q j (N .pending .member))
@@ -153,7 +153,7 @@ module _ {s : QueueWords} (S : Sound s) (key when : ℕ) where
     found-leaves = can-leave S (M .pending)
 
     pub found-words : (i < length (s .values)) × (i < length (s .deadlines)) × (i < length (s .turns))
-    found-words = (omega (arith, K .below, S .roomy .values), omega (arith, K .below, S .roomy .deadlines), omega (arith, K .below, S .roomy .turns))
+    found-words = (omega arith, omega arith, omega arith)
 
     module _ {n : ℕ} (D : DeadlineNo (elapsed s) when n) where
       pub reset-refused : n ≢ 0 → ResetOn s key when (A.No n) s
@@ -181,8 +181,8 @@ module _ {s : QueueWords} (S : Sound s) (key when : ℕ) where
             let H₂ = goes-then (placed i when) H₁ (goes-placed (H₁ .sound) (Q .item) when near-left P) in
             record {
               dead = λ f. absurd (f i (markOf s i) M);
-              far = λ r p N g. absurd (omega (arith, z, D .far g));
-              other = λ r p N g. absurd (omega (arith, z, D .other g));
+              far = λ r p N g. absurd (omega (arith, D .far g));
+              other = λ r p N g. absurd (omega (arith, D .other g));
               done = λ r p N g. let e = names-one S M N in rw (← e .0, ← e .1) (answered refl H₂);
             }
 

@@ -1,6 +1,6 @@
 -- Poll, next wake, length and clear: what the proofs of the functions cite.
 use mathlib.Core.Path.{_≡_, refl, sym, ap, _∙_, subst}
-use mathlib.Core.Logic.{_≢_, by-cases}
+use mathlib.Core.Logic.{_≢_, ⊎-elim, by-cases}
 use mathlib.Core.Bool.{Bool, true, false}
 use mathlib.Core.List.{List, [], _∷_}
 use mathlib.Core.Option.{Option, none, some}
@@ -10,17 +10,17 @@ use native.Mathlib.Omega.{arith}
 use native.Mathlib.Numerals.{add-one}
 use lib.ListN.{length}
 use lib.Dec.{ltb}
+use borrow.Author.Count.{below-more}
 use borrow.Author.Tests.{eq-eqb, ne-eqb, lt-ltb, le-ltb}
-use Rattle.times.specs.Times.{startAt}
-use Rattle.links.specs.Lists.{nobody, Mem, without, change, change-same, change-other}
+use Rattle.links.specs.Lists.{nobody, Mem, without, change, change-other}
 use Rattle.links.specs.Links.{at}
 use Rattle.links.specs.Laws.{kept-refl}
 use Rattle.links.specs.Count.{cnt, elem, cnt-ext, cnt-elem, mem-elem, elem-mem}
 use Rattle.links.specs.Judge.{cat, mem-cat, cat-mem, cat-nodup}
 use Rattle.stack.specs.Places.{expired, free}
 use Rattle.stack.specs.Laws as stack
-use Rattle.wheel.specs.Wheel.{Lists, Polls}
-use Rattle.wheel.specs.Sums.{total-zero, total-scale, mem-left}
+use Rattle.wheel.specs.Wheel.{Polls}
+use Rattle.wheel.specs.Sums.{mem-change, mem-left, total-zero, total-scale}
 use Rattle.wheel.specs.Between.{rule-less}
 use Rattle.wheel.specs.declared.Wake.{Wake}
 use Rattle.wheel.specs.declared.Wake.the-variants.{At as Wake·At, Never}
@@ -48,10 +48,10 @@ pub record HandsOut (s : QueueWords) (i moves drains : ℕ) (a : Answer) (s′ :
 module _ {s : QueueWords} (S : Sound s) {i : ℕ} (o : LooseAt s i) where
   pub out-words : (i < length (s .values)) × (i < length (s .deadlines)) × (i < length (s .turns)) × (at (s .turns) i * 65536 + i < 2 ^ 64)
   out-words = (
-    omega (arith, o .below, S .roomy .values),
-    omega (arith, o .below, S .roomy .deadlines),
-    omega (arith, o .below, S .roomy .turns),
-    omega (arith, S .turns i (o .below) .1, o .below, stack.small (S .whole .stack)),
+    omega arith,
+    omega arith,
+    omega arith,
+    omega (arith, S .turns i (o .below) .1),
   )
 
   pub out-frees : CanFree (s .wheel) (s .turns) i
@@ -107,7 +107,7 @@ module _ {s : QueueWords} (S : Sound s) (time : ℕ) where
             record {
               whole = B .whole;
               rule = G₂ .sound .rule;
-              stack = ap (λ (L : Lists). L expired) (B .lists) ∙ empty;
+              stack = ap (λ L. L expired) (B .lists) ∙ empty;
               not-back = omega (arith, B .elapsed);
               deadlines = G₂ .sound .roomy .deadlines;
             }
@@ -123,15 +123,15 @@ module _ {s : QueueWords} (S : Sound s) (time : ℕ) where
           G₃ =
               record {
                 sound = record {
-                  some = omega (arith, S .some, size);
-                  few = omega (arith, S .few, size);
+                  some = omega (arith, size);
+                  few = omega (arith, size);
                   roomy = record {
-                    values = omega (arith, S .roomy .values, size);
-                    deadlines = omega (arith, S .roomy .deadlines, size);
-                    turns = omega (arith, S .roomy .turns, size);
+                    values = omega (arith, size);
+                    deadlines = omega (arith, size);
+                    turns = omega (arith, size);
                   };
                   whole = R .whole;
-                  turns = λ j h. S .turns j (omega (arith, h, size));
+                  turns = λ j h. S .turns j (omega (arith, size));
                   rule = R .rule;
                 };
                 view = view-eq size refl refl refl refl refl;
@@ -161,12 +161,10 @@ module _ {s : QueueWords} (S : Sound s) (time : ℕ) where
 
 module _ (v : View) {e : ℕ} (h : v .elapsed ≡ e) {r : Wake} (W : WakeIs e (v .lists) r) where
   pub wake-never : r ≡ Never → Wakes v never
-  wake-never q = sleeps (subst (WakeIs e (v .lists)) q W)
+  wake-never q = sleeps (rw q at W)
 
   pub wake-at : {t : ℕ} → r ≡ Wake·At t → Wakes v (wake t)
-  wake-at {t} q =
-      let x = subst (WakeIs e (v .lists)) q W in
-      subst (λ (y : ℕ). Wakes v (wake y)) (sym (x .3 ∙ ap (λ (z : ℕ). startAt z (x .0) (x .1)) (sym h))) (starts (rw h (x .2)))
+  wake-at q = let x = rw (q, ← h) at W in rw (x .3) (starts (x .2))
 
 -- ---- length
 
@@ -190,21 +188,21 @@ pending-same mk i h = rw (add-one, le-ltb (mk i) free h) (omega arith)
 pub pending-is : {s : QueueWords} → Sound s → pendingIn (markOf s) (count s) ≡ pending (view s)
 unfolding pendingIn pending
 pending-is {s} S =
-    let L : Lists = view s .lists in
+    let L = view s .lists in
     let W = S .whole .stack in
-    let c : List ℕ = cat L free 0 in
+    let c = cat L free 0 in
     let below : (i : ℕ) → Mem i c → i < count s = λ i m. let r = mem-cat L free 0 i m in stack.member-below W (r .0) i (r .3) in
     let same : (i : ℕ) → i < count s → ltb (markOf s i) free ≡ elem i c
     = λ i h.
     by-cases (decLt (markOf s i) free)
     (λ g.
     lt-ltb (markOf s i) free g
-    ∙ sym (mem-elem i c (cat-mem L free 0 (markOf s i) i (omega arith) (omega arith) (stack.marked-member W i h (omega (arith, g))))))
+    ∙ sym (mem-elem i c (cat-mem L free 0 (markOf s i) i (omega arith) (omega arith) (stack.marked-member W i h (omega arith)))))
     (λ g.
     le-ltb (markOf s i) free (omega (arith, g))
     ∙ sym (not-in (elem i c) (λ e.
     let r = mem-cat L free 0 i (elem-mem i c e) in
-    g (omega (arith, stack.member-mark W (r .0) i (r .3), r .2))))) in
+    g (omega (arith, stack.member-mark W (r .0) i (r .3)))))) in
     cnt-ext (λ i. ltb (markOf s i) free) (λ i. elem i c) (count s) same
     ∙ cnt-elem c (count s) (cat-nodup L (markOf s) free 0 (λ q. stack.list-nodup W q) (λ q i m. stack.member-mark W q i m)) below
     ∙ sym (omega (arith, total-scale 1 free L 0 free (omega arith), total-zero (λ p x. 1) L))
@@ -225,7 +223,7 @@ pub record ClearsOne (s : QueueWords) (i : ℕ) (s′ : QueueWords) : Type 0 whe
   pub kept : AllKept s s′
 
 at-mark : {s : QueueWords} → Sound s → {i : ℕ} → i < count s → markOf s i < free → At (view s) i (markOf s i)
-at-mark S {i} h g = record { timed = g; member = stack.marked-member (S .whole .stack) i h (omega (arith, g)) }
+at-mark S {i} h g = record { timed = g; member = stack.marked-member (S .whole .stack) i h (omega arith) }
 
 -- in a slot or on the expired stack after it, and so before it
 freed-at : (i : ℕ) (v : View) (j p : ℕ) → At (freed i v) j p → At v j p
@@ -235,23 +233,16 @@ freed-at i v j p a =
     (λ z. rw (eq-eqb (v .turn i) lastTurn z) at a)
     (λ z.
     let b = rw (ne-eqb (v .turn i) lastTurn z) at a in
-    record { timed = b .timed; member = rw (change-other (v .lists) free _ p (omega (arith, b .timed))) at (b .member) })
+    record { timed = b .timed; member = rw (change-other (v .lists) free _ p (omega arith)) at (b .member) })
 
-left-at : (q i : ℕ) (v : View) (j p : ℕ) → At (left q i v) j p → At v j p
+pub left-less : (p i : ℕ) (v : View) (q x : ℕ) → Mem x (left p i v .lists q) → Mem x (v .lists q)
 unfolding left
-left-at q i v j p a =
-    record {
-      timed = a .timed;
-      member =
-          by-cases (ℕ-discrete p q)
-          (λ (e : p ≡ q). rw e (mem-without i j (v .lists q) (rw (e, change-same) at (a .member))))
-          (λ d. rw (change-other (v .lists) q (without i (v .lists q)) p d) at (a .member));
-    }
+left-less p i v q x m = ⊎-elim (λ a. rw (a .0) (mem-without i x (v .lists p) (a .1))) (λ a. a .1) (mem-change (v .lists) p (without i (v .lists p)) q x m)
 
 module _ {s : QueueWords} (S : Sound s) {i : ℕ} (h : i < count s) where
   pub clear-stays : free ≤ markOf s i → ClearsOne s i s
   clear-stays g =
-      let out : (p : ℕ) → At (view s) i p → ⊥ = λ p a. omega (arith, g, stack.member-mark (S .whole .stack) p i (a .member), a .timed) in
+      let out : (p : ℕ) → At (view s) i p → ⊥ = λ p a. omega (arith, stack.member-mark (S .whole .stack) p i (a .member)) in
       record {
         stays = λ f. refl;
         goes = λ p a. absurd (out p a);
@@ -273,7 +264,7 @@ module _ {s : QueueWords} (S : Sound s) {i : ℕ} (h : i < count s) where
       G₄ = goes-left S (at-mark S h g) Q
 
       pub clear-frees : CanFree t (s .turns) i
-      clear-frees = record { whole = G₄ .sound .whole; item = Q .item; word = omega (arith, h, S .roomy .turns); turn = S .turns i h .1 }
+      clear-frees = record { whole = G₄ .sound .whole; item = Q .item; word = omega arith; turn = S .turns i h .1 }
 
       pub clear-goes : {u : WheelWords} {ts : List ℕ} → LeavesTo t (s .turns) i u ts → ClearsOne s i (queueWords u (s .values) (s .deadlines) ts)
       clear-goes {u} {ts} P =
@@ -285,7 +276,9 @@ module _ {s : QueueWords} (S : Sound s) {i : ℕ} (h : i < count s) where
             stays = λ f. absurd (f (markOf s i) (at-mark S h g));
             goes = λ p a. let e : markOf s i ≡ p = stack.member-mark (S .whole .stack) p i (a .member) in rw (← e) G;
             gone = λ p a. loose-out (G₄ .sound) (Q .item) p (before i p a .member);
-            others = λ j p a. left-at (markOf s i) i (view s) j p (rw (G₄ .view) at (before j p a));
+            others = λ j p a.
+                let b = rw (G₄ .view) at (before j p a) in
+                record { timed = b .timed; member = left-less (markOf s i) i (view s) p j (b .member) };
             sound = G .sound;
             kept = G .kept;
           }
@@ -306,13 +299,13 @@ clear-turn {s} {s₁} {s₂} {i} C h Q =
       sound = Q .sound;
       kept = all-trans (C .kept) (Q .kept);
       clears = rw (add-one i) (by (decLt (markOf s₁ i) free));
-      gone = λ j g p a. by-cases (ℕ-discrete j i) (λ (e : j ≡ i). Q .gone p (rw e at a)) (λ d. C .gone j (omega (arith, g, d)) p (Q .others j p a));
+      gone = below-more _ i (λ j g p a. C .gone j g p (Q .others j p a)) (Q .gone);
     }
   where
     by : Dec (markOf s₁ i < free) → Clears (view s) (suc i) (view s₂)
     by (yes g) = let a = at-mark (C .sound) h g in rw (Q .goes (markOf s₁ i) a .view) (gave (C .clears) a)
     by (no g) =
-        let out : (p : ℕ) → At (view s₁) i p → ⊥ = λ p a. g (omega (arith, stack.member-mark (C .sound .whole .stack) p i (a .member), a .timed)) in
+        let out : (p : ℕ) → At (view s₁) i p → ⊥ = λ p a. g (omega (arith, stack.member-mark (C .sound .whole .stack) p i (a .member))) in
         rw (Q .stays out) (kept (C .clears) out)
 
 -- nobody is pending, and elapsed is 0
@@ -321,10 +314,10 @@ pub clear-done : {s s₁ : QueueWords} {i : ℕ} → ClearedSo s i s₁ → i �
 clear-done {s} {s₁} {i} C e =
     let S = C .sound in
     let out : (p x : ℕ) → p < free → Mem x (view s₁ .lists p) → ⊥
-    = λ p x h m. C .gone x (omega (arith, stack.member-below (S .whole .stack) p x m, C .kept .links .size, e)) p (record { timed = h; member = m }) in
+    = λ p x h m. C .gone x (omega (arith, stack.member-below (S .whole .stack) p x m)) p (record { timed = h; member = m }) in
     record {
       cleared = view s₁;
-      clears = subst (λ (k : ℕ). Clears (view s) k (view s₁)) e (C .clears);
+      clears = subst (λ k. Clears (view s) k (view s₁)) e (C .clears);
       done = record {
         told = refl;
         sound = record {
@@ -333,7 +326,7 @@ clear-done {s} {s₁} {i} C e =
           roomy = record { values = S .roomy .values; deadlines = S .roomy .deadlines; turns = S .roomy .turns };
           whole = record { stack = S .whole .stack; rows = S .whole .rows };
           turns = S .turns;
-          rule = record { wheel = λ p x h m. absurd (out p x (omega (arith, h)) m); stack = λ x m. absurd (out expired x (omega arith) m) };
+          rule = record { wheel = λ p x h m. absurd (out p x (omega arith) m); stack = λ x m. absurd (out expired x (omega arith) m) };
         };
         view = refl;
         kept = record { links = C .kept .links; values = C .kept .values; deadlines = C .kept .deadlines; turns = C .kept .turns };

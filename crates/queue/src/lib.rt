@@ -277,7 +277,7 @@ pub fn poll(
     )
 }
 
-// When the wheel next has something to do.
+// When the wheel next has something to do. The expired stack is not asked.
 pub fn next_wake(wheel: Wheel) -> Answer
     requires { ⌜ NotPassed (wheel .elapsed) (wheel .occupied) ⌝ }
     ensures { λ r. ⌜ ((v : View) → v .elapsed ≡ wheel .elapsed → Rows (wheel .occupied) (v .lists) → Wakes v (told r)) ⌝ }

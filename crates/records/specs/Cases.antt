@@ -1,7 +1,7 @@
 -- The cases of the table, none left out: a deadline is too far, in another block, or near; a key names a record or it does not.
-use mathlib.Core.Path.{_≡_, refl}
+use mathlib.Core.Path.{refl}
 use mathlib.Core.Logic.{by-cases}
-use Prim.Native.Nat.{ℕ, _-_, _/_, _%_, _<_}
+use Prim.Native.Nat.{ℕ, _-_, _/_, _%_}
 use native.Mathlib.Decide.{ℕ-discrete, decLt}
 use native.Mathlib.Omega.{arith}
 use Rattle.times.specs.Times.{maxDuration, block}

@@ -1,19 +1,19 @@
 -- One record at a time: taken from the free list, given a value, placed, unlinked, freed. Each takes a sound store to a sound store, and its view to what
 -- document 01 makes of it. A record on its way is in no list, as a retired one is.
-use mathlib.Core.Path.{_≡_, refl, sym, ap, _∙_, subst}
+use mathlib.Core.Path.{_≡_, refl, sym, ap, _∙_}
 use mathlib.Core.Logic.{_≢_, inl, inr, ⊎-elim, by-cases}
 use mathlib.Core.List.{List, [], _∷_}
 use Prim.Native.Nat.{ℕ, _+_, _^_, _≤_, _<_, max}
 use native.Mathlib.Decide.{ℕ-discrete}
 use native.Mathlib.Omega.{arith}
-use lib.ListN.{length, set, length-set}
+use lib.ListN.{length, set}
 use borrow.Author.Tests.{eq-eqb, ne-eqb}
 use Rattle.times.specs.Times.{levelOf, block}
 use Rattle.times.specs.Quotients.{slot-lt}
 use Rattle.times.specs.Levels.{level-is}
 use Rattle.links.specs.Lists.{Mem, without, change, change-same, change-other}
 use Rattle.links.specs.Links.{at}
-use Rattle.links.specs.Laws.{kept-refl, kept-set}
+use Rattle.links.specs.Laws.{Kept, kept-refl, kept-set}
 use Rattle.stack.specs.Places.{slots, expired, free, put}
 use Rattle.stack.specs.Laws as stack
 use Rattle.wheel.specs.Wheel.{Lists, placeFor, Rule, arrive}
@@ -21,9 +21,9 @@ use Rattle.wheel.specs.Sums.{mem-joined}
 use Rattle.wheel.specs.Between.{rule-less}
 use Rattle.wheel.specs.Words.{WheelWords, WheelWhole, Becomes, LooseIn, CanPush, CanLeave, Leaves, lists as listsIn}
 use Rattle.wheel.specs.Turns.{CanInsert}
-use Rattle.records.specs.View.{View, view-eq, withLists, withValue, upd}
+use Rattle.records.specs.View.{View, viewOf, view-eq, withLists, withValue, upd}
 use Rattle.records.specs.Records.{lastTurn, At, Near, taken, left, target, placed, freed}
-use Rattle.records.specs.Words.{QueueWords, queueWords, count, elapsed, markOf, view, Roomy, Sound, AllKept, all-refl, upd-same, upd-other, at-set}
+use Rattle.records.specs.Words.{QueueWords, queueWords, count, elapsed, markOf, view, Sound, AllKept, all-refl, upd-same, upd-other, at-set}
 
 -- the store is sound and has the view v now, and words past N are kept
 pub record Goes (s : QueueWords) (v : View) (s′ : QueueWords) : Type 0 where
@@ -36,48 +36,41 @@ abbrev pub LooseAt : QueueWords → ℕ → Type 0
 LooseAt s i = LooseIn (s .wheel) i
 
 pub loose-out : {s : QueueWords} → Sound s → {i : ℕ} → LooseAt s i → (p : ℕ) → Mem i (view s .lists p) → ⊥
-loose-out {s} S {i} o p m =
-    omega (arith, stack.member-mark (S .whole .stack) p i m, stack.member-place (S .whole .stack) p i m, o .loose)
+loose-out S {i} o p m =
+    omega (arith, stack.member-mark (S .whole .stack) p i m, stack.member-place (S .whole .stack) p i m)
 
--- ---- the lists change, and nothing else: the rule follows from the lists below the free one
+-- ---- the lists and the words of the records change: what is left to show is that turns are in range, and the rule
 
+goes : {s : QueueWords} → Sound s → {L : Lists} {t : WheelWords} → Becomes (s .wheel) L t → {vs ds ts : List ℕ} → Kept (count s) (s .values) vs
+    → Kept (count s) (s .deadlines) ds → Kept (count s) (s .turns) ts → {v d k : ℕ → ℕ} → at vs ≡ v → at ds ≡ d → at ts ≡ k
+    → ((i : ℕ) → i < count s → (0 < k i) × (k i < 2 ^ 48)) → Rule d (elapsed s) L → Goes s (viewOf (count s) (elapsed s) L v d k) (queueWords t vs ds ts)
+goes S B vals dues terms ev ed et turns R =
+    record {
+      sound = record {
+        some = omega arith;
+        few = omega arith;
+        roomy = record { values = omega arith; deadlines = omega arith; turns = omega arith };
+        whole = B .whole;
+        turns = λ i h. rw (ap (λ f. f i) et) (turns i (omega arith));
+        rule = rw (ed, B .elapsed, B .lists) R;
+      };
+      view = view-eq (B .kept .size) (B .elapsed) (B .lists) ev ed et;
+      kept = record { links = B .kept; values = vals; deadlines = dues; turns = terms };
+    }
+
+-- the lists change, and nothing else: the rule follows from the lists below the free one
 module _ {s : QueueWords} (S : Sound s) {L : Lists} {t : WheelWords} (B : Becomes (s .wheel) L t) where
   abbrev shifted : QueueWords
   shifted = queueWords t (s .values) (s .deadlines) (s .turns)
 
-  roomy-shifted : Roomy shifted
-  roomy-shifted =
-      record {
-        values = omega (arith, S .roomy .values, B .kept .size);
-        deadlines = omega (arith, S .roomy .deadlines, B .kept .size);
-        turns = omega (arith, S .roomy .turns, B .kept .size);
-      }
-
   pub goes-lists : Rule (at (s .deadlines)) (elapsed s) L → Goes s (withLists L (view s)) shifted
-  goes-lists R =
-      record {
-        sound = record {
-          some = omega (arith, S .some, B .kept .size);
-          few = omega (arith, S .few, B .kept .size);
-          roomy = roomy-shifted;
-          whole = B .whole;
-          turns = λ i h. S .turns i (omega (arith, h, B .kept .size));
-          rule = rw (B .elapsed, B .lists) R;
-        };
-        view = view-eq (B .kept .size) (B .elapsed) (B .lists) refl refl refl;
-        kept = record {
-          links = B .kept;
-          values = kept-refl (count s) (s .values);
-          deadlines = kept-refl (count s) (s .deadlines);
-          turns = kept-refl (count s) (s .turns);
-        };
-      }
+  goes-lists R = goes S B (kept-refl _ _) (kept-refl _ _) (kept-refl _ _) refl refl refl (S .turns) R
 
 -- the rule looks at slots and the expired stack alone
 rule-beside : {d : ℕ → ℕ} {e : ℕ} {L : Lists} → Rule d e L → (l : List ℕ) → Rule d e (change L free l)
 rule-beside {d} {e} {L} R l =
     record {
-      wheel = λ p x hp m. R .wheel p x hp (rw (change-other L free l p (omega (arith, hp))) at m);
+      wheel = λ p x hp m. R .wheel p x hp (rw (change-other L free l p (omega arith)) at m);
       stack = λ x m. R .stack x (rw (change-other L free l expired (omega arith)) at m);
     }
 
@@ -92,23 +85,8 @@ goes-taken S l B = goes-lists S B (rule-beside (S .rule) l)
 pub goes-valued : {s : QueueWords} → Sound s → (i x : ℕ) → i < count s
     → Goes s (withValue (upd (view s .value) i x) (view s)) (queueWords (s .wheel) (set (s .values) i x) (s .deadlines) (s .turns))
 goes-valued {s} S i x h =
-    record {
-      sound = record {
-        some = S .some;
-        few = S .few;
-        roomy = record { values = rw length-set (S .roomy .values); deadlines = S .roomy .deadlines; turns = S .roomy .turns };
-        whole = S .whole;
-        turns = S .turns;
-        rule = S .rule;
-      };
-      view = view-eq refl refl refl (at-set (s .values) i x (omega (arith, S .roomy .values))) refl refl;
-      kept = record {
-        links = stack.kept-refl (s .wheel .stack);
-        values = kept-set (count s) (s .values) i x h;
-        deadlines = kept-refl (count s) (s .deadlines);
-        turns = kept-refl (count s) (s .turns);
-      };
-    }
+    goes S (record { whole = S .whole; lists = refl; elapsed = refl; kept = stack.kept-refl (s .wheel .stack) }) (kept-set (count s) (s .values) i x h) (kept-refl _ _) (kept-refl _ _)
+    (at-set (s .values) i x (omega arith)) refl refl (S .turns) (S .rule)
 
 -- ---- unlinked from the list of p
 
@@ -120,7 +98,7 @@ can-leave S {i} {p} a =
     record {
       whole = S .whole;
       below = stack.member-below (S .whole .stack) p i (a .member);
-      listed = omega (arith, mark-at S a, a .timed);
+      listed = omega (arith, mark-at S a);
     }
 
 pub mem-without : (i x : ℕ) (l : List ℕ) → Mem x (without i l) → Mem x l
@@ -128,17 +106,16 @@ mem-without i x [] m = m
 mem-without i x (y ∷ l) m =
     by-cases (ℕ-discrete y i)
     (λ e. inr (rw (eq-eqb y i e) at m))
-    (λ d. ⊎-elim (λ e. inl e) (λ k. inr (mem-without i x l k)) (rw (ne-eqb y i d) at m))
+    (λ d. ⊎-elim inl (λ k. inr (mem-without i x l k)) (rw (ne-eqb y i d) at m))
 
 pub goes-left : {s : QueueWords} (S : Sound s) {i p : ℕ} → At (view s) i p → {t : WheelWords} → Leaves (s .wheel) i t
     → Goes s (left p i (view s)) (queueWords t (s .values) (s .deadlines) (s .turns))
 unfolding left
-goes-left {s} S {i} {p} a {t} Q =
+goes-left {s} S {i} {p} a Q =
     let L = view s .lists in
-    let B : Becomes (s .wheel) (change L p (without i (L p))) t = subst (λ (q : ℕ). Becomes (s .wheel) (change L q (without i (L q))) t) (mark-at S a) (Q .becomes) in
-    goes-lists S B (rule-less (S .rule) (λ q x m.
+    goes-lists S (rw (mark-at S a) at (Q .becomes)) (rule-less (S .rule) (λ q x m.
     by-cases (ℕ-discrete q p)
-    (λ (e : q ≡ p). rw e (mem-without i x (L p) (rw (e, change-same) at m)))
+    (λ e. rw e (mem-without i x (L p) (rw (e, change-same) at m)))
     (λ d. rw (change-other L p (without i (L p)) q d) at m)))
 
 -- ---- placed
@@ -193,14 +170,14 @@ rule-placed : {d : ℕ → ℕ} {e : ℕ} {L : Lists} → Rule d e L → (x w : 
     → let p = target e w in Rule (upd d x w) e (change L p (put p x (L p)))
 rule-placed {d} {e} {L} R x w out late near =
     let p = target e w in
-    let old : (q y : ℕ) → Mem y (L q) → upd d x w y ≡ d y = λ q y m. upd-other d x w y (λ (z : y ≡ x). out q (rw z at m)) in
+    let old : (q y : ℕ) → Mem y (L q) → upd d x w y ≡ d y = λ q y m. upd-other d x w y (λ z. out q (rw z at m)) in
     by-cases (ℕ-discrete w e)
-    (λ (z : w ≡ e).
+    (λ z.
     let tp : p ≡ expired = target-now e w z in
     record {
       wheel = λ q y hq m.
           ⊎-elim
-          (λ a. absurd (omega (arith, hq, a .0, tp)))
+          (λ a. absurd (omega arith))
           (λ k. rw (old q y k) (R .wheel q y hq k))
           (mem-joined L p x q y m);
       stack = λ y m.
@@ -219,7 +196,7 @@ rule-placed {d} {e} {L} R x w out late near =
           (mem-joined L p x q y m);
       stack = λ y m.
           ⊎-elim
-          (λ a. absurd (omega (arith, a .0, tp, place-slot e w)))
+          (λ a. absurd (omega (arith, place-slot e w)))
           (λ k. old expired y k ∙ R .stack y k)
           (mem-joined L p x expired y m);
     })
@@ -227,37 +204,15 @@ rule-placed {d} {e} {L} R x w out late near =
 pub goes-placed : {s : QueueWords} (S : Sound s) {i : ℕ} → LooseAt s i → (when : ℕ) → Near (elapsed s) when → {t : WheelWords} {ds : List ℕ}
     → PlacesTo (s .wheel) (s .deadlines) i when t ds → Goes s (placed i when (view s)) (queueWords t (s .values) ds (s .turns))
 unfolding placed
-goes-placed {s} S {i} o when near {t} {ds} P =
+goes-placed {s} S {i} o when near P =
     let w : ℕ = max when (elapsed s) in
     let p : ℕ = target (elapsed s) w in
     let L : Lists = change (view s .lists) p (put p i (view s .lists p)) in
-    let B = P .becomes in
-    let long : i < length (s .deadlines) = omega (arith, o .below, S .roomy .deadlines) in
-    let f : at ds ≡ upd (at (s .deadlines)) i w = ap at (P .deadlines) ∙ at-set (s .deadlines) i w long in
     let same : w ≢ elapsed s → block w ≡ block (elapsed s)
     = λ z. let a : w ≡ when = omega (arith, z) in rw a (near (omega (arith, z))) in
     let R : Rule (upd (at (s .deadlines)) i w) (elapsed s) L = rule-placed (S .rule) i w (loose-out S o) (omega arith) same in
-    record {
-      sound = record {
-        some = omega (arith, S .some, B .kept .size);
-        few = omega (arith, S .few, B .kept .size);
-        roomy = record {
-          values = omega (arith, S .roomy .values, B .kept .size);
-          deadlines = omega (arith, S .roomy .deadlines, B .kept .size, ap length (P .deadlines), length-set (s .deadlines) i w);
-          turns = omega (arith, S .roomy .turns, B .kept .size);
-        };
-        whole = B .whole;
-        turns = λ j h. S .turns j (omega (arith, h, B .kept .size));
-        rule = rw (f, B .elapsed, B .lists) R;
-      };
-      view = view-eq (B .kept .size) (B .elapsed) (B .lists) refl f refl;
-      kept = record {
-        links = B .kept;
-        values = kept-refl (count s) (s .values);
-        deadlines = rw (P .deadlines) (kept-set (count s) (s .deadlines) i w (o .below));
-        turns = kept-refl (count s) (s .turns);
-      };
-    }
+    goes S (P .becomes) (kept-refl _ _) (rw (P .deadlines) (kept-set (count s) (s .deadlines) i w (o .below))) (kept-refl _ _)
+    refl (ap at (P .deadlines) ∙ at-set (s .deadlines) i w (omega arith)) refl (S .turns) R
 
 -- ---- freed
 
@@ -273,43 +228,18 @@ goes-freed {s} S {i} o {t} {ts} P =
     (λ z.
     let r = P .retired z in
     let e : queueWords t (s .values) (s .deadlines) ts ≡ s = λ j. queueWords (r .0 j) (s .values) (s .deadlines) (r .1 j) in
-    rw (eq-eqb (at (s .turns) i) lastTurn z) (subst (λ (u : QueueWords). Goes s (view s) u) (sym e) (record { sound = S; view = refl; kept = all-refl s })))
+    rw (eq-eqb (at (s .turns) i) lastTurn z) (rw e (record { sound = S; view = refl; kept = all-refl s })))
     (λ z.
     let r = P .given z in
-    let B = r .0 in
     let x : ℕ = at (s .turns) i + 1 in
-    let long : i < length (s .turns) = omega (arith, o .below, S .roomy .turns) in
-    let f : at ts ≡ upd (at (s .turns)) i x = ap at (r .1) ∙ at-set (s .turns) i x long in
-    let h = S .turns i (o .below) in
     rw (ne-eqb (at (s .turns) i) lastTurn z)
-    (record {
-      sound = record {
-        some = omega (arith, S .some, B .kept .size);
-        few = omega (arith, S .few, B .kept .size);
-        roomy = record {
-          values = omega (arith, S .roomy .values, B .kept .size);
-          deadlines = omega (arith, S .roomy .deadlines, B .kept .size);
-          turns = omega (arith, S .roomy .turns, B .kept .size, ap length (r .1), length-set (s .turns) i x);
-        };
-        whole = B .whole;
-        turns = λ j g.
-            by-cases (ℕ-discrete j i)
-            (λ (q : j ≡ i).
-            let v : at ts j ≡ x = ap (at ts) q ∙ ap (λ (k : ℕ → ℕ). k i) f ∙ upd-same (at (s .turns)) i x in
-            (omega (arith, v), omega (arith, v, h .1, z)))
-            (λ q.
-            let v : at ts j ≡ at (s .turns) j = ap (λ (k : ℕ → ℕ). k j) f ∙ upd-other (at (s .turns)) i x j q in
-            rw v (S .turns j (omega (arith, g, B .kept .size))));
-        rule = rw (B .elapsed, B .lists) (rule-beside (S .rule) (put free i (view s .lists free)));
-      };
-      view = view-eq (B .kept .size) (B .elapsed) (B .lists) refl refl f;
-      kept = record {
-        links = B .kept;
-        values = kept-refl (count s) (s .values);
-        deadlines = kept-refl (count s) (s .deadlines);
-        turns = rw (r .1) (kept-set (count s) (s .turns) i x (o .below));
-      };
-    }))
+    (goes S (r .0) (kept-refl _ _) (kept-refl _ _) (rw (r .1) (kept-set (count s) (s .turns) i x (o .below)))
+    refl refl (ap at (r .1) ∙ at-set (s .turns) i x (omega arith))
+    (λ j g.
+    by-cases (ℕ-discrete j i)
+    (λ (q : j ≡ i). rw (q, upd-same) (omega (arith, S .turns i (o .below))))
+    (λ q. rw (upd-other (at (s .turns)) i x j q) (S .turns j g)))
+    (rule-beside (S .rule) (put free i (view s .lists free)))))
 
 pub record CanFree (t : WheelWords) (ts : List ℕ) (i : ℕ) : Type 0 where
   pub whole : WheelWhole t

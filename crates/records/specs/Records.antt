@@ -17,7 +17,7 @@ use Rattle.records.specs.View.{View, withLists, withDeadline, withTurn, 
 abbrev pub keyOf : View → ℕ → ℕ
 keyOf v r = v .turn r * 65536 + r
 
--- "first turn (1 to 2^48-1)"
+-- "At turn 2^48-1 it is retired instead."
 abbrev pub lastTurn : ℕ
 lastTurn = 2 ^ 48 - 1
 
@@ -48,7 +48,7 @@ Near e w = e < w → block w ≡ block e
 
 -- ---- one record moves
 
--- r, at the head of the rest l of the free list, is taken
+-- the head of the free list is taken, and l is what is left of it
 abbrev pub taken : List ℕ → View → View
 taken l v = withLists (change (v .lists) free l) v
 

@@ -45,7 +45,16 @@ view s = viewOf (count s) (elapsed s) (listsIn (s .wheel)) (at (s .values)) (at 
 abbrev pub limit : ℕ
 limit = 1024
 
--- the slices are long enough for N records. Those of the links are in `whole`
+-- slices of values, deadlines, links, turns and marks, none of them too short for n records
+pub record Room (n : ℕ) (vs ds ns ps ts ms : List ℕ) : Type 0 where
+  pub values : n ≤ length vs
+  pub deadlines : n ≤ length ds
+  pub nexts : n ≤ length ns
+  pub prevs : n ≤ length ps
+  pub turns : n ≤ length ts
+  pub marks : n ≤ length ms
+
+-- those of a store's own N. What the links need is in `whole`
 pub record Roomy (s : QueueWords) : Type 0 where
   pub values : count s ≤ length (s .values)
   pub deadlines : count s ≤ length (s .deadlines)
@@ -100,21 +109,21 @@ pub at-set : (l : List ℕ) (i x : ℕ) → i < length l → at (set l i x) ≡ 
 at-set l i x h =
     fun-ext (λ j.
     by-cases (ℕ-discrete j i)
-    (λ (e : j ≡ i). rw e (getD-set-same l i x 0 h ∙ sym (upd-same (at l) i x)))
+    (λ e. rw e (getD-set-same l i x 0 h ∙ sym (upd-same (at l) i x)))
     (λ d. getD-set-other l i j x 0 d ∙ sym (upd-other (at l) i x j d)))
 
 -- ---- a view, and the words past N, fix the words of a sound store
 
 words-same : (l m : List ℕ) → length m ≡ length l → at m ≡ at l → m ≡ l
-words-same l m n e = ext-getD 0 m l n (λ i h. ap (λ (f : ℕ → ℕ). f i) e)
+words-same l m n e = ext-getD 0 m l n (λ i h. ap (λ f. f i) e)
 
 pub view-fixed : {s s′ : QueueWords} → Sound s → Sound s′ → view s′ ≡ view s → AllKept s s′ → s′ ≡ s
 view-fixed {s} {s′} S S′ e K =
-    let l : listsIn (s′ .wheel) ≡ listsIn (s .wheel) = ap (λ (v : View). v .lists) e in
+    let l : listsIn (s′ .wheel) ≡ listsIn (s .wheel) = ap (λ v. v .lists) e in
     let t : s′ .wheel .stack ≡ s .wheel .stack = stack.lists-fixed (S .whole .stack) (S′ .whole .stack) l (K .links) in
     let o : s′ .wheel .occupied ≡ s .wheel .occupied = rows-fixed (S .whole .rows) (rw l at (S′ .whole .rows)) in
-    let c : elapsed s′ ≡ elapsed s = ap (λ (v : View). v .elapsed) e in
-    let a = words-same (s .values) (s′ .values) (K .values .size) (ap (λ (v : View). v .value) e) in
-    let b = words-same (s .deadlines) (s′ .deadlines) (K .deadlines .size) (ap (λ (v : View). v .deadline) e) in
-    let f = words-same (s .turns) (s′ .turns) (K .turns .size) (ap (λ (v : View). v .turn) e) in
+    let c : elapsed s′ ≡ elapsed s = ap (λ v. v .elapsed) e in
+    let a = words-same (s .values) (s′ .values) (K .values .size) (ap (λ v. v .value) e) in
+    let b = words-same (s .deadlines) (s′ .deadlines) (K .deadlines .size) (ap (λ v. v .deadline) e) in
+    let f = words-same (s .turns) (s′ .turns) (K .turns .size) (ap (λ v. v .turn) e) in
     λ i. queueWords (wheelWords (c i) (o i) (t i)) (a i) (b i) (f i)

@@ -28,14 +28,6 @@ pub fn clear(occupied: u64, slot: usize) -> u64
     occupied ^ occupied_bit(slot)
 }
 
-// Whether the slot is occupied.
-pub fn test(occupied: u64, slot: usize) -> bool
-    requires { ⌜ slot < 64 ⌝ }
-    ensures { λ r. ⌜ r ≡ flagAt occupied slot ⌝ }
-{
-    occupied & occupied_bit(slot) != 0
-}
-
 // The row read from slot `by` on. By 0 the second shift would be one by all 64 bits, which no shift may be.
 pub fn rotate_right(row: u64, by: u32) -> u64
     requires { ⌜ by < 64 ⌝ }

@@ -105,6 +105,7 @@ fn answer(
     let rows = step.heads;
     let pen = show(lists, out, step.at, fine, after, rows, nexts);
     let end = pen.at;
+    // an answer has at most 109 bytes: behind these the next one fits
     if end < 3988 {
         return Progress {
             lists,

@@ -50,7 +50,7 @@ range (suc m) k = k ∷ range m (suc k)
 
 pub over-step : (i : ℕ) (f : ℕ → ℕ) (l : List ℕ) → over (i + 1) f l ≡ set (over i f l) i (f i)
 unfolding over
-over-step i f l = ap (λ (k : ℕ). over k f l) (add-one i)
+over-step i f l = rw add-one
 
 pub over-kept : (n k : ℕ) (f : ℕ → ℕ) (l : List ℕ) → k ≤ n → Kept n l (over k f l)
 unfolding over
@@ -65,21 +65,21 @@ unfolding over
 over-at zero f l h i hi = absurd (omega arith)
 over-at (suc k) f l h i hi =
     by-cases (ℕ-discrete i k)
-    (λ (e : i ≡ k). rw e (getD-set-same (over k f l) k (f k) 0 (omega (arith, length-over k f l))))
-    (λ d. getD-set-other (over k f l) k i (f k) 0 d ∙ over-at k f l (omega arith) i (omega (arith, hi, d)))
+    (λ e. rw e (getD-set-same (over k f l) k (f k) 0 (omega (arith, length-over k f l))))
+    (λ d. getD-set-other (over k f l) k i (f k) 0 d ∙ over-at k f l (omega arith) i (omega arith))
 
 -- ---- the numbers from k on
 
 mem-range : (m k i : ℕ) → Mem i (range m k) → (k ≤ i) × (i < k + m)
 unfolding range
 mem-range zero k i w = absurd w
-mem-range (suc m) k i (inl e) = (omega arith, omega arith)
-mem-range (suc m) k i (inr w) = let r = mem-range m (suc k) i w in (omega (arith, r .0), omega (arith, r .1))
+mem-range (suc m) k i (inl e) = omega arith
+mem-range (suc m) k i (inr w) = omega (arith, mem-range m (suc k) i w)
 
 range-mem : (m k i : ℕ) → k ≤ i → i < k + m → Mem i (range m k)
 unfolding range
 range-mem zero k i a b = absurd (omega arith)
-range-mem (suc m) k i a b = by-cases (ℕ-discrete i k) (λ e. inl e) (λ d. inr (range-mem m (suc k) i (omega (arith, d)) (omega arith)))
+range-mem (suc m) k i a b = by-cases (ℕ-discrete i k) inl (λ d. inr (range-mem m (suc k) i (omega arith) (omega arith)))
 
 -- ---- no heads
 
@@ -88,9 +88,8 @@ no-shape = record { rows = refl; wide = λ k h. ap length (getD-replicate 6 k no
 
 no-slot : (st : Stacks) (p : ℕ) → p < slots → headOf st noRows p ≡ nobody
 no-slot st p h =
-    let k : p / 64 < 6 = omega arith in
-    let j : p % 64 < 64 = omega arith in
-    head-slot st noRows p h ∙ rw (getD-replicate 6 (p / 64) noRow [] k) (getD-replicate {A = ℕ} 64 (p % 64) 65535 0 j)
+    head-slot st noRows p h
+    ∙ rw (getD-replicate 6 (p / 64) noRow [] (omega arith)) (getD-replicate {A = ℕ} 64 (p % 64) 65535 0 (omega arith))
 
 module _ (n : ℕ) (ns ps ms : List ℕ) (some : 0 < n) (small : n ≤ nobody) (Z : Deep n (links ns ps ms)) where
   abbrev t : StackWords
@@ -104,18 +103,14 @@ module _ (n : ℕ) (ns ps ms : List ℕ) (some : 0 < n) (small : n ≤ nobody) (
 
   -- ---- the words of a record
 
-  nexts-long : n - 1 < length (over n (λ i. i + 1) ns)
-  nexts-long = omega (arith, length-over n (λ i. i + 1) ns, Z .nexts)
-
   last-next : s .nx (n - 1) ≡ nobody
   unfolding formatted
-  last-next = getD-set-same (over n (λ i. i + 1) ns) (n - 1) nobody 0 nexts-long
+  last-next = getD-set-same (over n (λ i. i + 1) ns) (n - 1) nobody 0 (omega (arith, length-over n (λ i. i + 1) ns))
 
   next : (i : ℕ) → i + 1 < n → s .nx i ≡ suc i
   unfolding formatted
   next i h =
-      let d : i ≢ n - 1 = omega arith in
-      getD-set-other (over n (λ j. j + 1) ns) (n - 1) i nobody 0 d ∙ over-at n (λ j. j + 1) ns (Z .nexts) i (omega arith) ∙ add-one i
+      getD-set-other (over n (λ j. j + 1) ns) (n - 1) i nobody 0 (omega arith) ∙ over-at n (λ j. j + 1) ns (Z .nexts) i (omega arith) ∙ add-one i
 
   prev : (i : ℕ) → i < n → s .pv i ≡ before i
   unfolding formatted
@@ -131,8 +126,8 @@ module _ (n : ℕ) (ns ps ms : List ℕ) (some : 0 < n) (small : n ≤ nobody) (
   unfolding formatted headOf range
   heads p =
       by-cases (ℕ-discrete p free)
-      (λ (e : p ≡ free). rw (e, change-same) (first n some))
-      (λ d. rw (change-other (λ q. []) free (range n 0) p d) (by-cases (decLt p slots) (no-slot (t .stacks) p) (λ h. rest d (omega (arith, h)))))
+      (λ e. rw (e, change-same) (first n some))
+      (λ d. rw (change-other (λ q. []) free (range n 0) p d) (by-cases (decLt p slots) (no-slot (t .stacks) p) (λ h. rest d (omega arith))))
     where
       first : (m : ℕ) → 0 < m → 0 ≡ firstD nobody (range m 0)
       first zero h = absurd (omega arith)
@@ -140,24 +135,19 @@ module _ (n : ℕ) (ns ps ms : List ℕ) (some : 0 < n) (small : n ≤ nobody) (
 
       rest : p ≢ free → slots ≤ p → headOf (record { n = n; expired = 65535; free = 0 }) noRows p ≡ nobody
       rest d h =
-          by-cases (ℕ-discrete p expired)
-          (λ (e : p ≡ expired). rw e)
-          (λ k. head-past (record { n = n; expired = 65535; free = 0 }) noRows p (omega (arith, d, h, k)))
+          by-cases (ℕ-discrete p expired) (λ e. rw e) (λ k. head-past (record { n = n; expired = 65535; free = 0 }) noRows p (omega arith))
 
   -- the free list from k on
   chain : (m k : ℕ) → k + m ≡ n → Seg (s .nx) (s .pv) (before k) (range m k) nobody
   unfolding range
   chain zero k e = tt
-  chain (suc zero) k e = (prev k (omega arith), ap (s .nx) (last k e) ∙ last-next, tt)
-    where
-      last : (k : ℕ) → k + 1 ≡ n → k ≡ n - 1
-      last k e = omega arith
+  chain (suc zero) k e = let z : k ≡ n - 1 = omega arith in (prev k (omega arith), ap (s .nx) z ∙ last-next, tt)
   chain (suc (suc m)) k e = (prev k (omega arith), next k (omega arith), chain (suc m) (suc k) (omega arith))
 
   segs : (p : ℕ) → Seg (s .nx) (s .pv) nobody (fresh p) nobody
   segs p =
       by-cases (ℕ-discrete p free)
-      (λ (e : p ≡ free). rw (e, change-same) (chain n 0 (omega arith)))
+      (λ e. rw (e, change-same) (chain n 0 (omega arith)))
       (λ d. rw (change-other (λ q. []) free (range n 0) p d) tt)
 
   mems : (p i : ℕ) → Mem i (fresh p) → Member places n s p i
@@ -165,7 +155,7 @@ module _ (n : ℕ) (ns ps ms : List ℕ) (some : 0 < n) (small : n ≤ nobody) (
       by-cases (ℕ-discrete p free)
       (λ (e : p ≡ free).
       let k : i < n = omega (arith, mem-range n 0 i (rw (e, change-same) at m) .1) in
-      record { place = omega (arith, e); below = k; mark = mark i k ∙ sym e })
+      record { place = omega arith; below = k; mark = mark i k ∙ sym e })
       (λ d. absurd (rw (change-other (λ q. []) free (range n 0) p d) at m))
 
   fam : Fam places n s fresh
@@ -191,13 +181,9 @@ module _ (n : ℕ) (ns ps ms : List ℕ) (some : 0 < n) (small : n ≤ nobody) (
         marks = over-kept n n (λ i. free) ms (omega arith);
       }
 
-  shape : Shape (t .heads)
-  unfolding formatted
-  shape = no-shape
-
   pub format-whole : Whole t
   unfolding formatted
-  format-whole = record { shape = shape; held = record { deep = deep-kept Z format-kept; fam = rw (fam-lists fam) fam } }
+  format-whole = record { shape = no-shape; held = record { deep = deep-kept Z format-kept; fam = rw (fam-lists fam) fam } }
 
   -- the free list is 0, 1, .., n - 1, and every other list is empty
   pub format-lists : lists t ≡ change (λ p. []) free (range n 0)
@@ -237,9 +223,9 @@ module _ (n : ℕ) (ns ps ms : List ℕ) where
       record {
         within = omega arith;
         last = sym (ap before (add-one i));
-        nexts = ap (λ (l : List ℕ). set l i (i + 1)) (F .nexts) ∙ sym (over-step i (λ j. j + 1) ns);
+        nexts = rw (F .nexts) (sym (over-step i (λ j. j + 1) ns));
         prevs = rw (F .last, F .prevs) (sym (over-step i before ps));
-        marks = ap (λ (l : List ℕ). set l i 385) (F .marks) ∙ sym (over-step i (λ j. free) ms);
+        marks = rw (F .marks) (sym (over-step i (λ j. free) ms));
         nexts-size = length-set ns′ i (i + 1) ∙ F .nexts-size;
         prevs-size = length-set ps′ i b ∙ F .prevs-size;
         marks-size = length-set ms′ i 385 ∙ F .marks-size;
@@ -248,7 +234,7 @@ module _ (n : ℕ) (ns ps ms : List ℕ) where
   module _ (i b : ℕ) (ns′ ps′ ms′ : List ℕ) (F : Filling n ns ps ms i b ns′ ps′ ms′) (some : 0 < n) (end : n ≤ i) where
     -- all n are, so the last one is n - 1
     all : i ≡ n
-    all = omega (arith, F .within)
+    all = omega arith
 
     pub fill-last : b ≡ n - 1
     fill-last = F .last ∙ ap before all ∙ by n some

@@ -1,7 +1,7 @@
 -- What a client of this layer cites: words that hold the lists of the places (`Whole`), the lists that they hold (`lists`), and how each function
 -- changes them. One list changes, every other stays, the words stay whole, words past n records are kept.
 use mathlib.Core.Path.{_≡_, refl, sym, ap, _∙_, subst}
-use mathlib.Core.Logic.{_≢_, inl, ⊎-elim}
+use mathlib.Core.Logic.{_≢_, inl}
 use mathlib.Core.List.{List, [], _∷_}
 use mathlib.Core.Bool.{true}
 use Prim.Native.Nat.{ℕ, _≤_, _<_}
@@ -86,11 +86,6 @@ module _ {t : StackWords} (W : Whole t) where
   unfolding lists
   members-few = fam-length (net (headAt t) (t .links)) (count t) small (W .held .fam)
 
-  -- a record that is in no list is loose
-  pub unlisted-loose : (i : ℕ) → i < count t → ((p : ℕ) → Mem i (lists t p) → ⊥) → markOf t i ≡ nobody
-  unfolding lists
-  unlisted-loose i hi out = ⊎-elim (λ m. absurd (out (markOf t i) m)) (λ o. o .mark) (W .held .fam .cover i hi)
-
   pub list-nodup : (p : ℕ) → Nodup (lists t p)
   unfolding lists
   list-nodup p = fam-nodup (W .held .fam) p
@@ -142,8 +137,8 @@ module _ {t : StackWords} (W : Whole t) where
   changed {l} {q} {ls} p v e C =
       let hd = headAt (withHead t p v ls) in
       record {
-        whole = record { shape = shape-with (t .heads) (W .shape) p v; held = subst (λ (n : ℕ). links.Whole places n hd ls) (sym e) (C .whole) };
-        lists = ap (λ (n : ℕ). links.listsOf n hd ls) e ∙ C .lists;
+        whole = record { shape = shape-with (t .heads) (W .shape) p v; held = subst (λ n. links.Whole places n hd ls) (sym e) (C .whole) };
+        lists = ap (λ n. links.listsOf n hd ls) e ∙ C .lists;
         kept = record { size = e; links = C .kept };
       }
 
@@ -178,11 +173,7 @@ module _ {t : StackWords} (W : Whole t) where
       let h : headAt t p ≡ nobody = head-first p ∙ ap (firstD nobody) e in
       (h, rw (eq-eqb (headAt t p) nobody h))
 
-  -- ---- the marks afterwards
-
-  pub push-mark : (p i : ℕ) → i < count t → (markOf (push t p i) i ≡ p) × ((j : ℕ) → j ≢ i → markOf (push t p i) j ≡ markOf t j)
-  unfolding push
-  push-mark p i hi = let U = links.mark-joined deep p i (headAt t p) hi in (U .same, U .other)
+  -- ---- the marks after a removal
 
   pub remove-mark : (i : ℕ) → i < count t → (markOf (remove t i) i ≡ nobody) × ((j : ℕ) → j ≢ i → markOf (remove t i) j ≡ markOf t j)
   unfolding remove
@@ -212,8 +203,8 @@ pub lists-fixed : {s t : StackWords} → Whole s → Whole t → lists t ≡ lis
 unfolding lists
 lists-fixed {s} {t} W Y e K =
     let r
-    = whole-fixed (W .held) (subst (λ (n : ℕ). links.Whole places n (headAt t) (t .links)) (K .size) (Y .held))
-    (ap (λ (n : ℕ). links.listsOf n (headAt t) (t .links)) (sym (K .size)) ∙ e) (K .links) in
+    = whole-fixed (W .held) (subst (λ n. links.Whole places n (headAt t) (t .links)) (K .size) (Y .held))
+    (ap (λ n. links.listsOf n (headAt t) (t .links)) (sym (K .size)) ∙ e) (K .links) in
     words-eq (stacks-fixed (s .stacks) (t .stacks) (s .heads) (t .heads) (r .0) (K .size))
     (rows-fixed (s .stacks) (t .stacks) (s .heads) (t .heads) (r .0) (W .shape) (Y .shape)) (r .1)
 

@@ -3,8 +3,8 @@ use mathlib.Core.Path.{_≡_, refl, sym, ap, _∙_, subst}
 use mathlib.Core.Logic.{_↔_, ⊎-elim, by-cases}
 use mathlib.Core.Bool.{Bool, true, false, cond}
 use Prim.Native.Nat.{ℕ, zero, suc, _+_, _-_, _*_, _/_, _^_, _≤_, _<_}
-use native.Mathlib.Nat.{le-antisymm, lt-of-not-le, not-le-of-lt, lt-of-lt-of-le, le-trans, div-eq-of-lt, div-lt-iff-lt-mul, one-mul, eq-zero-or-pos}
-use native.Mathlib.Decide.{decLe, ℕ-discrete}
+use native.Mathlib.Nat.{le-antisymm, lt-of-lt-of-le, div-eq-of-lt, div-lt-iff-lt-mul, one-mul, eq-zero-or-pos}
+use native.Mathlib.Decide.{ℕ-discrete}
 use native.Mathlib.Omega.{arith}
 use lib.Dec.{eqb}
 use lib.Pow.{pow-pos, pow-mono}
@@ -19,16 +19,14 @@ use Rattle.times.specs.Quotients.{quotient-shr, quotient-le, floor-zero,
 one-more : (n e w : ℕ) (b : Bool) → eqb (e / width n) (w / width n) ≡ b → (0 < n → IsLevelBelow n e w (levelBelow n e w)) → IsLevelBelow (suc n) e w (cond b (levelBelow n e w) n)
 unfolding levelBelow
 one-more n e w false t ih = record { within = omega arith; differ = λ p. eqb-false _ _ t; above = λ j p q. absurd (omega arith) }
-one-more zero e w true t ih = record { within = omega arith; differ = λ p. absurd (omega arith); above = λ j p q. absurd (omega arith) }
+one-more zero e w true t ih = omega arith
 one-more (suc n) e w true t ih =
     let l = ih (omega arith) in
     record {
-      within = omega (arith, l .within);
+      within = omega arith;
       differ = l .differ;
       above = λ j p q.
-          by-cases (ℕ-discrete j (suc n))
-          (λ (i : j ≡ suc n). rw i (eqb-true _ _ t))
-          (λ d. l .above j p (omega arith));
+          by-cases (ℕ-discrete j (suc n)) (λ i. rw i (eqb-true _ _ t)) (λ d. l .above j p (omega arith));
     }
 
 level-below : (n e w : ℕ) → 0 < n → IsLevelBelow n e w (levelBelow n e w)
@@ -42,7 +40,8 @@ level-is e w = level-below 6 e w (omega arith)
 
 level-le : {n e w k l : ℕ} → IsLevelBelow n e w k → IsLevelBelow n e w l → k ≤ l
 level-le {k = k} {l = l} p q =
-    by-cases (decLe k l) (λ h. h) (λ h. absurd (p .differ (omega (arith, lt-of-not-le h)) (q .above k (lt-of-not-le h) (p .within))))
+    let later : l < k → ⊥ = λ h. p .differ (omega arith) (q .above k h (p .within)) in
+    omega arith
 
 pub is-level : (e w k : ℕ) → IsLevel e w k → k ≡ levelOf e w
 is-level e w k p = le-antisymm (level-le p (level-is e w)) (level-le (level-is e w) p)
@@ -57,7 +56,7 @@ pub level-lies : (e w k : ℕ) → e ≤ w → block e ≡ block w → IsLevel e
 level-lies e w k h b l =
     let six : e / width 6 ≡ w / width 6 = block-six e ∙ b ∙ sym (block-six w) in
     let next : e / width (suc k) ≡ w / width (suc k)
-    = by-cases (ℕ-discrete (suc k) 6) (λ (s : suc k ≡ 6). rw s six) (λ d. l .above (suc k) (omega arith) (omega (arith, l .within, d))) in
+    = by-cases (ℕ-discrete (suc k) 6) (λ s. rw s six) (λ d. l .above (suc k) (omega arith) (omega arith)) in
     let ahead : 0 < k → e < floor k w = λ p. lt-floor k e w .0 (omega (arith, quotient-le k h, l .differ p)) in
     let start : e ≤ floor k w = ⊎-elim (λ (z : k ≡ 0). rw (z, floor-zero w) h) (λ p. omega (arith, ahead p)) (eq-zero-or-pos k) in
     (record { above = sym next; start = start }, ahead)
@@ -66,7 +65,7 @@ pub lies-level : (e w k : ℕ) → k < 6 → Lies k e w → (0 < k → e < floor
 lies-level e w k h l ahead =
     record {
       within = h;
-      differ = λ p s. omega (arith, s, lt-floor k e w .1 (ahead p));
+      differ = λ p s. omega (arith, lt-floor k e w .1 (ahead p));
       above = λ j p q. sym (lies-agree k e w l j p);
     }
 
@@ -100,21 +99,20 @@ masked-ge e w = omega (arith, or-add-and (bitXor e w) 63, and-le-l (bitXor e w) 
 module _ (e w : ℕ) (b : block e ≡ block w) where
   highest : (j : ℕ) × (leadingZeros 64 (masked e w) + suc j ≡ 64) × (2 ^ j ≤ masked e w) × (masked e w < 2 ^ suc j)
   highest =
-      leading-top 64 (masked e w) (omega (arith, masked-ge e w))
-      (lt-of-lt-of-le (masked-lt e w 36 (omega arith) b) (pow-mono {i = 36} {j = 64} (omega arith)))
+      leading-top 64 (masked e w) (omega (arith, masked-ge e w)) (omega (arith, masked-lt e w 36 (omega arith) b))
 
   -- the place of its highest bit
   abbrev place : ℕ
   place = highest .0
 
   too-short : (n : ℕ) → n ≤ place → masked e w < 2 ^ n → ⊥
-  too-short n h l = not-le-of-lt l (le-trans (pow-mono h) (highest .2))
+  too-short n h l = omega (arith, pow-mono h, highest .2)
 
   place-level : IsLevel e w (place / 6)
   place-level =
       let k : ℕ = place / 6 in
       record {
-        within = by-cases (decLe 36 place) (λ h. absurd (too-short 36 h (masked-lt e w 36 (omega arith) b))) (λ h. omega (arith, lt-of-not-le h));
+        within = let few : 36 ≤ place → ⊥ = λ h. too-short 36 h (masked-lt e w 36 (omega arith) b) in omega arith;
         differ = λ p s. too-short (k * 6) (omega arith) (masked-lt e w (k * 6) (omega arith) (sym (quotient-shr e k) ∙ s ∙ quotient-shr w k));
         above = λ j p q.
             let fits : masked e w < 2 ^ (j * 6) = lt-of-lt-of-le (highest .3) (pow-mono {i = suc place} {j = j * 6} (omega arith)) in
@@ -124,13 +122,13 @@ module _ (e w : ℕ) (b : block e ≡ block w) where
   -- the Rust: the mask caps "the possible leading zeros"
   pub zeros-le : leadingZeros 64 (masked e w) ≤ 58
   zeros-le =
-      by-cases (decLe 5 place) (λ h. omega (arith, highest .1))
-      (λ h. absurd (omega (arith, masked-ge e w, lt-of-lt-of-le (highest .3) (pow-mono {i = suc place} {j = 5} (lt-of-not-le h)))))
+      let high : place < 5 → ⊥ = λ h. omega (arith, masked-ge e w, highest .3, pow-mono {i = suc place} {j = 5} h) in
+      omega (arith, highest .1)
 
   pub zeros-level : (63 - leadingZeros 64 (masked e w)) / 6 ≡ levelOf e w
   zeros-level =
       let significant : 63 - leadingZeros 64 (masked e w) ≡ place = omega (arith, highest .1) in
-      ap (λ (n : ℕ). n / 6) significant ∙ is-level e w (place / 6) place-level
+      ap (λ n. n / 6) significant ∙ is-level e w (place / 6) place-level
 
 -- ---- "Levels at e=0: 63 is 0; 64 is 1; 4095 is 1; 4096 is 2; 1073741824 is 5; 68719476735 is 5. At e=63, 64 is 1. At e=4095, 4096 is 2."
 pub levels-of-01 : (levelOf 0 63 ≡ 0) × (levelOf 0 64 ≡ 1) × (levelOf 0 4095 ≡ 1) × (levelOf 0 4096 ≡ 2)

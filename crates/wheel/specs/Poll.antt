@@ -1,5 +1,5 @@
--- What a poll of the wheel does, by the rules alone (`poll-law`): a least due timer or none, the rest kept, the clock, the moves; and that it does
--- one thing only (`polls-one`).
+-- What a poll of the wheel does, by the rules alone (`poll-law`): a least due timer or none, the rest kept, the clock, the moves. (That it does one thing only
+-- stands in One.antt.)
 use mathlib.Core.Path.{_≡_, refl, sym, _∙_, subst}
 use mathlib.Core.Logic.{inl}
 use mathlib.Core.List.{List, [], _∷_}

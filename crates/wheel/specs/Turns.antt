@@ -14,7 +14,7 @@ use lib.Dec.{eqb}
 use borrow.Author.Tests.{ne-eqb}
 use Rattle.times.specs.Times.{startAt, levelOf, block}
 use Rattle.times.specs.Levels.{level-is}
-use Rattle.links.specs.Lists.{nobody, change}
+use Rattle.links.specs.Lists.{nobody, firstD, change}
 use Rattle.links.specs.Links.{at}
 use Rattle.links.specs.Count.{length-below}
 use Rattle.stack.specs.Places.{slotPlace, slots, expired, places}
@@ -30,7 +30,7 @@ use Rattle.wheel.specs.Next.{slot-below}
 use Rattle.wheel.specs.Drain.{heights, Drained, drain-law, move-rest}
 use Rattle.wheel.specs.Poll.{poll-law}
 use Rattle.wheel.specs.Expiration.{NotPassed, NextIs, between-passed}
-use Rattle.wheel.specs.Words.{WheelWords, wheelWords, lists, count, WheelWhole, Becomes, LooseIn, CanAdd, CanPop, Pops}
+use Rattle.wheel.specs.Words.{WheelWords, wheelWords, lists, count, WheelWhole, Becomes, headAt, LooseIn, CanAdd, CanPop, Pops}
 
 -- ---- becoming, twice
 
@@ -48,11 +48,11 @@ pub record CanInsert (t : WheelWords) (w i : ℕ) : Type 0 where
   pub item : LooseIn t i
 
 pub insert-adds : {t : WheelWords} {w i : ℕ} → CanInsert t w i → (k : ℕ) → k ≡ levelOf (t .elapsed) w → CanAdd t k i
-insert-adds {t} {w} C k e = record { whole = C .whole; level = omega (arith, e, level-is (t .elapsed) w .within); item = C .item }
+insert-adds {t} {w} C k e = record { whole = C .whole; level = omega (arith, level-is (t .elapsed) w .within); item = C .item }
 
 pub inserted : (t : WheelWords) (w i k : ℕ) {t′ : WheelWords} → k ≡ levelOf (t .elapsed) w → Becomes t (arrive k w i (lists t)) t′
     → Becomes t (arrive (levelOf (t .elapsed) w) w i (lists t)) t′
-inserted t w i k {t′} e B = subst (λ (j : ℕ). Becomes t (arrive j w i (lists t)) t′) e B
+inserted t w i k e B = rw e at B
 
 -- ---- one move
 
@@ -67,34 +67,40 @@ pub record MovesOne (d : ℕ → ℕ) (t : WheelWords) (k p item : ℕ) (t′ : 
   pub none : lists t p ≡ [] → (item ≡ nobody) × Becomes t (lists t) t′
   pub some : (x : ℕ) (l : List ℕ) → lists t p ≡ x ∷ l → (item ≡ x) × Becomes t (arrive k (d x) x (change (lists t) p l)) t′
 
-module _ {t : WheelWords} {p item : ℕ} {u : WheelWords} (W : WheelWhole t) (Q : Pops t p item u) where
-  -- by what was popped
-  pub popped-empty : item ≡ nobody → lists t p ≡ []
-  popped-empty z = by (lists t p) refl
+-- by what came of it: item is the head of p, or nobody where p is empty
+module _ {t : WheelWords} (W : WheelWhole t) (p : ℕ) {item : ℕ} (none : lists t p ≡ [] → item ≡ nobody) (some : (x : ℕ) (l : List ℕ) → lists t p ≡ x ∷ l → item ≡ x) where
+  head-is : headAt t p ≡ item
+  head-is = stack.head-first (W .stack) p ∙ by (lists t p) refl
     where
-      by : (l : List ℕ) → lists t p ≡ l → lists t p ≡ []
-      by [] e = e
-      by (x ∷ l) e = absurd (stack.member-some (W .stack) p x (rw e (inl refl)) (sym (Q .some x l e .0) ∙ z))
+      by : (l : List ℕ) → lists t p ≡ l → firstD nobody l ≡ item
+      by [] e = sym (none e)
+      by (x ∷ l) e = sym (some x l e)
+
+  was-empty : item ≡ nobody → lists t p ≡ []
+  was-empty z = stack.list-empty (W .stack) p (head-is ∙ z)
+
+  was-cons : item ≢ nobody → (l : List ℕ) × (lists t p ≡ item ∷ l)
+  was-cons d = rw head-is at (stack.list-cons (W .stack) p (λ z. d (sym head-is ∙ z)))
+
+module _ {t : WheelWords} {p item : ℕ} {u : WheelWords} (W : WheelWhole t) (Q : Pops t p item u) where
+  pub popped-empty : item ≡ nobody → lists t p ≡ []
+  popped-empty = was-empty W p (λ e. Q .none e .0) (λ x l e. Q .some x l e .0)
 
   pub popped-cons : item ≢ nobody → (l : List ℕ) × (lists t p ≡ item ∷ l)
-  popped-cons d = by (lists t p) refl
-    where
-      by : (l : List ℕ) → lists t p ≡ l → (k : List ℕ) × (lists t p ≡ item ∷ k)
-      by [] e = absurd (d (Q .none e .0))
-      by (x ∷ l) e = (l, e ∙ ap (λ (y : ℕ). y ∷ l) (sym (Q .some x l e .0)))
+  popped-cons = was-cons W p (λ e. Q .none e .0) (λ x l e. Q .some x l e .0)
 
 module _ {t : WheelWords} {ds : List ℕ} {k s : ℕ} (C : CanMove t ds k s) {item : ℕ} {u : WheelWords} (Q : Pops t (slotPlace k s) item u) where
   pub moved-none : item ≡ nobody → MovesOne (at ds) t (k - 1) (slotPlace k s) item u
   moved-none z =
       let e = popped-empty (C .pop .whole) Q z in
-      record { none = λ f. Q .none f; some = λ x l f. absurd (nil≢cons (sym e ∙ f)) }
+      record { none = Q .none; some = λ x l f. absurd (nil≢cons (sym e ∙ f)) }
 
   module _ (some : item ≢ nobody) where
     was : (l : List ℕ) × (lists t (slotPlace k s) ≡ item ∷ l)
     was = popped-cons (C .pop .whole) Q some
 
     pub move-deadline : item < length ds
-    move-deadline = omega (arith, C .deadlines, stack.member-below (C .pop .whole .stack) (slotPlace k s) item (rw (was .1) (inl refl)))
+    move-deadline = omega (arith, stack.member-below (C .pop .whole .stack) (slotPlace k s) item (rw (was .1) (inl refl)))
 
     pub move-adds : CanAdd u (k - 1) item
     move-adds =
@@ -133,85 +139,51 @@ pub record DrainedSo (d : ℕ → ℕ) (t₀ : WheelWords) (k p moves : ℕ) (t 
 -- a list has no more members than there are records
 pub list-short : {t : WheelWords} → WheelWhole t → (p : ℕ) → length (lists t p) ≤ 65535
 list-short {t} W p =
-    omega (arith, length-below (lists t p) (count t) (stack.list-nodup (W .stack) p) (λ i m. stack.member-below (W .stack) p i m), stack.small (W .stack))
-
-one-more : (a b : ℕ) → a + suc b ≡ a + 1 + b
-one-more a b = omega arith
+    omega (arith, length-below (lists t p) (count t) (stack.list-nodup (W .stack) p) (stack.member-below (W .stack) p))
 
 one-less : (k : ℕ) → suc k - 1 ≡ k
 one-less k = omega arith
 
-module _ (d : ℕ → ℕ) (k p : ℕ) where
-  pub drain-none : {t : WheelWords} → WheelWhole t → DrainedSo d t k p 0 t
-  drain-none {t} W = record { becomes = becomes-refl W; so-far = λ m M D. subst (λ (n : ℕ). Drains d k p (lists t) n M) (sym (zero-add m)) D; left = zero-add _ }
-
-  module _ (level : p / 64 ≡ suc k) (below : p < slots) {t₀ t : WheelWords} {moves : ℕ} (S : DrainedSo d t₀ k p moves t) {item : ℕ} {u : WheelWords} (Q : MovesOne d t k p item u) where
-    pub drain-turn : item ≢ nobody → DrainedSo d t₀ k p (moves + 1) u × (length (lists u p) < length (lists t p))
-    drain-turn h = by (lists t p) refl
-      where
-        by : (l : List ℕ) → lists t p ≡ l → DrainedSo d t₀ k p (moves + 1) u × (length (lists u p) < length (lists t p))
-        by [] e = absurd (h (Q .none e .0))
-        by (x ∷ l) e =
-            let r = Q .some x l e in
-            let z : lists u p ≡ l = ap (λ (L : Lists). L p) (r .1 .lists) ∙ move-rest d k p level below (lists t) x l e in
-            let lu : Becomes t (lists u) u = subst (λ (L : Lists). Becomes t L u) (sym (r .1 .lists)) (r .1) in (
-              record {
-                becomes = becomes-trans (S .becomes) lu;
-                so-far = λ m M D.
-                    let D′ : Drains d k p (lists t) (suc m) M = moved e (subst (λ (L : Lists). Drains d k p L m M) (r .1 .lists) D) in
-                    subst (λ (n : ℕ). Drains d k p (lists t₀) n M) (one-more moves m) (S .so-far (suc m) M D′);
-                left = omega (arith, S .left, ap length e, ap length z);
-              },
-              omega (arith, ap length e, ap length z),
-            )
-
-    -- nobody is left
-    pub drain-done : WheelWhole t₀ → item ≡ nobody → DrainsTo d t₀ k p moves u
-    drain-done W z = by (lists t p) refl
-      where
-        by : (l : List ℕ) → lists t p ≡ l → DrainsTo d t₀ k p moves u
-        by [] e =
-            let r = Q .none e in
-            let lu : Becomes t (lists u) u = subst (λ (L : Lists). Becomes t L u) (sym (r .1 .lists)) (r .1) in
-            record {
-              drains = rw (r .1 .lists) (subst (λ (n : ℕ). Drains d k p (lists t₀) n (lists t)) (add-zero moves) (S .so-far 0 (lists t) (drained e)));
-              becomes = becomes-trans (S .becomes) lu;
-              few = omega (arith, S .left, list-short W p);
-            }
-        by (x ∷ l) e = absurd (stack.member-some (S .becomes .whole .stack) p x (rw e (inl refl)) (sym (Q .some x l e .0) ∙ z))
-
--- the same of the code's level k, which is over 0
 module _ {t₀ : WheelWords} {ds : List ℕ} {k s : ℕ} (C : CanMove t₀ ds k s) where
-  level-is-k : slotPlace k s / 64 ≡ suc (k - 1)
-  level-is-k = omega (arith, C .high, C .pop .slot)
-
-  here-slot : slotPlace k s < slots
-  here-slot = omega (arith, C .pop .level, C .pop .slot)
-
   abbrev So : ℕ → WheelWords → Type 0
   So moves t = DrainedSo (at ds) t₀ (k - 1) (slotPlace k s) moves t
 
   pub turn-start : So 0 t₀
-  turn-start = drain-none (at ds) (k - 1) (slotPlace k s) (C .pop .whole)
+  turn-start = record { becomes = becomes-refl (C .pop .whole); so-far = λ m M D. rw zero-add D; left = zero-add _ }
 
   module _ {t : WheelWords} {moves : ℕ} (S : So moves t) where
     pub turn-can : CanMove t ds k s
     turn-can =
-        record {
-          pop = record { whole = S .becomes .whole; level = C .pop .level; slot = C .pop .slot };
-          high = C .high;
-          deadlines = omega (arith, C .deadlines, S .becomes .kept .size);
-        }
+        record { pop = record { whole = S .becomes .whole; level = C .pop .level; slot = C .pop .slot }; high = C .high; deadlines = omega arith }
 
     pub turn-few : moves ≤ 65535
-    turn-few = omega (arith, S .left, list-short (C .pop .whole) (slotPlace k s))
+    turn-few = omega (arith, list-short (C .pop .whole) (slotPlace k s))
 
     module _ {item : ℕ} {u : WheelWords} (Q : MovesOne (at ds) t (k - 1) (slotPlace k s) item u) where
       pub turn-more : item ≢ nobody → So (moves + 1) u × (length (lists u (slotPlace k s)) < length (lists t (slotPlace k s)))
-      turn-more h = drain-turn (at ds) (k - 1) (slotPlace k s) level-is-k here-slot S Q h
+      turn-more h =
+          let p : ℕ = slotPlace k s in
+          let w = was-cons (S .becomes .whole) p (λ e. Q .none e .0) (λ x l e. Q .some x l e .0) h in
+          let r = Q .some item (w .0) (w .1) in
+          let z : lists u p ≡ w .0 = rw (r .1 .lists) (move-rest (at ds) (k - 1) p (omega arith) (omega arith) (lists t) item (w .0) (w .1)) in (
+            record {
+              becomes = becomes-trans (S .becomes) (rw (r .1 .lists) (r .1));
+              so-far = λ m M D. subst (λ n. Drains (at ds) (k - 1) p (lists t₀) n M) (omega arith) (S .so-far (suc m) M (moved (w .1) (rw (r .1 .lists) at D)));
+              left = omega (arith, ap length (w .1), ap length z);
+            },
+            omega (arith, ap length (w .1), ap length z),
+          )
 
+      -- nobody is left
       pub turn-done : item ≡ nobody → DrainsTo (at ds) t₀ (k - 1) (slotPlace k s) moves u
-      turn-done z = drain-done (at ds) (k - 1) (slotPlace k s) level-is-k here-slot S Q (C .pop .whole) z
+      turn-done z =
+          let e = was-empty (S .becomes .whole) (slotPlace k s) (λ e. Q .none e .0) (λ x l e. Q .some x l e .0) z in
+          let r = Q .none e in
+          record {
+            drains = rw (r .1 .lists, ← (add-zero moves)) (S .so-far 0 (lists t) (drained e));
+            becomes = becomes-trans (S .becomes) (rw (r .1 .lists) (r .1));
+            few = turn-few;
+          }
 
 -- ---- a poll, look by look
 
@@ -249,10 +221,10 @@ pub record PolledSo (d : ℕ → ℕ) (now : ℕ) (t₀ : WheelWords) (moves dra
 pub heights-small : {t : WheelWords} → WheelWhole t → heights (lists t) ≤ 327675
 unfolding heights
 heights-small {t} W =
-    let a = total-le (λ p x. p / 64) (λ p x. 5) slots (lists t) (λ p x h. omega arith) in
+    let a = total-le (λ p x. p / 64) (λ p x. 5) slots (lists t) (omega arith) in
     let b = total-scale 5 places (lists t) 0 places (omega arith) in
     let c = total-scale 5 places (lists t) slots 2 (omega arith) in
-    omega (arith, a, b, c, total-zero (λ p x. 5) (lists t), stack.members-few (W .stack), stack.small (W .stack))
+    omega (arith, total-zero (λ p x. 5) (lists t), stack.members-few (W .stack))
 
 got-some : (i : ℕ) → i ≢ nobody → gotten i ≡ some i
 got-some i d = rw (ne-eqb i nobody d)
@@ -267,11 +239,11 @@ module _ {d : ℕ → ℕ} {now e : ℕ} {L : Lists} where
   drain-at : (k s : ℕ) → FirstSlot e L k s → k ≢ 0 → startAt e k s ≤ now → {m : ℕ} {M : Lists} → Drains d (k - 1) (slotPlace k s) L m M
       → {got : Option ℕ} {moves drains e′ : ℕ} {N : Lists} → Polls d now (startAt e k s) M got moves drains e′ N → Polls d now e L got (m + moves) (suc drains) e′ N
   drain-at zero s F z h D r = absurd (z refl)
-  drain-at (suc k) s F z h {m} {M} D r = drain F h (subst (λ (j : ℕ). Drains d j (slotPlace (suc k) s) L m M) (one-less k) D) r
+  drain-at (suc k) s F z h D r = drain F h (rw one-less at D) r
 
 drained-at : {d : ℕ → ℕ} {e : ℕ} {L : Lists} → Between d e L → (k s : ℕ) → FirstSlot e L k s → k ≢ 0 → {m : ℕ} {M : Lists} → Drains d (k - 1) (slotPlace k s) L m M → Drained d e L m (startAt e k s) M
 drained-at B zero s F z D = absurd (z refl)
-drained-at {d} {e} {L} B (suc k) s F z {m} {M} D = drain-law B F (subst (λ (j : ℕ). Drains d j (slotPlace (suc k) s) L m M) (one-less k) D)
+drained-at B (suc k) s F z D = drain-law B F (rw one-less at D)
 
 module _ {t₀ : WheelWords} {ds : List ℕ} {now : ℕ} (C : CanPoll t₀ ds now) where
   abbrev d : ℕ → ℕ
@@ -303,7 +275,7 @@ module _ {t₀ : WheelWords} {ds : List ℕ} {now : ℕ} (C : CanPoll t₀ ds no
     look-asks = between-passed (S .rule) (S .whole .rows)
 
     pub counts-small : (moves ≤ 327675) × (drains ≤ 327675)
-    counts-small = (omega (arith, S .counted, heights-small (C .whole)), omega (arith, S .few, S .counted, heights-small (C .whole)))
+    counts-small = omega (arith, heights-small (C .whole))
 
     rest : Polls d now (t .elapsed) (lists t) none 0 0 now (lists t) → PollsTo d now t₀ nobody moves drains (wheelWords now (t .occupied) (t .stack))
     rest r =
@@ -317,7 +289,7 @@ module _ {t₀ : WheelWords} {ds : List ℕ} {now : ℕ} (C : CanPoll t₀ ds no
     module _ {k s : ℕ} (F : FirstSlot (t .elapsed) (lists t) k s) (c : ℕ) (ec : c ≡ startAt (t .elapsed) k s) where
       -- a slot start past now
       pub poll-early : now < c → PollsTo d now t₀ nobody moves drains (wheelWords now (t .occupied) (t .stack))
-      poll-early h = rest (early F (omega (arith, h, ec)))
+      poll-early h = rest (early F (omega arith))
 
       pub pop-can : CanPop t k s
       pop-can = record { whole = S .whole; level = F .within; slot = slot-below (S .rule) F }
@@ -328,8 +300,8 @@ module _ {t₀ : WheelWords} {ds : List ℕ} {now : ℕ} (C : CanPoll t₀ ds no
           let x : ℕ = F .head in
           let l : List ℕ = F .rest in
           let r = Q .some x l (F .filled) in
-          let h : item ≢ nobody = λ y. stack.member-some (S .whole .stack) (slotPlace k s) x (rw (F .filled) (inl refl)) (sym (r .0) ∙ y) in
-          let o : Polls d now (t .elapsed) (lists t) (some x) 0 0 (t .elapsed) (change (lists t) (slotPlace k s) l) = out-at k s x l F z (omega (arith, due, ec)) (F .filled) in
+          let h : item ≢ nobody = omega arith in
+          let o : Polls d now (t .elapsed) (lists t) (some x) 0 0 (t .elapsed) (change (lists t) (slotPlace k s) l) = out-at k s x l F z (omega arith) (F .filled) in
           let g : gotten item ≡ some x = got-some item h ∙ ap some (r .0) in
           let e : u .elapsed ≡ t .elapsed = r .2 .elapsed in
           ends item moves drains
@@ -337,12 +309,12 @@ module _ {t₀ : WheelWords} {ds : List ℕ} {now : ℕ} (C : CanPoll t₀ ds no
           (r .2 .whole) (stack.kept-trans (S .kept) (r .2 .kept)) (λ y. rw (r .0) (r .1))
 
       pub drain-can : k ≢ 0 → CanMove t ds k s
-      drain-can z = record { pop = pop-can; high = omega (arith, z); deadlines = omega (arith, C .deadlines, S .kept .size) }
+      drain-can z = record { pop = pop-can; high = omega arith; deadlines = omega arith }
 
       -- a slot above level 0 is drained, and elapsed becomes its start
       pub poll-drain : (z : k ≢ 0) → c ≤ now → (m : ℕ) {u : WheelWords} → DrainsTo d t (k - 1) (slotPlace k s) m u
           → PollSo (moves + m) (drains + 1) (wheelWords c (u .occupied) (u .stack)) × (heights (lists u) < heights (lists t))
-      poll-drain z due m {u} D =
+      poll-drain z due m D =
           let R = drained-at (S .rule) k s F z (D .drains) in (
             record {
               whole = record { stack = D .becomes .whole .stack; rows = D .becomes .whole .rows };
@@ -350,18 +322,18 @@ module _ {t₀ : WheelWords} {ds : List ℕ} {now : ℕ} (C : CanPoll t₀ ds no
               not-back = due;
               kept = stack.kept-trans (S .kept) (D .becomes .kept);
               so-far = λ {got} {m = i} {n} {e} {M} r.
-                  let r′ : Polls d now (t .elapsed) (lists t) got (m + i) (suc n) e M = drain-at k s F z (omega (arith, due, ec)) (D .drains) (rw ec at r) in
+                  let r′ : Polls d now (t .elapsed) (lists t) got (m + i) (suc n) e M = drain-at k s F z (omega arith) (D .drains) (rw ec at r) in
                   rw (add-assoc moves m i, add-assoc drains 1 n, one-add n) (S .so-far r′);
-              counted = omega (arith, S .counted, R .fallen);
-              few = omega (arith, S .few, R .some);
+              counted = omega arith;
+              few = omega arith;
             },
-            omega (arith, R .fallen, R .some),
+            omega arith,
           )
 
 -- what a look found, by the answer's case
 module _ {t : WheelWords} (W : WheelWhole t) {r : Next} (N : (L : Lists) → Rows (t .occupied) L → NextIs (t .elapsed) L r) where
   pub look-nothing : r ≡ Nothing → NextIs (t .elapsed) (lists t) Nothing
-  look-nothing e = subst (NextIs (t .elapsed) (lists t)) e (N (lists t) (W .rows))
+  look-nothing e = rw e at (N (lists t) (W .rows))
 
   pub look-at : (x : Expiration) → r ≡ At x → NextIs (t .elapsed) (lists t) (At x)
-  look-at x e = subst (NextIs (t .elapsed) (lists t)) e (N (lists t) (W .rows))
+  look-at x e = rw e at (N (lists t) (W .rows))

@@ -61,6 +61,11 @@ pub record LooseIn (t : WheelWords) (i : ℕ) : Type 0 where
   pub below : i < count t
   pub loose : markOf t i ≡ nobody
 
+-- one list changes, and the rows are those of the lists then
+becomes : {t : WheelWords} {p : ℕ} {l : List ℕ} {u : StackWords} {occ : List ℕ} → stack.Changes (t .stack) p l u → Rows occ (change (lists t) p l)
+    → Becomes t (change (lists t) p l) (wheelWords (t .elapsed) occ u)
+becomes C R = record { whole = record { stack = C .whole; rows = rw (C .lists) R }; lists = C .lists; elapsed = refl; kept = C .kept }
+
 -- ---- an entry comes into a slot
 
 pub record CanAdd (t : WheelWords) (k i : ℕ) : Type 0 where
@@ -70,7 +75,7 @@ pub record CanAdd (t : WheelWords) (k i : ℕ) : Type 0 where
 
 module _ {t : WheelWords} {k i : ℕ} (C : CanAdd t k i) (w s : ℕ) (es : s ≡ slotOf w k) where
   pub add-slot : (k < 6) × (s < 64)
-  add-slot = (C .level, omega (arith, es, slot-lt w k))
+  add-slot = omega (arith, slot-lt w k)
 
   pub add-push : (k < 6) × (s < 64) × CanJoin (t .stack .links) i (slotHead (t .stack .heads) k s)
   add-push = (add-slot .0, add-slot .1, stack.can-push-slot (C .whole .stack) k s (add-slot .0) (add-slot .1) i (C .item .below))
@@ -82,52 +87,34 @@ put-filled p i l = refl
 pub add-law : {t : WheelWords} {k i : ℕ} → CanAdd t k i → (w s : ℕ) {occ : List ℕ} {u : StackWords} → s ≡ slotOf w k
     → u ≡ push (t .stack) (slotPlace k s) i → occ ≡ withFlag (t .occupied) k s true → Becomes t (arrive k w i (lists t)) (wheelWords (t .elapsed) occ u)
 unfolding arrive
-add-law {t} {k} {i} C w s {occ} {u} es eu eo =
-    let hs : s < 64 = omega (arith, es, slot-lt w k) in
+add-law {t} {k} {i} C w s es eu eo =
+    let hs : s < 64 = omega (arith, slot-lt w k) in
     let p : ℕ = slotPlace k s in
-    let S = stack.push-law (C .whole .stack) p i (omega (arith, hs, C .level)) (C .item .below) (C .item .loose) in
-    let e : stack.lists u ≡ change (lists t) p (put p i (lists t p)) = ap stack.lists eu ∙ S .lists in
-    record {
-      whole = record {
-        stack = subst stack.Whole (sym eu) (S .whole);
-        rows = rw (eo, e) (rows-flagged (C .whole .rows) k s true (put p i (lists t p)) (C .level) hs (put-filled p i (lists t p)));
-      };
-      lists = e ∙ ap (λ (z : ℕ). change (lists t) (slotPlace k z) (put (slotPlace k z) i (lists t (slotPlace k z)))) es;
-      elapsed = refl;
-      kept = subst (stack.StackKept (t .stack)) (sym eu) (S .kept);
-    }
+    rw (← es, eo) (becomes (rw eu (stack.push-law (C .whole .stack) p i (omega arith) (C .item .below) (C .item .loose)))
+    (rows-flagged (C .whole .rows) k s true (put p i (lists t p)) (C .level) hs (put-filled p i (lists t p))))
 
 -- ---- an entry leaves its list, where l is left
 
 module _ {t : WheelWords} (W : WheelWhole t) {p : ℕ} {l : List ℕ} {u : StackWords} (C : stack.Changes (t .stack) p l u) where
   left-list : stack.lists u p ≡ l
-  left-list = ap (λ (L : Lists). L p) (C .lists) ∙ change-same (lists t) p l
-
-  becomes : {occ : List ℕ} → Rows occ (change (lists t) p l) → Becomes t (change (lists t) p l) (wheelWords (t .elapsed) occ u)
-  becomes {occ} R =
-      record {
-        whole = record { stack = C .whole; rows = subst (Rows occ) (sym (C .lists)) R };
-        lists = C .lists;
-        elapsed = refl;
-        kept = C .kept;
-      }
+  left-list = rw (C .lists) (change-same (lists t) p l)
 
   -- it is no slot
   pub left-aside : slots ≤ p → Becomes t (change (lists t) p l) (wheelWords (t .elapsed) (t .occupied) u)
-  left-aside h = becomes (rows-aside (W .rows) p l h)
+  left-aside h = becomes C (rows-aside (W .rows) p l h)
 
   -- it still has a head
   pub left-some : filled (lists t p) ≡ true → headIn u p ≢ nobody → Becomes t (change (lists t) p l) (wheelWords (t .elapsed) (t .occupied) u)
   left-some f h =
       let r = stack.list-cons (C .whole) p h in
-      becomes (rows-kept (W .rows) p l (ap filled (sym left-list ∙ r .1) ∙ sym f))
+      becomes C (rows-kept (W .rows) p l (ap filled (sym left-list ∙ r .1) ∙ sym f))
 
   -- it has none, and its flag is cleared
   pub left-none : (k s : ℕ) {occ : List ℕ} → k < 6 → s < 64 → p ≡ slotPlace k s → headIn u p ≡ nobody → occ ≡ withFlag (t .occupied) k s false
       → Becomes t (change (lists t) p l) (wheelWords (t .elapsed) occ u)
-  left-none k s {occ} hk hs ep h eo =
+  left-none k s hk hs ep h eo =
       let e : l ≡ [] = sym left-list ∙ stack.list-empty (C .whole) p h in
-      becomes (rw (eo, ep) (rows-flagged (W .rows) k s false l hk hs (ap filled (sym e))))
+      becomes C (rw (eo, ep) (rows-flagged (W .rows) k s false l hk hs (ap filled (sym e))))
 
 -- ---- the head of a list leaves it
 
@@ -149,7 +136,7 @@ module _ {t : WheelWords} (W : WheelWhole t) (p item : ℕ) (ei : item ≡ headA
 
   module _ (some : item ≢ nobody) where
     was : (l : List ℕ) × (lists t p ≡ item ∷ l)
-    was = let r = stack.list-cons (W .stack) p (λ z. some (ei ∙ z)) in (r .0, r .1 ∙ ap (λ (x : ℕ). x ∷ r .0) (sym ei))
+    was = rw (← ei) at (stack.list-cons (W .stack) p (λ z. some (ei ∙ z)))
 
     change-here : stack.Changes (t .stack) p (was .0) u
     change-here = subst (stack.Changes (t .stack) p (was .0)) (sym eu) (stack.pop-law (W .stack) p item (was .0) (was .1) .1)
@@ -159,7 +146,7 @@ module _ {t : WheelWords} (W : WheelWhole t) (p item : ℕ) (ei : item ≡ headA
 
     -- whatever occupied rows it is left with
     pops : {occ : List ℕ} → Becomes t (change (lists t) p (was .0)) (wheelWords (t .elapsed) occ u) → Pops t p item (wheelWords (t .elapsed) occ u)
-    pops {occ} B =
+    pops B =
         record {
           none = λ g. absurd (nil≢cons (sym g ∙ was .1));
           some = λ x l g.
@@ -168,10 +155,10 @@ module _ {t : WheelWords} (W : WheelWhole t) (p item : ℕ) (ei : item ≡ headA
               let b : was .0 ≡ l = cc in (
                 a,
                 rw (← a) (record {
-                  below = omega (arith, item-below, B .kept .size);
-                  loose = ap (λ (z : StackWords). markIn z item) eu ∙ stack.pop-mark (W .stack) p item (was .0) (was .1);
+                  below = omega (arith, item-below);
+                  loose = rw eu (stack.pop-mark (W .stack) p item (was .0) (was .1));
                 }),
-                subst (λ (m : List ℕ). Becomes t (change (lists t) p m) (wheelWords (t .elapsed) occ u)) b B,
+                rw b at B,
               );
         }
 
@@ -186,7 +173,7 @@ module _ {t : WheelWords} (W : WheelWhole t) (p item : ℕ) (ei : item ≡ headA
     -- it was the last of slot s of level k, whose flag is set until now
     module _ (k s : ℕ) (hk : k < 6) (hs : s < 64) (ep : p ≡ slotPlace k s) where
       pub popped-flag : flagAt (at (t .occupied) k) s ≡ true
-      popped-flag = flag-is (W .rows) k s hk hs ∙ ap (λ (z : ℕ). filled (lists t z)) (sym ep) ∙ ap filled (was .1)
+      popped-flag = flag-is (W .rows) k s hk hs ∙ rw (← ep) (ap filled (was .1))
 
       pub popped-last : headIn u p ≡ nobody → {occ : List ℕ} → occ ≡ withFlag (t .occupied) k s false → Pops t p item (wheelWords (t .elapsed) occ u)
       popped-last h eo = pops (left-none W change-here k s hk hs ep h eo)
@@ -215,9 +202,8 @@ pub record CanPush (t : WheelWords) (p i : ℕ) : Type 0 where
 
 pub push-aside : {t : WheelWords} {p i : ℕ} → CanPush t p i → {u : StackWords} → u ≡ push (t .stack) p i
     → Becomes t (change (lists t) p (put p i (lists t p))) (wheelWords (t .elapsed) (t .occupied) u)
-push-aside {t} {p} {i} C {u} eu =
-    let S = subst (stack.Changes (t .stack) p (put p i (lists t p))) (sym eu) (stack.push-law (C .whole .stack) p i (C .place) (C .item .below) (C .item .loose)) in
-    left-aside (C .whole) S (C .aside)
+push-aside {t} {p} {i} C eu =
+    left-aside (C .whole) (rw eu (stack.push-law (C .whole .stack) p i (C .place) (C .item .below) (C .item .loose))) (C .aside)
 
 pub push-asks : {t : WheelWords} {p i : ℕ} → CanPush t p i → (p < places) × CanJoin (t .stack .links) i (headAt t p)
 push-asks {t} {p} {i} C = stack.can-push (C .whole .stack) p i (C .place) (C .item .below)
@@ -242,7 +228,7 @@ module _ {t : WheelWords} {i : ℕ} (C : CanLeave t i) {u : StackWords} (eu : u 
   from = markOf t i
 
   left-here : stack.Changes (t .stack) from (without i (lists t from)) u
-  left-here = subst (stack.Changes (t .stack) from (without i (lists t from))) (sym eu) (stack.remove-law (C .whole .stack) i (C .below) (C .listed))
+  left-here = rw eu (stack.remove-law (C .whole .stack) i (C .below) (C .listed))
 
   was-filled : filled (lists t from) ≡ true
   was-filled = by (lists t from) (stack.marked-member (C .whole .stack) i (C .below) (C .listed))
@@ -255,8 +241,8 @@ module _ {t : WheelWords} {i : ℕ} (C : CanLeave t i) {u : StackWords} (eu : u 
   leaves B =
       record {
         item = record {
-          below = omega (arith, C .below, B .kept .size);
-          loose = ap (λ (z : StackWords). markIn z i) eu ∙ stack.remove-mark (C .whole .stack) i (C .below) .0;
+          below = omega arith;
+          loose = rw eu (stack.remove-mark (C .whole .stack) i (C .below) .0);
         };
         becomes = B;
       }
@@ -271,7 +257,7 @@ module _ {t : WheelWords} {i : ℕ} (C : CanLeave t i) {u : StackWords} (eu : u 
     pub leaves-flag : flagAt (at (t .occupied) (from / 64)) (from % 64) ≡ true
     leaves-flag =
         let e : slotPlace (from / 64) (from % 64) ≡ from = omega arith in
-        flag-is (C .whole .rows) (from / 64) (from % 64) (omega arith) (omega arith) ∙ ap (λ (z : ℕ). filled (lists t z)) e ∙ was-filled
+        flag-is (C .whole .rows) (from / 64) (from % 64) (omega arith) (omega arith) ∙ rw e was-filled
 
     pub leaves-last : headIn u from ≡ nobody → {occ : List ℕ} → occ ≡ withFlag (t .occupied) (from / 64) (from % 64) false → Leaves t i (wheelWords (t .elapsed) occ u)
     leaves-last h eo = leaves (left-none (C .whole) left-here (from / 64) (from % 64) (omega arith) (omega arith) (omega arith) h eo)

@@ -1,7 +1,7 @@
 -- `format_no` meets its contract, test by test.
 use borrow.Author.Needs.{needs}
 use native.Mathlib.Omega.{arith}
-use Rattle.judge.specs.Judge.{denied, granted}
+use borrow.Author.Tests.{not-true, not-false}
 use Rattle.delay_queue.specs.Format.{no-one, no-eight, no-none}
 use Rattle.delay_queue.proofs.format_no.Statement.{statement}
 use Rattle.delay_queue.proofs.format_no.Tie as tie
@@ -22,16 +22,16 @@ has-room-requires : tie.Need-has-room-requires
 has-room-requires c κs = search needs
 
 returns-3 : tie.Need-returns-3
-returns-3 c = no-one (λ F. c .before .has-room .ensures .no (denied _ (c .if3 .taken)) (F .2))
+returns-3 c = no-one (λ F. c .before .has-room .ensures .no (not-true _ (c .if3 .taken)) (F .2))
 
 returns-4 : tie.Need-returns-4
-returns-4 c = no-eight (omega arith, omega arith, c .before .before .has-room .ensures .yes (granted _ (c .before .if3 .left))) (λ T. omega (arith, T .some))
+returns-4 c = no-eight (omega arith, omega arith, c .before .before .has-room .ensures .yes (not-false _ (c .before .if3 .left))) (λ T. omega (arith, T .some))
 
 returns-5 : tie.Need-returns-5
-returns-5 c = no-eight (omega arith, omega arith, c .before .before .before .has-room .ensures .yes (granted _ (c .before .before .if3 .left))) (λ T. omega (arith, T .last))
+returns-5 c = no-eight (omega arith, omega arith, c .before .before .before .has-room .ensures .yes (not-false _ (c .before .before .if3 .left))) (λ T. omega (arith, T .last))
 
 returns-6 : tie.Need-returns-6
-returns-6 c = no-none (omega arith, omega arith, c .before .before .before .has-room .ensures .yes (granted _ (c .before .before .if3 .left))) (record { some = omega arith; last = omega arith })
+returns-6 c = no-none (omega arith, omega arith, c .before .before .before .has-room .ensures .yes (not-false _ (c .before .before .if3 .left))) (record { some = omega arith; last = omega arith })
 
 pub format-no-spec : {M : Type 1} → statement M
 format-no-spec =

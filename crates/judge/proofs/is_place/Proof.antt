@@ -2,10 +2,10 @@
 use borrow.Author.Needs.{needs}
 use mathlib.Core.Path.{sym, _∙_}
 use native.Mathlib.Omega.{arith}
-use borrow.Author.Tests.{eqb-true, eqb-false}
+use borrow.Author.Tests.{eqb-true, eqb-false, not-true, not-false}
 use Rattle.times.specs.Levels.{level-is}
 use Rattle.times.specs.Quotients.{slot-lt}
-use Rattle.judge.specs.Judge.{denied, granted, tells-no, place-told}
+use Rattle.judge.specs.Judge.{tells-no, place-told}
 use Rattle.judge.proofs.is_place.Statement.{statement}
 use Rattle.judge.proofs.is_place.Tie as tie
 
@@ -16,10 +16,10 @@ same-block-requires : tie.Need-same-block-requires
 same-block-requires c κs = search needs
 
 returns-2 : tie.Need-returns-2
-returns-2 c = tells-no (λ o. eqb-false _ _ (sym (c .before .same-block .ensures) ∙ denied _ (c .if2 .taken)) (o .near))
+returns-2 c = tells-no (λ o. eqb-false _ _ (sym (c .before .same-block .ensures) ∙ not-true _ (c .if2 .taken)) (o .near))
 
 level-for-requires : tie.Need-level-for-requires
-level-for-requires c κs = sym (eqb-true _ _ (sym (c .before .same-block .ensures) ∙ granted _ (c .if2 .left)))
+level-for-requires c κs = sym (eqb-true _ _ (sym (c .before .same-block .ensures) ∙ not-false _ (c .if2 .left)))
 
 slot-for-requires : tie.Need-slot-for-requires
 slot-for-requires c κs = omega (arith, c .level-for .ensures, level-is (c .before .before .before .before .args .elapsed) (c .before .before .before .before .args .when) .within)
@@ -28,7 +28,7 @@ slot-place-requires : tie.Need-slot-place-requires
 slot-place-requires c κs = (omega (arith, c .before .level-for .ensures, level-is (c .before .before .before .before .before .args .elapsed) (c .before .before .before .before .before .args .when) .within), omega (arith, c .slot-for .ensures, slot-lt (c .before .before .before .before .before .args .when) (c .before .level-for .result)))
 
 returns-3 : tie.Need-returns-3
-returns-3 c = place-told (c .before .before .before .before .before .if1 .left) (eqb-true _ _ (sym (c .before .before .before .before .same-block .ensures) ∙ granted _ (c .before .before .before .if2 .left))) (c .before .before .level-for .ensures) (c .before .slot-for .ensures) (c .slot-place .ensures)
+returns-3 c = place-told (c .before .before .before .before .before .if1 .left) (eqb-true _ _ (sym (c .before .before .before .before .same-block .ensures) ∙ not-false _ (c .before .before .before .if2 .left))) (c .before .before .level-for .ensures) (c .before .slot-for .ensures) (c .slot-place .ensures)
 
 pub is-place-spec : {M : Type 1} → statement M
 is-place-spec =

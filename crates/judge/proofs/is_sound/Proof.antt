@@ -3,7 +3,8 @@ use borrow.Author.Needs.{needs}
 use mathlib.Core.Path.{sym, _∙_}
 use mathlib.Core.Bool.{true≢false}
 use native.Mathlib.Omega.{arith}
-use Rattle.judge.specs.Judge.{denied, granted, tells-no, tells-by, sound-judged, judged-sound}
+use borrow.Author.Tests.{not-true, not-false}
+use Rattle.judge.specs.Judge.{tells-no, tells-by, sound-judged, judged-sound}
 use Rattle.judge.proofs.Rows.{shaped}
 use Rattle.judge.proofs.is_sound.Statement.{statement}
 use Rattle.judge.proofs.is_sound.Tie as tie
@@ -18,22 +19,22 @@ has-room-requires : tie.Need-has-room-requires
 has-room-requires c κs = search needs
 
 returns-3 : tie.Need-returns-3
-returns-3 c = tells-no (λ S. c .before .has-room .ensures .no (denied _ (c .if3 .taken)) (sound-judged S .room))
+returns-3 c = tells-no (λ S. c .before .has-room .ensures .no (not-true _ (c .if3 .taken)) (sound-judged S .room))
 
 is-whole-requires : tie.Need-is-whole-requires
-is-whole-requires c κs = let R = c .before .before .has-room .ensures .yes (granted _ (c .before .if3 .left)) in record { nexts = R .nexts; prevs = R .prevs; marks = R .marks }
+is-whole-requires c κs = let R = c .before .before .has-room .ensures .yes (not-false _ (c .before .if3 .left)) in record { nexts = R .nexts; prevs = R .prevs; marks = R .marks }
 
 returns-4 : tie.Need-returns-4
-returns-4 c = tells-no (λ S. true≢false (sym (sound-judged S .lists) ∙ sym (c .before .is-whole .ensures) ∙ denied _ (c .if4 .taken)))
+returns-4 c = tells-no (λ S. true≢false (sym (sound-judged S .lists) ∙ sym (c .before .is-whole .ensures) ∙ not-true _ (c .if4 .taken)))
 
 rows-agree-requires : tie.Need-rows-agree-requires
 rows-agree-requires c κs = search needs
 
 returns-5 : tie.Need-returns-5
-returns-5 c = tells-no (λ S. c .before .rows-agree .ensures .no (denied _ (c .if5 .taken)) (sound-judged S .rows))
+returns-5 c = tells-no (λ S. c .before .rows-agree .ensures .no (not-true _ (c .if5 .taken)) (sound-judged S .rows))
 
 records-agree-requires : tie.Need-records-agree-requires
-records-agree-requires c κs = let R = c .before .before .before .before .before .before .before .before .has-room .ensures .yes (granted _ (c .before .before .before .before .before .before .before .if3 .left)) in (R .deadlines, R .turns, R .marks)
+records-agree-requires c κs = let R = c .before .before .before .before .before .before .before .before .has-room .ensures .yes (not-false _ (c .before .before .before .before .before .before .before .if3 .left)) in (R .deadlines, R .turns, R .marks)
 
 returns-6 : tie.Need-returns-6
 returns-6 c =
@@ -42,9 +43,9 @@ returns-6 c =
     judged-sound (shaped (c .before .before .before .before .before .before .before .before .before .before .before .before .before .before .before .before .before .before .before .args .t2) (c .before .before .before .before .before .before .before .before .before .before .before .before .before .before .before .before .before .before .before .good .1 .0 .0) (c .before .before .before .before .before .before .before .before .before .before .before .before .before .before .before .before .before .before .before .good .1 .0 .1 .0 .1) (c .before .before .before .before .before .before .before .before .before .before .before .before .before .before .before .before .before .before .before .good .1 .0 .1 .1)) (record {
       some = omega arith;
       few = omega arith;
-      room = c .before .before .before .before .before .before .before .before .before .has-room .ensures .yes (granted _ (c .before .before .before .before .before .before .before .before .if3 .left));
-      lists = sym (c .before .before .before .before .before .before .is-whole .ensures) ∙ granted _ (c .before .before .before .before .before .if4 .left);
-      rows = c .before .before .rows-agree .ensures .yes (granted _ (c .before .if5 .left));
+      room = c .before .before .before .before .before .before .before .before .before .has-room .ensures .yes (not-false _ (c .before .before .before .before .before .before .before .before .if3 .left));
+      lists = sym (c .before .before .before .before .before .before .is-whole .ensures) ∙ not-false _ (c .before .before .before .before .before .if4 .left);
+      rows = c .before .before .rows-agree .ensures .yes (not-false _ (c .before .if5 .left));
       records = R;
     }))
     (λ S. sound-judged S .records)

@@ -1,10 +1,9 @@
 -- `records_agree` meets its contract: the records passed agree, and one that does not ends it.
 use borrow.Author.Needs.{needs}
-use mathlib.Core.Logic.{by-cases}
-use Prim.Native.Nat.{ℕ, _≤_, _<_, _-_}
-use native.Mathlib.Decide.{ℕ-discrete}
+use Prim.Native.Nat.{_≤_, _-_}
 use native.Mathlib.Omega.{arith}
-use Rattle.judge.specs.Judge.{RecordsAgree, denied, granted, tells-yes, tells-no, record-next}
+use borrow.Author.Tests.{not-true, not-false}
+use Rattle.judge.specs.Judge.{RecordsAgree, tells-yes, tells-no, record-next}
 use Rattle.judge.proofs.records_agree.Statement.{statement}
 use Rattle.judge.proofs.records_agree.Tie as tie
 
@@ -42,7 +41,7 @@ record-agrees-requires : tie.Need-record-agrees-requires Inv-loop μ-loop
 record-agrees-requires c κs = search needs
 
 returns : tie.Need-returns Inv-loop μ-loop
-returns c = tells-no (λ R. c .before .record-agrees .ensures .no (denied _ (c .if1 .taken)) (R _ (c .before .before .before .before .before .loop-test .taken)))
+returns c = tells-no (λ R. c .before .record-agrees .ensures .no (not-true _ (c .if1 .taken)) (R _ (c .before .before .before .before .before .loop-test .taken)))
 
 add-i : tie.Need-add-i Inv-loop μ-loop
 add-i c = search needs
@@ -51,7 +50,7 @@ loop-less : tie.Need-loop-less Inv-loop μ-loop
 loop-less c = search needs
 
 loop-again : tie.Need-loop-again Inv-loop μ-loop
-loop-again c = (omega arith, record-next (c .before .before .before .before .before .before .before .before .before .before .args .deadlines .now) (c .before .before .before .before .before .before .before .before .before .before .args .turns .now) (c .before .before .before .before .before .before .before .before .before .before .args .marks .now) (c .before .before .before .before .before .before .loop .inv .1) (c .before .record-agrees .ensures .yes (granted _ (c .if1 .left))))
+loop-again c = (omega arith, record-next (c .before .before .before .before .before .before .before .before .before .before .args .deadlines .now) (c .before .before .before .before .before .before .before .before .before .before .args .turns .now) (c .before .before .before .before .before .before .before .before .before .before .args .marks .now) (c .before .before .before .before .before .before .loop .inv .1) (c .before .record-agrees .ensures .yes (not-false _ (c .if1 .left))))
 
 returns-2 : tie.Need-returns-2 Inv-loop μ-loop
 returns-2 c = tells-yes (λ i h. c .before .loop .inv .1 i (omega (arith, h)))

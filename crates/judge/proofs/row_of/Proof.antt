@@ -2,7 +2,7 @@
 use borrow.Author.Needs.{needs}
 use mathlib.Core.Logic.{⊎-elim}
 use mathlib.Core.Path.{subst, sym, _∙_}
-use Prim.Native.Nat.{ℕ, _≤_, _-_}
+use Prim.Native.Nat.{_≤_, _-_}
 use native.Mathlib.Omega.{arith}
 use Rattle.judge.specs.Judge.{held, HasBelow, has-head, no-head, row-begun, row-taken, row-passed, row-done}
 use Rattle.judge.proofs.row_of.Statement.{statement}

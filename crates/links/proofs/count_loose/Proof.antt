@@ -1,8 +1,8 @@
 -- `count_loose` meets its contract: the count is that of the records passed (`loose-more`, `loose-same`).
 use borrow.Author.Needs.{needs}
-use mathlib.Core.Path.{_≡_, refl, sym, ap, _∙_}
+use mathlib.Core.Path.{_≡_, sym, ap, _∙_}
 use mathlib.Core.Logic.{⊎-elim}
-use Prim.Native.Nat.{ℕ, _≤_, _<_, _-_, _+_}
+use Prim.Native.Nat.{ℕ, _≤_, _-_, _+_}
 use native.Mathlib.Omega.{arith}
 use Rattle.links.specs.Links.{at}
 use Rattle.links.specs.Judge.{looseIn, loose-zero, loose-more, loose-same}

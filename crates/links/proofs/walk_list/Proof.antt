@@ -1,6 +1,6 @@
 -- `walk_list` meets its contract: what a scan from here says is what it says from the head (`scan-go`, and a law for each way out).
 use borrow.Author.Needs.{needs}
-use mathlib.Core.Path.{_≡_, refl, sym, ap, _∙_}
+use mathlib.Core.Path.{_≡_, sym, _∙_}
 use Prim.Native.Nat.{_<_}
 use native.Mathlib.Omega.{arith}
 use Rattle.links.specs.Links.{at}

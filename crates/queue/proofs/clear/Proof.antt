@@ -1,7 +1,7 @@
 -- `clear` meets its contract: the records passed are done (`clear-turn`), and then all are (`clear-done`).
 use borrow.Author.Needs.{needs}
-use mathlib.Core.Path.{_≡_, refl, sym, _∙_}
-use Prim.Native.Nat.{ℕ, _≤_, _-_}
+use mathlib.Core.Path.{_≡_, refl}
+use Prim.Native.Nat.{_≤_, _-_}
 use native.Mathlib.Omega.{arith}
 use Rattle.records.specs.Words.{words, count}
 use Rattle.queue.specs.PollLaws.{ClearedSo, clear-none, clear-turn, clear-done}

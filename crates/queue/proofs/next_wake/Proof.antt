@@ -1,6 +1,5 @@
 -- `next_wake` meets its contract, by the case of the wheel's answer (`wakes`).
 use borrow.Author.Needs.{needs}
-use mathlib.Core.Path.{sym}
 use Rattle.queue.specs.PollLaws.{wake-at, wake-never}
 use Rattle.queue.proofs.next_wake.Statement.{statement}
 use Rattle.queue.proofs.next_wake.Tie as tie

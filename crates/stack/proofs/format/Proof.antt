@@ -2,8 +2,6 @@
 use borrow.Author.Needs.{needs}
 use Prim.Native.Nat.{_-_}
 use native.Mathlib.Omega.{arith}
-use lib.ListN.{length-set}
-use mathlib.Core.Path.{_∙_}
 use Rattle.stack.specs.Format.{Filling, fill-none, fill-turn, fill-last, fill-done}
 use Rattle.stack.proofs.format.Statement.{statement}
 use Rattle.stack.proofs.format.Tie as tie

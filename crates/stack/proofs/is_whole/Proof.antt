@@ -1,6 +1,6 @@
 -- `is_whole` meets its contract: what the walk of the places finds from here is what it finds from the start (`judge-go`, and a law for each way out).
 use borrow.Author.Needs.{needs}
-use mathlib.Core.Path.{_≡_, refl, sym, ap, _∙_}
+use mathlib.Core.Path.{_≡_, refl, sym, _∙_}
 use Prim.Native.Nat.{_≤_, _-_}
 use native.Mathlib.Omega.{arith}
 use Rattle.stack.specs.Words.{words}

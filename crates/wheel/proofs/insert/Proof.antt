@@ -1,7 +1,5 @@
 -- `insert` meets its contract: the level is that of the deadline.
 use borrow.Author.Needs.{needs}
-use mathlib.Core.Path.{_≡_, subst}
-use Prim.Native.Nat.{ℕ}
 use Rattle.wheel.specs.Turns.{insert-adds, inserted}
 use Rattle.wheel.proofs.insert.Statement.{statement}
 use Rattle.wheel.proofs.insert.Tie as tie

@@ -1,7 +1,7 @@
 -- `next_expiration` meets its contract: the levels passed are empty, and the first that is not has the slot (`next-found`).
 use borrow.Author.Needs.{needs}
 use mathlib.Core.Path.{_≡_}
-use Prim.Native.Nat.{ℕ, _≤_, _<_, _-_, _%_}
+use Prim.Native.Nat.{ℕ, _≤_, _<_, _-_}
 use native.Mathlib.Omega.{arith}
 use borrow.Author.Count.{below-more}
 use Rattle.links.specs.Links.{at}
