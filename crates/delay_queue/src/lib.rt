@@ -362,7 +362,7 @@ pub fn poll(
     answered(out, rows)
 }
 
-// When the wheel must be looked at next. A timer that is due already is not on it: poll until nothing comes out, then ask.
+// When the wheel must be looked at next. A timer that was due when it was set is not on it: poll until nothing comes out, then ask.
 pub fn next_wake(
     state: Wheel,
     heads: [[u16; 64]; 6],

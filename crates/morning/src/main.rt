@@ -75,7 +75,7 @@ fn key_in(reply: Reply) -> u64 {
     }
 }
 
-// Sets the cut-off, which lies ahead, and asks when to look at the store. (Of a timer that is due already only a poll tells.)
+// Sets the cut-off, which lies ahead, and asks when to look at the store. (Of one that is due when it is set only a poll tells.)
 fn cut_at(
     store: Reply,
     values: &mut Words,
