@@ -4,6 +4,7 @@ ghost use mathlib.Core.Path.{_≡_};
 ghost use mathlib.Core.List.{[], _∷_};
 ghost use Prim.Native.Nat.{_+_, _*_, _≤_};
 ghost use lib.ListN.{length, drop};
+ghost use Rattle.lent.specs.Lent.{old, new};
 ghost use Rattle.decimals.specs.Text.{Decimal, Spaced};
 ghost use Rattle.answering.specs.Text.{put, PutClaim, WriteClaim, BadClaim};
 ghost use Rattle.answering.specs.Parts.{Before};
@@ -19,7 +20,7 @@ fn blank() -> [u8; 112]
 // Copies src into dst from at on.
 fn copy(dst: &mut [u8], at: usize, src: &[u8])
     requires { ⌜ at + length (now src) ≤ length (now dst) ⌝ }
-    ensures { λ _. ⌜ now (dst .exit) ≡ put (now (dst .entry)) at (now (src .entry)) ⌝ }
+    ensures { λ _. ⌜ new dst ≡ put (old dst) at (old src) ⌝ }
 {
     let mut i = 0;
     while i < src.len() {
@@ -32,7 +33,7 @@ fn copy(dst: &mut [u8], at: usize, src: &[u8])
 // has to be counted beforehand.
 fn decimal_before(buf: &mut [u8], end: usize, n: u64) -> usize
     requires { ⌜ (20 ≤ end) × (end ≤ length (now buf)) ⌝ }
-    ensures { λ r. ⌜ Before (λ l. Decimal l n) (now (buf .entry)) end r (now (buf .exit)) ⌝ }
+    ensures { λ r. ⌜ Before (λ l. Decimal l n) (old buf) end r (new buf) ⌝ }
 {
     let mut i = end;
     let mut m = n;
@@ -49,7 +50,7 @@ fn decimal_before(buf: &mut [u8], end: usize, n: u64) -> usize
 // Writes numbers so that they end before end, each with a space in front, and says where they begin.
 fn numbers_before(buf: &mut [u8], end: usize, numbers: &[u64]) -> usize
     requires { ⌜ (21 * length (now numbers) ≤ end) × (end ≤ length (now buf)) ⌝ }
-    ensures { λ r. ⌜ Before (λ l. Spaced l (now (numbers .entry))) (now (buf .entry)) end r (now (buf .exit)) ⌝ }
+    ensures { λ r. ⌜ Before (λ l. Spaced l (old numbers)) (old buf) end r (new buf) ⌝ }
 {
     let mut e = end;
     let mut i = numbers.len();
@@ -65,7 +66,7 @@ fn numbers_before(buf: &mut [u8], end: usize, numbers: &[u64]) -> usize
 // only once it is made, so it is made in a buffer of its own.
 fn write_line(out: &mut [u8], at: usize, word: &[u8], numbers: &[u64]) -> usize
     requires { ⌜ (length (now word) ≤ 6) × (length (now numbers) ≤ 5) ⌝ }
-    ensures { λ r. ⌜ PutClaim (now (word .entry)) (now (numbers .entry)) (now (out .entry)) at r (now (out .exit)) ⌝ }
+    ensures { λ r. ⌜ PutClaim (old word) (old numbers) (old out) at r (new out) ⌝ }
 {
     let mut buf = blank();
     let e = numbers_before(&mut buf, 111, numbers);
@@ -84,7 +85,7 @@ fn write_line(out: &mut [u8], at: usize, word: &[u8], numbers: &[u64]) -> usize
 
 // Writes the line of an answer into out from at on, and says where it ends: at at, with out unchanged, where there is no room.
 pub fn write_answer(out: &mut [u8], at: usize, a: Answer) -> usize
-    ensures { λ r. ⌜ WriteClaim a (now (out .entry)) at r (now (out .exit)) ⌝ }
+    ensures { λ r. ⌜ WriteClaim a (old out) at r (new out) ⌝ }
 {
     match a {
         Answer::Done => write_line(out, at, b"ok", &[]),
@@ -101,7 +102,7 @@ pub fn write_answer(out: &mut [u8], at: usize, a: Answer) -> usize
 
 // The same for the line `bad`.
 pub fn write_bad(out: &mut [u8], at: usize) -> usize
-    ensures { λ r. ⌜ BadClaim (now (out .entry)) at r (now (out .exit)) ⌝ }
+    ensures { λ r. ⌜ BadClaim (old out) at r (new out) ⌝ }
 {
     write_line(out, at, b"bad", &[])
 }

@@ -2,6 +2,7 @@
 use delay_queue::Call;
 ghost use mathlib.Core.Path.{_≡_};
 ghost use mathlib.Core.List.{_∷_};
+ghost use Rattle.lent.specs.Lent.{old};
 ghost use Rattle.asking.specs.Text.{ReadClaim};
 ghost use Rattle.asking.specs.Parts.{NumberOf, EndsAt, Holds, callOf};
 
@@ -27,7 +28,7 @@ enum Fields {
 
 // The number that s, from its first byte to its last, is the decimal of.
 fn number(s: &[u8]) -> Num
-    ensures { λ r. ⌜ NumberOf (now (s .entry)) r ⌝ }
+    ensures { λ r. ⌜ NumberOf (old s) r ⌝ }
 {
     if s.len() == 0 {
         return Num::Bad;
@@ -61,7 +62,7 @@ fn number(s: &[u8]) -> Num
 
 // Where the first field of s ends: at the first space, or at the end.
 fn field_end(s: &[u8]) -> usize
-    ensures { λ r. ⌜ EndsAt (now (s .entry)) r ⌝ }
+    ensures { λ r. ⌜ EndsAt (old s) r ⌝ }
 {
     let mut i = 0;
     while i < s.len() {
@@ -76,7 +77,7 @@ fn field_end(s: &[u8]) -> usize
 // The one or two numbers that begin behind a space. What stands behind the second space belongs to the second number, so
 // that a third number or another space makes it no decimal.
 fn one_or_two(s: &[u8]) -> Fields
-    ensures { λ r. ⌜ Holds (32 ∷ now (s .entry)) r ⌝ }
+    ensures { λ r. ⌜ Holds (32 ∷ old s) r ⌝ }
 {
     let e = field_end(s);
     let x = number(&s[..e]);
@@ -96,7 +97,7 @@ fn one_or_two(s: &[u8]) -> Fields
 
 // The numbers that s is, each with one space in front.
 fn fields_in(s: &[u8]) -> Fields
-    ensures { λ r. ⌜ Holds (now (s .entry)) r ⌝ }
+    ensures { λ r. ⌜ Holds (old s) r ⌝ }
 {
     if s.len() == 0 {
         return Fields::None;
@@ -135,7 +136,7 @@ fn call_of(letter: u8, numbers: Fields) -> Line
 
 // What a line asks, which is handed over without its newline.
 pub fn read_line(line: &[u8]) -> Line
-    ensures { λ r. ⌜ ReadClaim (now (line .entry)) r ⌝ }
+    ensures { λ r. ⌜ ReadClaim (old line) r ⌝ }
 {
     if line.len() == 0 {
         return Line::Bad;

@@ -5,7 +5,8 @@ use asking::Line;
 use asking::read_line;
 use delay_queue::Heads;
 use wheel::Wheel;
-ghost use Rattle.records.specs.Words.{words};
+ghost use Rattle.lent.specs.Lent.{old, new};
+ghost use Rattle.records.specs.Store.{before, after};
 ghost use Rattle.bench.specs.Line.{LineClaim};
 
 // Where the answer ends in what is written, and the state and the heads after the step.
@@ -31,12 +32,12 @@ pub fn answer_line(
 ) -> Step
     ensures { λ r. ⌜
         LineClaim
-        (now (line .entry))
-        (words state heads (now (values .entry)) (now (deadlines .entry)) (now (nexts .entry)) (now (prevs .entry)) (now (turns .entry)) (now (marks .entry)))
-        (now (out .entry))
+        (old line)
+        (before state heads values deadlines nexts prevs turns marks)
+        (old out)
         at
-        (words (r .state) (r .heads .rows) (now (values .exit)) (now (deadlines .exit)) (now (nexts .exit)) (now (prevs .exit)) (now (turns .exit)) (now (marks .exit)))
-        (now (out .exit))
+        (after (r .state) (r .heads .rows) values deadlines nexts prevs turns marks)
+        (new out)
         (r .at) ⌝ }
 {
     let asked = read_line(line);

@@ -4,6 +4,7 @@ use libc::STDOUT_FILENO;
 use wheel::Wheel;
 ghost use Prim.Native.Nat.{_≤_};
 ghost use lib.ListN.{length};
+ghost use Rattle.lent.specs.Lent.{old};
 
 // How many bytes wait to be written, and whether all writes went well.
 pub struct Pen {
@@ -13,7 +14,7 @@ pub struct Pen {
 
 // One byte more. What waits is written first where it fills the room that is lent.
 fn byte(out: &mut [u8], pen: Pen, b: u8) -> Pen
-    ensures { λ r. ⌜ r .at ≤ length (now (out .entry)) ⌝ }
+    ensures { λ r. ⌜ r .at ≤ length (old out) ⌝ }
 {
     let at = pen.at;
     if at < out.len() {
@@ -100,15 +101,17 @@ fn slot(out: &mut [u8], pen: Pen, nexts: &[u16], n: u16, k: u64, s: u64, h: u16)
 // All slots, levels and slots rising.
 fn slots(out: &mut [u8], pen: Pen, state: Wheel, heads: &[[u16; 64]; 6], nexts: &[u16]) -> Pen {
     let stacks = state.stacks;
+    let n = stacks.n;
+    let tops = [n, stacks.expired, stacks.free];
     let mut p = pen;
     let mut place = 0u16;
     while place < stack::EXPIRED {
-        let h = stack::head_of(stacks, heads, place);
+        let h = stack::head_of(&tops, heads, place);
         p = slot(
             out,
             p,
             nexts,
-            stacks.n,
+            n,
             (place / 64) as u64,
             (place % 64) as u64,
             h,
@@ -133,7 +136,7 @@ pub fn write_lists(
     heads: [[u16; 64]; 6],
     nexts: &[u16],
 ) -> Pen
-    ensures { λ r. ⌜ r .at ≤ length (now (out .entry)) ⌝ }
+    ensures { λ r. ⌜ r .at ≤ length (old out) ⌝ }
 {
     let stacks = state.stacks;
     let p = opening(out, pen, state.elapsed);

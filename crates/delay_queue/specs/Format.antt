@@ -9,6 +9,7 @@ use lib.ListN.{length, set, replicate, getD-replicate, length-set}
 use borrow.Author.Tests.{lt-ltb, le-ltb}
 use Rattle.row.specs.RowLaws.{row-none}
 use Rattle.links.specs.Lists.{Mem, nobody, change, change-other}
+use Rattle.lent.specs.Lent.{Turned, old, new as left}
 use Rattle.links.specs.Links.{at, links, Deep}
 use Rattle.stack.specs.Places.{slotPlace, expired, free}
 use Rattle.stack.specs.Words.{StackWords}
@@ -21,7 +22,7 @@ use Rattle.queue.specs.declared.Answer.{Answer}
 use Rattle.queue.specs.declared.Answer.the-variants as A
 use Rattle.queue.specs.Told.{told}
 use Rattle.records.specs.View.{view-eq}
-use Rattle.records.specs.Words.{QueueWords, queueWords, words, limit, Room, Sound}
+use Rattle.records.specs.Words.{QueueWords, queueWords, words, parts, limit, Room, Sound}
 use Rattle.delay_queue.specs.Claims.{Fits, InRange, first, Formatted, FormatClaim}
 use Rattle.delay_queue.specs.Back.{Goes}
 
@@ -87,6 +88,13 @@ pub record Makes (n turn : ℕ) (vs ds ns ps ts ms : List ℕ) (s′ : QueueWord
   pub values : s′ .values ≡ over n (λ i. 0) vs
   pub deadlines : s′ .deadlines ≡ over n (λ i. 0) ds
   pub turns : s′ .turns ≡ over n (λ i. turn) ts
+
+-- of the words that `make` is lent
+module _ (n turn : ℕ) (tops : Turned (List ℕ)) (heads : Turned (List (List ℕ))) (values deadlines nexts prevs turns marks : Turned (List ℕ)) where
+  abbrev pub MakesOf : Type 0
+  MakesOf =
+      Makes n turn (old values) (old deadlines) (old nexts) (old prevs) (old turns) (old marks)
+      (parts 0 (replicate 6 0) (left tops) (left heads) (left values) (left deadlines) (left nexts) (left prevs) (left turns) (left marks))
 
 module _ {n turn : ℕ} {s : QueueWords} (F : Fits s n) (T : InRange turn) where
   abbrev made : StackWords

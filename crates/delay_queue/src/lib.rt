@@ -1,14 +1,16 @@
 // The delay queue: what users call. Whoever lends whatever gets an answer; an unsound store gets number 2 from every call but format.
 use queue::Answer;
-use queue::Out;
+use stack::Stacks;
 use wheel::Wheel;
 ghost use mathlib.Core.Path.{_≡_};
 ghost use Prim.Native.Nat.{_≤_, _<_};
 ghost use lib.ListN.{length};
 ghost use Rattle.stack.specs.Format.{over};
-ghost use Rattle.records.specs.Words.{words};
-ghost use Rattle.delay_queue.specs.Claims.{InRange, FormatClaim, InsertClaim, ResetClaim, RemoveClaim, PollClaim, WakeClaim, LengthClaim, ClearClaim};
-ghost use Rattle.delay_queue.specs.Format.{FormatNo, FitsIn, Makes};
+ghost use Rattle.lent.specs.Lent.{old, new};
+ghost use Rattle.records.specs.Store.{before, after, wheelOf};
+ghost use Rattle.delay_queue.specs.Claims.{InRange, FormatClaim, InsertClaim, ResetClaim, RemoveClaim};
+ghost use Rattle.delay_queue.specs.Claims.{PollClaim, WakeClaim, LengthClaim, ClearClaim};
+ghost use Rattle.delay_queue.specs.Format.{FormatNo, FitsIn, MakesOf};
 
 // A call, with its arguments in document 01's order.
 pub enum Call {
@@ -71,12 +73,27 @@ pub fn unchanged(answer: Answer, state: Wheel, heads: [[u16; 64]; 6]) -> Reply
     }
 }
 
-fn answered(out: Out, rows: [[u16; 64]; 6]) -> Reply
-    ensures { λ r. ⌜ (r .answer ≡ out .answer) × (r .state ≡ out .wheel) × (r .heads .rows ≡ rows) ⌝ }
+// An answer, and the parts put together again.
+fn packed(
+    answer: Answer,
+    elapsed: u64,
+    rows: [u64; 6],
+    tops: [u16; 3],
+    slots: [[u16; 64]; 6],
+) -> Reply
+    ensures { λ r. ⌜ (r .answer ≡ answer) × (r .state ≡ wheelOf elapsed rows tops) × (r .heads .rows ≡ slots) ⌝ }
 {
-    let answer = out.answer;
-    let state = out.wheel;
-    let h = heads_of(rows);
+    let stacks = Stacks {
+        n: tops[0],
+        expired: tops[1],
+        free: tops[2],
+    };
+    let state = Wheel {
+        elapsed,
+        occupied: rows,
+        stacks,
+    };
+    let h = heads_of(slots);
     Reply {
         answer,
         state,
@@ -87,7 +104,7 @@ fn answered(out: Out, rows: [[u16; 64]; 6]) -> Reply
 // The first n words become x.
 fn fill(words: &mut [u64], n: u16, x: u64)
     requires { ⌜ n ≤ length (now words) ⌝ }
-    ensures { λ _. ⌜ now (words .exit) ≡ over n (λ i. x) (now (words .entry)) ⌝ }
+    ensures { λ _. ⌜ new words ≡ over n (λ i. x) (old words) ⌝ }
 {
     let mut i = 0u16;
     while i < n {
@@ -107,7 +124,9 @@ fn format_no(
     n: u64,
     turn: u64,
 ) -> u64
-    ensures { λ r. ⌜ FormatNo (FitsIn n (now (values .entry)) (now (deadlines .entry)) (now (nexts .entry)) (now (prevs .entry)) (now (turns .entry)) (now (marks .entry))) (InRange turn) r ⌝ }
+    ensures { λ r. ⌜
+        FormatNo (FitsIn n (old values) (old deadlines) (old nexts) (old prevs) (old turns) (old marks))
+        (InRange turn) r ⌝ }
 {
     if n == 0 {
         return 1;
@@ -127,8 +146,9 @@ fn format_no(
     0
 }
 
-// A fresh store of n records in what is lent.
+// A fresh store of n records in what is lent. Elapsed and the occupied rows are 0.
 fn make(
+    tops: &mut [u16; 3],
     heads: &mut [[u16; 64]; 6],
     values: &mut [u64],
     deadlines: &mut [u64],
@@ -138,30 +158,14 @@ fn make(
     marks: &mut [u16],
     n: u16,
     turn: u64,
-) -> Wheel
+)
     requires { ⌜ FitsIn n (now values) (now deadlines) (now nexts) (now prevs) (now turns) (now marks) ⌝ }
-    ensures { λ r. ⌜
-        Makes
-        n
-        turn
-        (now (values .entry))
-        (now (deadlines .entry))
-        (now (nexts .entry))
-        (now (prevs .entry))
-        (now (turns .entry))
-        (now (marks .entry))
-        (words r (now (heads .exit)) (now (values .exit)) (now (deadlines .exit)) (now (nexts .exit)) (now (prevs .exit)) (now (turns .exit)) (now (marks .exit))) ⌝ }
+    ensures { λ _. ⌜ MakesOf n turn tops heads values deadlines nexts prevs turns marks ⌝ }
 {
-    let stacks = stack::format(heads, nexts, prevs, marks, n);
+    stack::format(tops, heads, nexts, prevs, marks, n);
     fill(values, n, 0);
     fill(deadlines, n, 0);
     fill(turns, n, turn);
-    let occupied = [0u64; 6];
-    Wheel {
-        elapsed: 0,
-        occupied,
-        stacks,
-    }
 }
 
 // Every record of n is free, with the first turn `turn`. What the store was before does not matter.
@@ -178,20 +182,18 @@ pub fn format(
     turn: u64,
 ) -> Reply
     ensures { λ r. ⌜
-        FormatClaim
-        (words state heads (now (values .entry)) (now (deadlines .entry)) (now (nexts .entry)) (now (prevs .entry)) (now (turns .entry)) (now (marks .entry)))
-        n
-        turn
-        (r .answer)
-        (words (r .state) (r .heads .rows) (now (values .exit)) (now (deadlines .exit)) (now (nexts .exit)) (now (prevs .exit)) (now (turns .exit)) (now (marks .exit))) ⌝ }
+        FormatClaim (before state heads values deadlines nexts prevs turns marks)
+        n turn (r .answer) (after (r .state) (r .heads .rows) values deadlines nexts prevs turns marks) ⌝ }
 {
     let number = format_no(values, deadlines, nexts, prevs, turns, marks, n, turn);
     if number != 0 {
         return refused(number, state, heads);
     }
-    let mut rows = heads;
-    let wheel = make(
-        &mut rows,
+    let mut tops = [0u16; 3];
+    let mut slots = heads;
+    make(
+        &mut tops,
+        &mut slots,
         values,
         deadlines,
         nexts,
@@ -201,11 +203,8 @@ pub fn format(
         n as u16,
         turn,
     );
-    let out = Out {
-        answer: Answer::Done,
-        wheel,
-    };
-    answered(out, rows)
+    let rows = [0u64; 6];
+    packed(Answer::Done, 0, rows, tops, slots)
 }
 
 // A timer with the value, at the deadline `when`: its key.
@@ -222,20 +221,22 @@ pub fn insert(
     when: u64,
 ) -> Reply
     ensures { λ r. ⌜
-        InsertClaim
-        (words state heads (now (values .entry)) (now (deadlines .entry)) (now (nexts .entry)) (now (prevs .entry)) (now (turns .entry)) (now (marks .entry)))
-        value
-        when
-        (r .answer)
-        (words (r .state) (r .heads .rows) (now (values .exit)) (now (deadlines .exit)) (now (nexts .exit)) (now (prevs .exit)) (now (turns .entry)) (now (marks .exit))) ⌝ }
+        InsertClaim (before state heads values deadlines nexts prevs turns marks)
+        value when (r .answer) (after (r .state) (r .heads .rows) values deadlines nexts prevs turns marks) ⌝ }
 {
     if !judge::is_sound(state, heads, values, deadlines, nexts, prevs, turns, marks) {
         return refused(2, state, heads);
     }
-    let mut rows = heads;
-    let out = queue::insert(
-        state,
+    let elapsed = state.elapsed;
+    let mut rows = state.occupied;
+    let stacks = state.stacks;
+    let mut tops = [stacks.n, stacks.expired, stacks.free];
+    let mut slots = heads;
+    let answer = queue::insert(
+        elapsed,
         &mut rows,
+        &mut tops,
+        &mut slots,
         values,
         deadlines,
         nexts,
@@ -245,7 +246,7 @@ pub fn insert(
         value,
         when,
     );
-    answered(out, rows)
+    packed(answer, elapsed, rows, tops, slots)
 }
 
 // The timer of the key gets the deadline `when`.
@@ -262,20 +263,22 @@ pub fn reset(
     when: u64,
 ) -> Reply
     ensures { λ r. ⌜
-        ResetClaim
-        (words state heads (now (values .entry)) (now (deadlines .entry)) (now (nexts .entry)) (now (prevs .entry)) (now (turns .entry)) (now (marks .entry)))
-        key
-        when
-        (r .answer)
-        (words (r .state) (r .heads .rows) (now (values .entry)) (now (deadlines .exit)) (now (nexts .exit)) (now (prevs .exit)) (now (turns .entry)) (now (marks .exit))) ⌝ }
+        ResetClaim (before state heads values deadlines nexts prevs turns marks)
+        key when (r .answer) (after (r .state) (r .heads .rows) values deadlines nexts prevs turns marks) ⌝ }
 {
     if !judge::is_sound(state, heads, values, deadlines, nexts, prevs, turns, marks) {
         return refused(2, state, heads);
     }
-    let mut rows = heads;
-    let out = queue::reset(
-        state,
+    let elapsed = state.elapsed;
+    let mut rows = state.occupied;
+    let stacks = state.stacks;
+    let mut tops = [stacks.n, stacks.expired, stacks.free];
+    let mut slots = heads;
+    let answer = queue::reset(
+        elapsed,
         &mut rows,
+        &mut tops,
+        &mut slots,
         values,
         deadlines,
         nexts,
@@ -285,7 +288,7 @@ pub fn reset(
         key,
         when,
     );
-    answered(out, rows)
+    packed(answer, elapsed, rows, tops, slots)
 }
 
 // The timer of the key is taken out: its value and deadline.
@@ -301,19 +304,22 @@ pub fn remove(
     key: u64,
 ) -> Reply
     ensures { λ r. ⌜
-        RemoveClaim
-        (words state heads (now (values .entry)) (now (deadlines .entry)) (now (nexts .entry)) (now (prevs .entry)) (now (turns .entry)) (now (marks .entry)))
-        key
-        (r .answer)
-        (words (r .state) (r .heads .rows) (now (values .entry)) (now (deadlines .entry)) (now (nexts .exit)) (now (prevs .exit)) (now (turns .exit)) (now (marks .exit))) ⌝ }
+        RemoveClaim (before state heads values deadlines nexts prevs turns marks)
+        key (r .answer) (after (r .state) (r .heads .rows) values deadlines nexts prevs turns marks) ⌝ }
 {
     if !judge::is_sound(state, heads, values, deadlines, nexts, prevs, turns, marks) {
         return refused(2, state, heads);
     }
-    let mut rows = heads;
-    let out = queue::remove(
-        state,
+    let elapsed = state.elapsed;
+    let mut rows = state.occupied;
+    let stacks = state.stacks;
+    let mut tops = [stacks.n, stacks.expired, stacks.free];
+    let mut slots = heads;
+    let answer = queue::remove(
+        elapsed,
         &mut rows,
+        &mut tops,
+        &mut slots,
         values,
         deadlines,
         nexts,
@@ -322,7 +328,7 @@ pub fn remove(
         marks,
         key,
     );
-    answered(out, rows)
+    packed(answer, elapsed, rows, tops, slots)
 }
 
 // A timer that is due at `time`, or nothing.
@@ -338,19 +344,22 @@ pub fn poll(
     time: u64,
 ) -> Reply
     ensures { λ r. ⌜
-        PollClaim
-        (words state heads (now (values .entry)) (now (deadlines .entry)) (now (nexts .entry)) (now (prevs .entry)) (now (turns .entry)) (now (marks .entry)))
-        time
-        (r .answer)
-        (words (r .state) (r .heads .rows) (now (values .entry)) (now (deadlines .entry)) (now (nexts .exit)) (now (prevs .exit)) (now (turns .exit)) (now (marks .exit))) ⌝ }
+        PollClaim (before state heads values deadlines nexts prevs turns marks)
+        time (r .answer) (after (r .state) (r .heads .rows) values deadlines nexts prevs turns marks) ⌝ }
 {
     if !judge::is_sound(state, heads, values, deadlines, nexts, prevs, turns, marks) {
         return refused(2, state, heads);
     }
-    let mut rows = heads;
+    let elapsed = state.elapsed;
+    let mut rows = state.occupied;
+    let stacks = state.stacks;
+    let mut tops = [stacks.n, stacks.expired, stacks.free];
+    let mut slots = heads;
     let out = queue::poll(
-        state,
+        elapsed,
         &mut rows,
+        &mut tops,
+        &mut slots,
         values,
         deadlines,
         nexts,
@@ -359,7 +368,9 @@ pub fn poll(
         marks,
         time,
     );
-    answered(out, rows)
+    let answer = out.answer;
+    let e = out.elapsed;
+    packed(answer, e, rows, tops, slots)
 }
 
 // When the wheel must be looked at next. A timer that was due when it was set is not on it: poll until nothing comes out, then ask.
@@ -373,12 +384,13 @@ pub fn next_wake(
     turns: &[u64],
     marks: &[u16],
 ) -> Answer
-    ensures { λ r. ⌜ WakeClaim (words state heads (now (values .entry)) (now (deadlines .entry)) (now (nexts .entry)) (now (prevs .entry)) (now (turns .entry)) (now (marks .entry))) r ⌝ }
+    ensures { λ r. ⌜ WakeClaim (before state heads values deadlines nexts prevs turns marks) r ⌝ }
 {
     if !judge::is_sound(state, heads, values, deadlines, nexts, prevs, turns, marks) {
         return Answer::No(2);
     }
-    queue::next_wake(state)
+    let rows = state.occupied;
+    queue::next_wake(state.elapsed, &rows)
 }
 
 // How many timers are pending.
@@ -392,7 +404,7 @@ pub fn length(
     turns: &[u64],
     marks: &[u16],
 ) -> Answer
-    ensures { λ r. ⌜ LengthClaim (words state heads (now (values .entry)) (now (deadlines .entry)) (now (nexts .entry)) (now (prevs .entry)) (now (turns .entry)) (now (marks .entry))) r ⌝ }
+    ensures { λ r. ⌜ LengthClaim (before state heads values deadlines nexts prevs turns marks) r ⌝ }
 {
     if !judge::is_sound(state, heads, values, deadlines, nexts, prevs, turns, marks) {
         return Answer::No(2);
@@ -414,18 +426,22 @@ pub fn clear(
     marks: &mut [u16],
 ) -> Reply
     ensures { λ r. ⌜
-        ClearClaim
-        (words state heads (now (values .entry)) (now (deadlines .entry)) (now (nexts .entry)) (now (prevs .entry)) (now (turns .entry)) (now (marks .entry)))
-        (r .answer)
-        (words (r .state) (r .heads .rows) (now (values .entry)) (now (deadlines .entry)) (now (nexts .exit)) (now (prevs .exit)) (now (turns .exit)) (now (marks .exit))) ⌝ }
+        ClearClaim (before state heads values deadlines nexts prevs turns marks)
+        (r .answer) (after (r .state) (r .heads .rows) values deadlines nexts prevs turns marks) ⌝ }
 {
     if !judge::is_sound(state, heads, values, deadlines, nexts, prevs, turns, marks) {
         return refused(2, state, heads);
     }
-    let mut rows = heads;
-    let out = queue::clear(
-        state,
+    let elapsed = state.elapsed;
+    let mut rows = state.occupied;
+    let stacks = state.stacks;
+    let mut tops = [stacks.n, stacks.expired, stacks.free];
+    let mut slots = heads;
+    let answer = queue::clear(
+        elapsed,
         &mut rows,
+        &mut tops,
+        &mut slots,
         values,
         deadlines,
         nexts,
@@ -433,5 +449,5 @@ pub fn clear(
         turns,
         marks,
     );
-    answered(out, rows)
+    packed(answer, 0, rows, tops, slots)
 }

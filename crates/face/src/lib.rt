@@ -4,10 +4,9 @@ use queue::Answer;
 use queue::Out;
 use stack::Stacks;
 use wheel::Wheel;
-ghost use mathlib.Core.Path.{_≡_};
 ghost use Prim.Native.Nat.{_+_, _≤_};
 ghost use lib.ListN.{length};
-ghost use Rattle.records.specs.Words.{words, Sound};
+ghost use Rattle.records.specs.Words.{lent, after, Sound};
 ghost use Rattle.wheel.specs.Expiration.{NotPassed};
 
 // Calls by number, in the order of `Call`. A call is three words: its number, then a value, a key or N, then a deadline, a time or a first
@@ -26,9 +25,9 @@ const LENGTH: u64 = 6;
 
 const CLEAR: u64 = 7;
 
-// The state after a command, and the sum of what has been answered.
+// Elapsed after a command, and the sum of what has been answered.
 pub struct Ran {
-    pub wheel: Wheel,
+    pub elapsed: u64,
     pub sum: u64,
 }
 
@@ -63,18 +62,11 @@ fn summed(op: u64, sum: u64, answer: Answer, elapsed: u64) -> u64 {
     s
 }
 
-fn turned(op: u64, sum: u64, out: Out) -> Ran
-    ensures { λ r. ⌜ r .wheel ≡ out .wheel ⌝ }
-{
-    let answer = out.answer;
-    let wheel = out.wheel;
-    let s = summed(op, sum, answer, wheel.elapsed);
-    Ran { wheel, sum: s }
-}
-
 // One command on a sound store, which stays sound.
 fn turn(
-    wheel: Wheel,
+    elapsed: u64,
+    rows: &mut [u64; 6],
+    tops: &mut [u16; 3],
     heads: &mut [[u16; 64]; 6],
     values: &mut [u64],
     deadlines: &mut [u64],
@@ -87,14 +79,16 @@ fn turn(
     value: u64,
     sum: u64,
 ) -> Ran
-    requires { ⌜ Sound (words wheel (now heads) (now values) (now deadlines) (now nexts) (now prevs) (now turns) (now marks)) ⌝ }
-    ensures { λ r. ⌜ Sound (words (r .wheel) (now (heads .exit)) (now (values .exit)) (now (deadlines .exit)) (now (nexts .exit)) (now (prevs .exit)) (now (turns .exit)) (now (marks .exit))) ⌝ }
+    requires { ⌜ Sound (lent elapsed rows tops heads values deadlines nexts prevs turns marks) ⌝ }
+    ensures { λ r. ⌜ Sound (after (r .elapsed) rows tops heads values deadlines nexts prevs turns marks) ⌝ }
 {
     let op = first >> 60;
     let key = first % (1 << 60);
     if op == INSERT {
-        let out = queue::insert(
-            wheel,
+        let answer = queue::insert(
+            elapsed,
+            rows,
+            tops,
             heads,
             values,
             deadlines,
@@ -105,11 +99,14 @@ fn turn(
             value,
             second,
         );
-        return turned(op, sum, out);
+        let s = summed(op, sum, answer, elapsed);
+        return Ran { elapsed, sum: s };
     }
     if op == RESET {
-        let out = queue::reset(
-            wheel,
+        let answer = queue::reset(
+            elapsed,
+            rows,
+            tops,
             heads,
             values,
             deadlines,
@@ -120,11 +117,14 @@ fn turn(
             key,
             second,
         );
-        return turned(op, sum, out);
+        let s = summed(op, sum, answer, elapsed);
+        return Ran { elapsed, sum: s };
     }
     if op == REMOVE {
-        let out = queue::remove(
-            wheel,
+        let answer = queue::remove(
+            elapsed,
+            rows,
+            tops,
             heads,
             values,
             deadlines,
@@ -134,11 +134,14 @@ fn turn(
             marks,
             key,
         );
-        return turned(op, sum, out);
+        let s = summed(op, sum, answer, elapsed);
+        return Ran { elapsed, sum: s };
     }
     if op == POLL {
         let out = queue::poll(
-            wheel,
+            elapsed,
+            rows,
+            tops,
             heads,
             values,
             deadlines,
@@ -148,16 +151,21 @@ fn turn(
             marks,
             second,
         );
-        return turned(op, sum, out);
+        let answer = out.answer;
+        let e = out.elapsed;
+        let s = summed(op, sum, answer, e);
+        return Ran { elapsed: e, sum: s };
     }
-    let answer = queue::next_wake(wheel);
+    let answer = queue::next_wake(elapsed, rows);
     let s = told(sum, answer);
-    Ran { wheel, sum: s }
+    Ran { elapsed, sum: s }
 }
 
 // The whole script on a sound store.
 fn script_on(
-    wheel: Wheel,
+    elapsed: u64,
+    rows: &mut [u64; 6],
+    tops: &mut [u16; 3],
     heads: &mut [[u16; 64]; 6],
     values: &mut [u64],
     deadlines: &mut [u64],
@@ -167,9 +175,9 @@ fn script_on(
     marks: &mut [u16],
     script: &[u64],
 ) -> Ran
-    requires { ⌜ Sound (words wheel (now heads) (now values) (now deadlines) (now nexts) (now prevs) (now turns) (now marks)) ⌝ }
+    requires { ⌜ Sound (lent elapsed rows tops heads values deadlines nexts prevs turns marks) ⌝ }
 {
-    let mut w = wheel;
+    let mut e = elapsed;
     let mut sum = 0u64;
     let commands = script.len() / 2;
     let mut i: usize = 0;
@@ -179,7 +187,9 @@ fn script_on(
         let value = i as u64;
         i += 1;
         let next = turn(
-            w,
+            e,
+            rows,
+            tops,
             heads,
             values,
             deadlines,
@@ -192,28 +202,28 @@ fn script_on(
             value,
             sum,
         );
-        let after = next.wheel;
-        w = after;
+        e = next.elapsed;
         sum = next.sum;
     }
-    Ran { wheel: w, sum }
+    Ran { elapsed: e, sum }
 }
 
 // The calls that change nothing.
-fn asked(wheel: Wheel, marks: &[u16], op: u64) -> Answer
-    requires { ⌜ NotPassed (wheel .elapsed) (wheel .occupied) × (wheel .stacks .n ≤ length (now marks)) ⌝ }
+fn asked(elapsed: u64, rows: &[u64; 6], n: u16, marks: &[u16], op: u64) -> Answer
+    requires { ⌜ NotPassed elapsed (now rows) × (n ≤ length (now marks)) ⌝ }
 {
     if op == LENGTH {
-        let stacks = wheel.stacks;
-        return Answer::Length(queue::length(stacks.n, marks));
+        return Answer::Length(queue::length(n, marks));
     }
-    queue::next_wake(wheel)
+    queue::next_wake(elapsed, rows)
 }
 
 // One call on a sound store, which stays sound. Nothing formats here: that number too asks for the next wake. The benchmark has `turn` of
 // its own: there no answer is handed on, which would be measured too.
 fn called(
-    wheel: Wheel,
+    elapsed: u64,
+    rows: &mut [u64; 6],
+    tops: &mut [u16; 3],
     heads: &mut [[u16; 64]; 6],
     values: &mut [u64],
     deadlines: &mut [u64],
@@ -225,12 +235,14 @@ fn called(
     a: u64,
     b: u64,
 ) -> Out
-    requires { ⌜ Sound (words wheel (now heads) (now values) (now deadlines) (now nexts) (now prevs) (now turns) (now marks)) ⌝ }
-    ensures { λ r. ⌜ Sound (words (r .wheel) (now (heads .exit)) (now (values .exit)) (now (deadlines .exit)) (now (nexts .exit)) (now (prevs .exit)) (now (turns .exit)) (now (marks .exit))) ⌝ }
+    requires { ⌜ Sound (lent elapsed rows tops heads values deadlines nexts prevs turns marks) ⌝ }
+    ensures { λ r. ⌜ Sound (after (r .elapsed) rows tops heads values deadlines nexts prevs turns marks) ⌝ }
 {
     if op == INSERT {
-        return queue::insert(
-            wheel,
+        let answer = queue::insert(
+            elapsed,
+            rows,
+            tops,
             heads,
             values,
             deadlines,
@@ -241,10 +253,13 @@ fn called(
             a,
             b,
         );
+        return Out { answer, elapsed };
     }
     if op == RESET {
-        return queue::reset(
-            wheel,
+        let answer = queue::reset(
+            elapsed,
+            rows,
+            tops,
             heads,
             values,
             deadlines,
@@ -255,10 +270,13 @@ fn called(
             a,
             b,
         );
+        return Out { answer, elapsed };
     }
     if op == REMOVE {
-        return queue::remove(
-            wheel,
+        let answer = queue::remove(
+            elapsed,
+            rows,
+            tops,
             heads,
             values,
             deadlines,
@@ -268,10 +286,13 @@ fn called(
             marks,
             a,
         );
+        return Out { answer, elapsed };
     }
     if op == POLL {
         return queue::poll(
-            wheel,
+            elapsed,
+            rows,
+            tops,
             heads,
             values,
             deadlines,
@@ -283,10 +304,22 @@ fn called(
         );
     }
     if op == CLEAR {
-        return queue::clear(wheel, heads, values, deadlines, nexts, prevs, turns, marks);
+        let answer = queue::clear(
+            elapsed,
+            rows,
+            tops,
+            heads,
+            values,
+            deadlines,
+            nexts,
+            prevs,
+            turns,
+            marks,
+        );
+        return Out { answer, elapsed: 0 };
     }
-    let answer = asked(wheel, marks, op);
-    Out { answer, wheel }
+    let answer = asked(elapsed, rows, tops[0], marks, op);
+    Out { answer, elapsed }
 }
 
 // An answer's number, in the order of `Answer`, and its parts.
@@ -331,9 +364,11 @@ fn least(x: usize, y: usize) -> usize
     y
 }
 
-// As many calls of three words on a sound store as have room for their answers, six words each.
+// As many calls of three words on a sound store as have room for their answers, six words each. Elapsed after them.
 fn answers_on(
-    wheel: Wheel,
+    elapsed: u64,
+    rows: &mut [u64; 6],
+    tops: &mut [u16; 3],
     heads: &mut [[u16; 64]; 6],
     values: &mut [u64],
     deadlines: &mut [u64],
@@ -343,10 +378,10 @@ fn answers_on(
     marks: &mut [u16],
     script: &[u64],
     answers: &mut [u64],
-) -> Wheel
-    requires { ⌜ Sound (words wheel (now heads) (now values) (now deadlines) (now nexts) (now prevs) (now turns) (now marks)) ⌝ }
+) -> u64
+    requires { ⌜ Sound (lent elapsed rows tops heads values deadlines nexts prevs turns marks) ⌝ }
 {
-    let mut w = wheel;
+    let mut e = elapsed;
     let commands = least(script.len() / 3, answers.len() / 6);
     let mut i: usize = 0;
     while i < commands {
@@ -356,7 +391,9 @@ fn answers_on(
         let at = 6 * i;
         i += 1;
         let out = called(
-            w,
+            e,
+            rows,
+            tops,
             heads,
             values,
             deadlines,
@@ -369,11 +406,10 @@ fn answers_on(
             b,
         );
         let answer = out.answer;
-        let after = out.wheel;
-        w = after;
+        e = out.elapsed;
         write_words(answers, at, words_of(answer));
     }
-    w
+    e
 }
 
 fn low(x: u64) -> u16 {
@@ -391,6 +427,20 @@ fn state_of(s: &[u64; 10]) -> Wheel {
     Wheel {
         elapsed: s[0],
         occupied,
+        stacks,
+    }
+}
+
+// The parts put together again.
+fn wheel_of(elapsed: u64, rows: [u64; 6], tops: [u16; 3]) -> Wheel {
+    let stacks = Stacks {
+        n: tops[0],
+        expired: tops[1],
+        free: tops[2],
+    };
+    Wheel {
+        elapsed,
+        occupied: rows,
         stacks,
     }
 }
@@ -459,8 +509,14 @@ pub extern "C" fn face_inner(
     ) {
         return 0;
     }
+    let elapsed = before.elapsed;
+    let mut rows = before.occupied;
+    let stacks = before.stacks;
+    let mut tops = [stacks.n, stacks.expired, stacks.free];
     let end = script_on(
-        before,
+        elapsed,
+        &mut rows,
+        &mut tops,
         heads,
         values,
         deadlines,
@@ -470,8 +526,7 @@ pub extern "C" fn face_inner(
         marks,
         script,
     );
-    let after = end.wheel;
-    keep_state(state, after);
+    keep_state(state, wheel_of(end.elapsed, rows, tops));
     end.sum
 }
 
@@ -502,8 +557,14 @@ pub extern "C" fn face_answers(
     ) {
         return false;
     }
-    let after = answers_on(
-        before,
+    let elapsed = before.elapsed;
+    let mut rows = before.occupied;
+    let stacks = before.stacks;
+    let mut tops = [stacks.n, stacks.expired, stacks.free];
+    let e = answers_on(
+        elapsed,
+        &mut rows,
+        &mut tops,
         heads,
         values,
         deadlines,
@@ -514,7 +575,7 @@ pub extern "C" fn face_answers(
         script,
         answers,
     );
-    keep_state(state, after);
+    keep_state(state, wheel_of(e, rows, tops));
     true
 }
 

@@ -4,7 +4,9 @@ ghost use mathlib.Core.Path.{_≡_};
 ghost use Prim.Native.Nat.{_≤_, _<_};
 ghost use lib.ListN.{length};
 ghost use Rattle.row.specs.Row.{rowOf};
-ghost use Rattle.records.specs.Words.{words, Room, Sound};
+ghost use Rattle.lent.specs.Lent.{old};
+ghost use Rattle.records.specs.Words.{Room, Sound};
+ghost use Rattle.records.specs.Store.{before};
 ghost use Rattle.wheel.specs.Wheel.{OnWheel};
 ghost use Rattle.judge.specs.Judge.{Tells, held, RowsAgree, RecordAgrees, RecordsAgree};
 
@@ -18,7 +20,7 @@ pub fn has_room(
     turns: &[u64],
     marks: &[u16],
 ) -> bool
-    ensures { λ r. ⌜ Tells (Room n (now (values .entry)) (now (deadlines .entry)) (now (nexts .entry)) (now (prevs .entry)) (now (turns .entry)) (now (marks .entry))) r ⌝ }
+    ensures { λ r. ⌜ Tells (Room n (old values) (old deadlines) (old nexts) (old prevs) (old turns) (old marks)) r ⌝ }
 {
     let k = n as usize;
     if values.len() < k {
@@ -42,7 +44,7 @@ pub fn has_room(
 // The row of the slots of the level that have a head.
 fn row_of(heads: &[[u16; 64]; 6], level: usize) -> u64
     requires { ⌜ level < 6 ⌝ }
-    ensures { λ r. ⌜ r ≡ rowOf (held (now (heads .entry)) level) ⌝ }
+    ensures { λ r. ⌜ r ≡ rowOf (held (old heads) level) ⌝ }
 {
     let mut bits = 0u64;
     let mut slot: usize = 0;
@@ -57,7 +59,7 @@ fn row_of(heads: &[[u16; 64]; 6], level: usize) -> u64
 
 // Whether the occupied rows name exactly the slots that have a head.
 fn rows_agree(occupied: [u64; 6], heads: &[[u16; 64]; 6]) -> bool
-    ensures { λ r. ⌜ Tells (RowsAgree occupied (now (heads .entry))) r ⌝ }
+    ensures { λ r. ⌜ Tells (RowsAgree occupied (old heads)) r ⌝ }
 {
     let mut level: usize = 0;
     while level < 6 {
@@ -106,7 +108,7 @@ fn record_agrees(elapsed: u64, when: u64, turn: u64, mark: u16) -> bool
 // Whether this holds of all n records.
 fn records_agree(elapsed: u64, n: u16, deadlines: &[u64], turns: &[u64], marks: &[u16]) -> bool
     requires { ⌜ (n ≤ length (now deadlines)) × (n ≤ length (now turns)) × (n ≤ length (now marks)) ⌝ }
-    ensures { λ r. ⌜ Tells (RecordsAgree elapsed n (now (deadlines .entry)) (now (turns .entry)) (now (marks .entry))) r ⌝ }
+    ensures { λ r. ⌜ Tells (RecordsAgree elapsed n (old deadlines) (old turns) (old marks)) r ⌝ }
 {
     let mut i = 0u16;
     while i < n {
@@ -130,7 +132,7 @@ pub fn is_sound(
     turns: &[u64],
     marks: &[u16],
 ) -> bool
-    ensures { λ r. ⌜ Tells (Sound (words state heads (now (values .entry)) (now (deadlines .entry)) (now (nexts .entry)) (now (prevs .entry)) (now (turns .entry)) (now (marks .entry)))) r ⌝ }
+    ensures { λ r. ⌜ Tells (Sound (before state heads values deadlines nexts prevs turns marks)) r ⌝ }
 {
     let stacks = state.stacks;
     let n = stacks.n;
@@ -143,7 +145,8 @@ pub fn is_sound(
     if !has_room(n, values, deadlines, nexts, prevs, turns, marks) {
         return false;
     }
-    if !stack::is_whole(stacks, &heads, nexts, prevs, marks) {
+    let tops = [n, stacks.expired, stacks.free];
+    if !stack::is_whole(&tops, &heads, nexts, prevs, marks) {
         return false;
     }
     let occupied = state.occupied;

@@ -1,7 +1,9 @@
 -- What two calls in a row do, from their claims alone.
 use mathlib.Core.Path.{_≡_, subst}
+use mathlib.Core.List.{List}
 use Prim.Native.Nat.{ℕ}
-use Rattle.records.specs.Words.{QueueWords, Sound}
+use Rattle.wheel.specs.declared.Wheel.{Wheel}
+use Rattle.records.specs.Words.{QueueWords, words, Sound}
 use Rattle.records.specs.Cases.{by-key}
 use Rattle.queue.specs.declared.Answer.{Answer}
 use Rattle.queue.specs.Told.{told, no}
@@ -25,5 +27,11 @@ pub record CancelsTwice (s : QueueWords) (key : ℕ) (b : Answer) (u : QueueWord
   pub second : RemoveClaim between key b u
   pub dead : Sound s → told b ≡ no 6
 
-pub cancels : {s t u : QueueWords} {key : ℕ} {a b : Answer} → RemoveClaim s key a t → RemoveClaim t key b u → CancelsTwice s key b u
+cancels : {s t u : QueueWords} {key : ℕ} {a b : Answer} → RemoveClaim s key a t → RemoveClaim t key b u → CancelsTwice s key b u
 cancels {s} {t} {u} {key} {a} {b} A B = record { answer = a; between = t; first = A; second = B; dead = removed-twice A B }
+
+-- between the two calls the heads are taken out of the first reply
+module _ {w : Wheel} {hh hh′ : List (List ℕ)} {vs ds ns ps ts ms : List ℕ} where
+  pub cancels-on : {s u : QueueWords} {key : ℕ} {a b : Answer} → RemoveClaim s key a (words w hh vs ds ns ps ts ms) → hh′ ≡ hh
+      → RemoveClaim (words w hh′ vs ds ns ps ts ms) key b u → CancelsTwice s key b u
+  cancels-on {s} {u} {key} {a} {b} A e B = cancels A (subst (λ h. RemoveClaim (words w h vs ds ns ps ts ms) key b u) e B)

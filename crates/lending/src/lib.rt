@@ -2,7 +2,7 @@
 use delay_queue::Reply;
 use delay_queue::remove;
 use wheel::Wheel;
-ghost use Rattle.records.specs.Words.{words};
+ghost use Rattle.records.specs.Store.{before, after};
 ghost use Rattle.lending.specs.Lending.{CancelsTwice};
 
 // Cancels the timer of a key twice, and hands back the second reply: whatever the key, a sound store refuses it then with number 6.
@@ -19,10 +19,10 @@ pub fn cancel_twice(
 ) -> Reply
     ensures { λ r. ⌜
         CancelsTwice
-        (words state heads (now (values .entry)) (now (deadlines .entry)) (now (nexts .entry)) (now (prevs .entry)) (now (turns .entry)) (now (marks .entry)))
+        (before state heads values deadlines nexts prevs turns marks)
         key
         (r .answer)
-        (words (r .state) (r .heads .rows) (now (values .entry)) (now (deadlines .entry)) (now (nexts .exit)) (now (prevs .exit)) (now (turns .exit)) (now (marks .exit))) ⌝ }
+        (after (r .state) (r .heads .rows) values deadlines nexts prevs turns marks) ⌝ }
 {
     let first = remove(
         state,

@@ -19,6 +19,7 @@ use Rattle.links.specs.Segments.{Seg, seg-nodup}
 use Rattle.links.specs.Family.{Net, Loose, Fam, fam-nodup, fam-loose}
 use Rattle.links.specs.Count.{cnt, bit, elem, cnt-ext, cnt-all, cnt-not, cnt-elem, mem-elem, elem-mem, length-below}
 use Rattle.links.specs.Walk.{walk, lists, walk-is}
+use Rattle.links.specs.Links.{Links, at}
 
 -- ---- one list
 
@@ -57,6 +58,13 @@ isLoose nx pv mk i = bare (nx i) (pv i) (mk i)
 
 unfoldable pub looseIn : (ℕ → ℕ) → (ℕ → ℕ) → (ℕ → ℕ) → ℕ → ℕ
 looseIn nx pv mk n = cnt (isLoose nx pv mk) n
+
+-- the same two of the links: the list of p from its head h on, and how many of n records are loose
+abbrev pub walkOf : Links → ℕ → ℕ → ℕ → ℕ → Walk
+walkOf s n p room h = scan (at (s .nexts)) (at (s .prevs)) (at (s .marks)) n p room 65535 h
+
+abbrev pub looseOf : Links → ℕ → ℕ
+looseOf s n = looseIn (at (s .nexts)) (at (s .prevs)) (at (s .marks)) n
 
 -- just so much is left
 abbrev pub leaves : Walk → ℕ → Bool

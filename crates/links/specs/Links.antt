@@ -8,6 +8,7 @@ use lib.ListN.{length, getD, set}
 use lib.Dec.{eqb}
 use Rattle.links.specs.Lists.{nobody}
 use Rattle.links.specs.Family.{Net}
+use Rattle.lent.specs.Lent.{Lent, Turned, old, new}
 
 pub record Links : Type 0 where
   pub nexts : List ℕ
@@ -16,6 +17,17 @@ pub record Links : Type 0 where
 
 abbrev pub links : List ℕ → List ℕ → List ℕ → Links
 links ns ps ms = record { nexts = ns; prevs = ps; marks = ms }
+
+-- as the functions have them: in a `requires`, and in an `ensures` at the call and at the return
+abbrev pub lent : (nexts prevs marks : Lent (List ℕ)) → Links
+lent nexts prevs marks = links (nexts .now) (prevs .now) (marks .now)
+
+module _ (nexts prevs marks : Turned (List ℕ)) where
+  abbrev pub before : Links
+  before = links (old nexts) (old prevs) (old marks)
+
+  abbrev pub after : Links
+  after = links (new nexts) (new prevs) (new marks)
 
 -- two are equal by their parts
 pub links-eq : {b c d b′ c′ d′ : List ℕ} → b ≡ b′ → c ≡ c′ → d ≡ d′ → links b c d ≡ links b′ c′ d′

@@ -1,7 +1,9 @@
 // The links of the records: doubly linked lists of record numbers in lent slices. The heads are the caller's.
 ghost use mathlib.Core.Path.{_≡_};
-ghost use Rattle.links.specs.Links.{links, at, setN, joined, cutOut, headAfter, Deep, Inside, CanJoin, CanCut};
-ghost use Rattle.links.specs.Judge.{scan, bare, looseIn};
+ghost use Rattle.lent.specs.Lent.{old, new};
+ghost use Rattle.links.specs.Links.{lent, before, after, setN, joined, cutOut, headAfter};
+ghost use Rattle.links.specs.Links.{Deep, Inside, CanJoin, CanCut};
+ghost use Rattle.links.specs.Judge.{walkOf, bare, looseOf};
 
 // The record number that means nobody.
 pub const NOBODY: u16 = 65535;
@@ -15,7 +17,7 @@ pub enum Walk {
 // v at k, unless k is nobody.
 fn put(l: &mut [u16], k: u16, v: u16)
     requires { ⌜ Inside k (now l) ⌝ }
-    ensures { λ _. ⌜ now (l .exit) ≡ setN (now (l .entry)) k v ⌝ }
+    ensures { λ _. ⌜ new l ≡ setN (old l) k v ⌝ }
 {
     if k != NOBODY {
         l[k as usize] = v;
@@ -24,10 +26,8 @@ fn put(l: &mut [u16], k: u16, v: u16)
 
 // The loose record i comes in front of h, the head of p. The caller makes i the head.
 pub fn join(nexts: &mut [u16], prevs: &mut [u16], marks: &mut [u16], p: u16, i: u16, h: u16)
-    requires { ⌜ CanJoin (links (now nexts) (now prevs) (now marks)) i h ⌝ }
-    ensures { λ _. ⌜
-        links (now (nexts .exit)) (now (prevs .exit)) (now (marks .exit))
-        ≡ joined (links (now (nexts .entry)) (now (prevs .entry)) (now (marks .entry))) p i h ⌝ }
+    requires { ⌜ CanJoin (lent nexts prevs marks) i h ⌝ }
+    ensures { λ _. ⌜ after nexts prevs marks ≡ joined (before nexts prevs marks) p i h ⌝ }
 {
     nexts[i as usize] = h;
     prevs[i as usize] = NOBODY;
@@ -37,11 +37,9 @@ pub fn join(nexts: &mut [u16], prevs: &mut [u16], marks: &mut [u16], p: u16, i: 
 
 // The record i leaves its list, whose head is h, and is loose. The head that the list has then: the caller keeps it.
 pub fn cut(nexts: &mut [u16], prevs: &mut [u16], marks: &mut [u16], i: u16, h: u16) -> u16
-    requires { ⌜ CanCut (links (now nexts) (now prevs) (now marks)) i ⌝ }
-    ensures { λ r. ⌜ r ≡ headAfter (links (now (nexts .entry)) (now (prevs .entry)) (now (marks .entry))) i h ⌝ }
-    ensures { λ _. ⌜
-        links (now (nexts .exit)) (now (prevs .exit)) (now (marks .exit))
-        ≡ cutOut (links (now (nexts .entry)) (now (prevs .entry)) (now (marks .entry))) i ⌝ }
+    requires { ⌜ CanCut (lent nexts prevs marks) i ⌝ }
+    ensures { λ r. ⌜ r ≡ headAfter (before nexts prevs marks) i h ⌝ }
+    ensures { λ _. ⌜ after nexts prevs marks ≡ cutOut (before nexts prevs marks) i ⌝ }
 {
     let before = prevs[i as usize];
     let after = nexts[i as usize];
@@ -66,8 +64,8 @@ pub fn walk_list(
     h: u16,
     room: u16,
 ) -> Walk
-    requires { ⌜ Deep n (links (now nexts) (now prevs) (now marks)) ⌝ }
-    ensures { λ r. ⌜ r ≡ scan (at (now (nexts .entry))) (at (now (prevs .entry))) (at (now (marks .entry))) n p room 65535 h ⌝ }
+    requires { ⌜ Deep n (lent nexts prevs marks) ⌝ }
+    ensures { λ r. ⌜ r ≡ walkOf (before nexts prevs marks) n p room h ⌝ }
 {
     let mut left = room;
     let mut prev = NOBODY;
@@ -108,8 +106,8 @@ fn is_loose(next: u16, prev: u16, mark: u16) -> bool
 
 // How many of n records are loose.
 pub fn count_loose(nexts: &[u16], prevs: &[u16], marks: &[u16], n: u16) -> u16
-    requires { ⌜ Deep n (links (now nexts) (now prevs) (now marks)) ⌝ }
-    ensures { λ r. ⌜ r ≡ looseIn (at (now (nexts .entry))) (at (now (prevs .entry))) (at (now (marks .entry))) n ⌝ }
+    requires { ⌜ Deep n (lent nexts prevs marks) ⌝ }
+    ensures { λ r. ⌜ r ≡ looseOf (before nexts prevs marks) n ⌝ }
 {
     let mut count = 0u16;
     let mut i = 0u16;

@@ -13,6 +13,7 @@ use Rattle.times.specs.Quotients.{slot-lt}
 use Rattle.links.specs.Lists.{nobody}
 use Rattle.links.specs.Links.{at}
 use Rattle.stack.specs.Places.{slotPlace, slots, expired, free}
+use Rattle.stack.specs.Heads.{slotHead}
 use Rattle.stack.specs.Format.{over, formatted}
 use Rattle.stack.specs.Words.{headAt as headIn, pop, remove}
 use Rattle.wheel.specs.Wheel.{Lists, FirstSlot, EmptyWheel, arrive}
@@ -98,9 +99,9 @@ leave-met : {t : WheelWords} {i : ℕ} → CanLeave t i → (u : WheelWords) × 
 leave-met {t} {i} C =
     by-cases (decLt (markIn t i) slots)
     (λ h.
-    by-cases (ℕ-discrete (headIn (remove (t .stack) i) (markIn t i)) nobody)
+    by-cases (ℕ-discrete (slotHead (remove (t .stack) i .heads) (markIn t i / 64) (markIn t i % 64)) nobody)
     (λ z. (_, leaves-last C refl h z refl))
-    (λ z. (_, leaves-more C refl z)))
+    (λ z. (_, leaves-more C refl h z)))
     (λ h. (_, leaves-aside C refl (omega arith)))
 
 free-met : {t : WheelWords} {ts : List ℕ} {i : ℕ} → CanFree t ts i → (u : WheelWords) × (ts′ : List ℕ) × LeavesTo t ts i u ts′

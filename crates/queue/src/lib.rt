@@ -1,9 +1,9 @@
 // The delay queue on a sound store: records, keys and turns over the wheel.
-use wheel::Wheel;
 ghost use mathlib.Core.Path.{_≡_};
 ghost use Prim.Native.Nat.{_≤_, _<_};
 ghost use lib.ListN.{length};
-ghost use Rattle.records.specs.Words.{words, count, Sound};
+ghost use Rattle.lent.specs.Lent.{old};
+ghost use Rattle.records.specs.Words.{lent, before, after, count, Sound};
 ghost use Rattle.queue.specs.Calls.{InsertOn, ResetOn, RemoveOn, PollOn, ClearOn};
 ghost use Rattle.records.specs.Laws.{LooseAt};
 ghost use Rattle.queue.specs.PollLaws.{HandsOut, pendingIn, ClearsOne};
@@ -35,15 +35,17 @@ pub enum Answer {
     No(u64),
 }
 
-// An answer with the state after the call.
+// The answer of a poll with elapsed after it. Of the other calls clear alone changes elapsed: to 0.
 pub struct Out {
     pub answer: Answer,
-    pub wheel: Wheel,
+    pub elapsed: u64,
 }
 
 // A record is taken for the value and placed at the deadline.
 pub fn insert(
-    wheel: Wheel,
+    elapsed: u64,
+    rows: &mut [u64; 6],
+    tops: &mut [u16; 3],
     heads: &mut [[u16; 64]; 6],
     values: &mut [u64],
     deadlines: &mut [u64],
@@ -53,45 +55,42 @@ pub fn insert(
     marks: &mut [u16],
     value: u64,
     when: u64,
-) -> Out
-    requires { ⌜ Sound (words wheel (now heads) (now values) (now deadlines) (now nexts) (now prevs) (now turns) (now marks)) ⌝ }
+) -> Answer
+    requires { ⌜ Sound (lent elapsed rows tops heads values deadlines nexts prevs turns marks) ⌝ }
     ensures { λ r. ⌜
-        InsertOn
-        (words wheel (now (heads .entry)) (now (values .entry)) (now (deadlines .entry)) (now (nexts .entry)) (now (prevs .entry)) (now (turns .entry)) (now (marks .entry)))
-        value
-        when
-        (r .answer)
-        (words (r .wheel) (now (heads .exit)) (now (values .exit)) (now (deadlines .exit)) (now (nexts .exit)) (now (prevs .exit)) (now (turns .entry)) (now (marks .exit))) ⌝ }
+        InsertOn (before elapsed rows tops heads values deadlines nexts prevs turns marks)
+        value when r (after elapsed rows tops heads values deadlines nexts prevs turns marks) ⌝ }
 {
-    let stacks = wheel.stacks;
-    if stacks.free == links::NOBODY {
-        return Out {
-            answer: Answer::No(3),
-            wheel,
-        };
+    if tops[2] == links::NOBODY {
+        return Answer::No(3);
     }
-    let no = records::deadline_no(wheel.elapsed, when);
+    let no = records::deadline_no(elapsed, when);
     if no != 0 {
-        return Out {
-            answer: Answer::No(no),
-            wheel,
-        };
+        return Answer::No(no);
     }
-    let popped = wheel::pop(wheel, heads, nexts, prevs, marks, stack::FREE);
-    let item = popped.item;
-    let taken = popped.wheel;
+    let item = wheel::pop(elapsed, rows, tops, heads, nexts, prevs, marks, stack::FREE);
     values[item as usize] = value;
     let key = turns[item as usize] * 65536 + item as u64;
-    let placed = records::place(taken, heads, deadlines, nexts, prevs, marks, item, when);
-    Out {
-        answer: Answer::Key(key),
-        wheel: placed,
-    }
+    records::place(
+        elapsed,
+        rows,
+        tops,
+        heads,
+        deadlines,
+        nexts,
+        prevs,
+        marks,
+        item,
+        when,
+    );
+    Answer::Key(key)
 }
 
 // The timer of the key is placed anew. 4 and 5 are judged before anything is unlinked.
 pub fn reset(
-    wheel: Wheel,
+    elapsed: u64,
+    rows: &mut [u64; 6],
+    tops: &mut [u16; 3],
     heads: &mut [[u16; 64]; 6],
     values: &[u64],
     deadlines: &mut [u64],
@@ -101,42 +100,41 @@ pub fn reset(
     marks: &mut [u16],
     key: u64,
     when: u64,
-) -> Out
-    requires { ⌜ Sound (words wheel (now heads) (now values) (now deadlines) (now nexts) (now prevs) (now turns) (now marks)) ⌝ }
+) -> Answer
+    requires { ⌜ Sound (lent elapsed rows tops heads values deadlines nexts prevs turns marks) ⌝ }
     ensures { λ r. ⌜
-        ResetOn
-        (words wheel (now (heads .entry)) (now (values .entry)) (now (deadlines .entry)) (now (nexts .entry)) (now (prevs .entry)) (now (turns .entry)) (now (marks .entry)))
-        key
-        when
-        (r .answer)
-        (words (r .wheel) (now (heads .exit)) (now (values .entry)) (now (deadlines .exit)) (now (nexts .exit)) (now (prevs .exit)) (now (turns .entry)) (now (marks .exit))) ⌝ }
+        ResetOn (before elapsed rows tops heads values deadlines nexts prevs turns marks)
+        key when r (after elapsed rows tops heads values deadlines nexts prevs turns marks) ⌝ }
 {
-    let stacks = wheel.stacks;
-    let found = records::find(stacks.n, turns, marks, key);
+    let found = records::find(tops[0], turns, marks, key);
     let records::Found::At(item) = found else {
-        return Out {
-            answer: Answer::No(6),
-            wheel,
-        };
+        return Answer::No(6);
     };
-    let no = records::deadline_no(wheel.elapsed, when);
+    let no = records::deadline_no(elapsed, when);
     if no != 0 {
-        return Out {
-            answer: Answer::No(no),
-            wheel,
-        };
+        return Answer::No(no);
     }
-    let left = wheel::remove(wheel, heads, nexts, prevs, marks, item);
-    let placed = records::place(left, heads, deadlines, nexts, prevs, marks, item, when);
-    Out {
-        answer: Answer::Done,
-        wheel: placed,
-    }
+    wheel::remove(elapsed, rows, tops, heads, nexts, prevs, marks, item);
+    records::place(
+        elapsed,
+        rows,
+        tops,
+        heads,
+        deadlines,
+        nexts,
+        prevs,
+        marks,
+        item,
+        when,
+    );
+    Answer::Done
 }
 
 // The timer of the key is taken out.
 pub fn remove(
-    wheel: Wheel,
+    elapsed: u64,
+    rows: &mut [u64; 6],
+    tops: &mut [u16; 3],
     heads: &mut [[u16; 64]; 6],
     values: &[u64],
     deadlines: &[u64],
@@ -145,36 +143,28 @@ pub fn remove(
     turns: &mut [u64],
     marks: &mut [u16],
     key: u64,
-) -> Out
-    requires { ⌜ Sound (words wheel (now heads) (now values) (now deadlines) (now nexts) (now prevs) (now turns) (now marks)) ⌝ }
+) -> Answer
+    requires { ⌜ Sound (lent elapsed rows tops heads values deadlines nexts prevs turns marks) ⌝ }
     ensures { λ r. ⌜
-        RemoveOn
-        (words wheel (now (heads .entry)) (now (values .entry)) (now (deadlines .entry)) (now (nexts .entry)) (now (prevs .entry)) (now (turns .entry)) (now (marks .entry)))
-        key
-        (r .answer)
-        (words (r .wheel) (now (heads .exit)) (now (values .entry)) (now (deadlines .entry)) (now (nexts .exit)) (now (prevs .exit)) (now (turns .exit)) (now (marks .exit))) ⌝ }
+        RemoveOn (before elapsed rows tops heads values deadlines nexts prevs turns marks)
+        key r (after elapsed rows tops heads values deadlines nexts prevs turns marks) ⌝ }
 {
-    let stacks = wheel.stacks;
-    let found = records::find(stacks.n, turns, marks, key);
+    let found = records::find(tops[0], turns, marks, key);
     let records::Found::At(item) = found else {
-        return Out {
-            answer: Answer::No(6),
-            wheel,
-        };
+        return Answer::No(6);
     };
     let value = values[item as usize];
     let deadline = deadlines[item as usize];
-    let left = wheel::remove(wheel, heads, nexts, prevs, marks, item);
-    let freed = records::leave(left, heads, nexts, prevs, turns, marks, item);
-    Out {
-        answer: Answer::Gone(value, deadline),
-        wheel: freed,
-    }
+    wheel::remove(elapsed, rows, tops, heads, nexts, prevs, marks, item);
+    records::leave(elapsed, rows, tops, heads, nexts, prevs, turns, marks, item);
+    Answer::Gone(value, deadline)
 }
 
 // The loose record `item` is handed out, and freed.
 fn hand_out(
-    wheel: Wheel,
+    elapsed: u64,
+    rows: &[u64; 6],
+    tops: &mut [u16; 3],
     heads: &mut [[u16; 64]; 6],
     values: &[u64],
     deadlines: &[u64],
@@ -185,31 +175,26 @@ fn hand_out(
     item: u16,
     moves: u64,
     drains: u64,
-) -> Out
-    requires { ⌜ Sound (words wheel (now heads) (now values) (now deadlines) (now nexts) (now prevs) (now turns) (now marks)) × LooseAt (words wheel (now heads) (now values) (now deadlines) (now nexts) (now prevs) (now turns) (now marks)) item ⌝ }
+) -> Answer
+    requires { ⌜ Sound (lent elapsed rows tops heads values deadlines nexts prevs turns marks) ⌝ }
+    requires { ⌜ LooseAt (lent elapsed rows tops heads values deadlines nexts prevs turns marks) item ⌝ }
     ensures { λ r. ⌜
-        HandsOut
-        (words wheel (now (heads .entry)) (now (values .entry)) (now (deadlines .entry)) (now (nexts .entry)) (now (prevs .entry)) (now (turns .entry)) (now (marks .entry)))
-        item
-        moves
-        drains
-        (r .answer)
-        (words (r .wheel) (now (heads .exit)) (now (values .entry)) (now (deadlines .entry)) (now (nexts .exit)) (now (prevs .exit)) (now (turns .exit)) (now (marks .exit))) ⌝ }
+        HandsOut (before elapsed rows tops heads values deadlines nexts prevs turns marks)
+        item moves drains r (after elapsed rows tops heads values deadlines nexts prevs turns marks) ⌝ }
 {
     let k = item as usize;
     let key = turns[k] * 65536 + item as u64;
     let value = values[k];
     let deadline = deadlines[k];
-    let freed = records::leave(wheel, heads, nexts, prevs, turns, marks, item);
-    Out {
-        answer: Answer::Out(key, value, deadline, moves, drains),
-        wheel: freed,
-    }
+    records::leave(elapsed, rows, tops, heads, nexts, prevs, turns, marks, item);
+    Answer::Out(key, value, deadline, moves, drains)
 }
 
 // Hands out a timer that is due at `time`, document 01's now: the first of the expired stack, else what the wheel has.
 pub fn poll(
-    wheel: Wheel,
+    elapsed: u64,
+    rows: &mut [u64; 6],
+    tops: &mut [u16; 3],
     heads: &mut [[u16; 64]; 6],
     values: &[u64],
     deadlines: &[u64],
@@ -219,26 +204,32 @@ pub fn poll(
     marks: &mut [u16],
     time: u64,
 ) -> Out
-    requires { ⌜ Sound (words wheel (now heads) (now values) (now deadlines) (now nexts) (now prevs) (now turns) (now marks)) ⌝ }
+    requires { ⌜ Sound (lent elapsed rows tops heads values deadlines nexts prevs turns marks) ⌝ }
     ensures { λ r. ⌜
-        PollOn
-        (words wheel (now (heads .entry)) (now (values .entry)) (now (deadlines .entry)) (now (nexts .entry)) (now (prevs .entry)) (now (turns .entry)) (now (marks .entry)))
-        time
-        (r .answer)
-        (words (r .wheel) (now (heads .exit)) (now (values .entry)) (now (deadlines .entry)) (now (nexts .exit)) (now (prevs .exit)) (now (turns .exit)) (now (marks .exit))) ⌝ }
+        PollOn (before elapsed rows tops heads values deadlines nexts prevs turns marks)
+        time (r .answer) (after (r .elapsed) rows tops heads values deadlines nexts prevs turns marks) ⌝ }
 {
-    if time < wheel.elapsed {
+    if time < elapsed {
         return Out {
             answer: Answer::No(7),
-            wheel,
+            elapsed,
         };
     }
-    let popped = wheel::pop(wheel, heads, nexts, prevs, marks, stack::EXPIRED);
-    let first = popped.item;
-    let rest = popped.wheel;
+    let first = wheel::pop(
+        elapsed,
+        rows,
+        tops,
+        heads,
+        nexts,
+        prevs,
+        marks,
+        stack::EXPIRED,
+    );
     if first != links::NOBODY {
-        return hand_out(
-            rest,
+        let answer = hand_out(
+            elapsed,
+            rows,
+            tops,
             heads,
             values,
             deadlines,
@@ -250,20 +241,33 @@ pub fn poll(
             0,
             0,
         );
+        return Out { answer, elapsed };
     }
-    let polled = wheel::poll(rest, heads, nexts, prevs, marks, deadlines, time);
+    let polled = wheel::poll(
+        elapsed,
+        rows,
+        tops,
+        heads,
+        nexts,
+        prevs,
+        marks,
+        deadlines,
+        time,
+    );
+    let e = polled.elapsed;
     let item = polled.item;
     let moves = polled.moves;
     let drains = polled.drains;
-    let after = polled.wheel;
     if item == links::NOBODY {
         return Out {
             answer: Answer::Nothing(moves, drains),
-            wheel: after,
+            elapsed: e,
         };
     }
-    hand_out(
-        after,
+    let answer = hand_out(
+        e,
+        rows,
+        tops,
         heads,
         values,
         deadlines,
@@ -274,15 +278,16 @@ pub fn poll(
         item,
         moves,
         drains,
-    )
+    );
+    Out { answer, elapsed: e }
 }
 
 // When the wheel next has something to do. The expired stack is not asked.
-pub fn next_wake(wheel: Wheel) -> Answer
-    requires { ⌜ NotPassed (wheel .elapsed) (wheel .occupied) ⌝ }
-    ensures { λ r. ⌜ ((v : View) → v .elapsed ≡ wheel .elapsed → Rows (wheel .occupied) (v .lists) → Wakes v (told r)) ⌝ }
+pub fn next_wake(elapsed: u64, rows: &[u64; 6]) -> Answer
+    requires { ⌜ NotPassed elapsed (now rows) ⌝ }
+    ensures { λ r. ⌜ ((v : View) → v .elapsed ≡ elapsed → Rows (old rows) (v .lists) → Wakes v (told r)) ⌝ }
 {
-    let wake = wheel::poll_at(wheel);
+    let wake = wheel::poll_at(elapsed, rows);
     match wake {
         wheel::Wake::At(time) => Answer::Wake(time),
         wheel::Wake::Never => Answer::NoWake,
@@ -292,7 +297,7 @@ pub fn next_wake(wheel: Wheel) -> Answer
 // How many of n records are pending: those in a slot or on the expired stack.
 pub fn length(n: u16, marks: &[u16]) -> u64
     requires { ⌜ n ≤ length (now marks) ⌝ }
-    ensures { λ r. ⌜ r ≡ pendingIn (at (now (marks .entry))) n ⌝ }
+    ensures { λ r. ⌜ r ≡ pendingIn (at (old marks)) n ⌝ }
 {
     let mut count = 0u64;
     let mut i = 0u16;
@@ -307,7 +312,9 @@ pub fn length(n: u16, marks: &[u16]) -> u64
 
 // The record `item` leaves if it is pending.
 fn clear_one(
-    wheel: Wheel,
+    elapsed: u64,
+    rows: &mut [u64; 6],
+    tops: &mut [u16; 3],
     heads: &mut [[u16; 64]; 6],
     values: &[u64],
     deadlines: &[u64],
@@ -316,24 +323,25 @@ fn clear_one(
     turns: &mut [u64],
     marks: &mut [u16],
     item: u16,
-) -> Wheel
-    requires { ⌜ Sound (words wheel (now heads) (now values) (now deadlines) (now nexts) (now prevs) (now turns) (now marks)) × (item < count (words wheel (now heads) (now values) (now deadlines) (now nexts) (now prevs) (now turns) (now marks))) ⌝ }
-    ensures { λ r. ⌜
-        ClearsOne
-        (words wheel (now (heads .entry)) (now (values .entry)) (now (deadlines .entry)) (now (nexts .entry)) (now (prevs .entry)) (now (turns .entry)) (now (marks .entry)))
-        item
-        (words r (now (heads .exit)) (now (values .entry)) (now (deadlines .entry)) (now (nexts .exit)) (now (prevs .exit)) (now (turns .exit)) (now (marks .exit))) ⌝ }
+)
+    requires { ⌜ Sound (lent elapsed rows tops heads values deadlines nexts prevs turns marks) ⌝ }
+    requires { ⌜ item < count (lent elapsed rows tops heads values deadlines nexts prevs turns marks) ⌝ }
+    ensures { λ _. ⌜
+        ClearsOne (before elapsed rows tops heads values deadlines nexts prevs turns marks)
+        item (after elapsed rows tops heads values deadlines nexts prevs turns marks) ⌝ }
 {
     if stack::FREE <= marks[item as usize] {
-        return wheel;
+        return;
     }
-    let left = wheel::remove(wheel, heads, nexts, prevs, marks, item);
-    records::leave(left, heads, nexts, prevs, turns, marks, item)
+    wheel::remove(elapsed, rows, tops, heads, nexts, prevs, marks, item);
+    records::leave(elapsed, rows, tops, heads, nexts, prevs, turns, marks, item);
 }
 
-// Every pending record leaves, in rising number, and elapsed is 0 again.
+// Every pending record leaves, in rising number. Elapsed is 0 after it.
 pub fn clear(
-    wheel: Wheel,
+    elapsed: u64,
+    rows: &mut [u64; 6],
+    tops: &mut [u16; 3],
     heads: &mut [[u16; 64]; 6],
     values: &[u64],
     deadlines: &[u64],
@@ -341,25 +349,29 @@ pub fn clear(
     prevs: &mut [u16],
     turns: &mut [u64],
     marks: &mut [u16],
-) -> Out
-    requires { ⌜ Sound (words wheel (now heads) (now values) (now deadlines) (now nexts) (now prevs) (now turns) (now marks)) ⌝ }
+) -> Answer
+    requires { ⌜ Sound (lent elapsed rows tops heads values deadlines nexts prevs turns marks) ⌝ }
     ensures { λ r. ⌜
-        ClearOn
-        (words wheel (now (heads .entry)) (now (values .entry)) (now (deadlines .entry)) (now (nexts .entry)) (now (prevs .entry)) (now (turns .entry)) (now (marks .entry)))
-        (r .answer)
-        (words (r .wheel) (now (heads .exit)) (now (values .entry)) (now (deadlines .entry)) (now (nexts .exit)) (now (prevs .exit)) (now (turns .exit)) (now (marks .exit))) ⌝ }
+        ClearOn (before elapsed rows tops heads values deadlines nexts prevs turns marks)
+        r (after 0 rows tops heads values deadlines nexts prevs turns marks) ⌝ }
 {
-    let stacks = wheel.stacks;
-    let n = stacks.n;
-    let mut w = wheel;
+    let n = tops[0];
     let mut i = 0u16;
     while i < n {
-        w = clear_one(w, heads, values, deadlines, nexts, prevs, turns, marks, i);
+        clear_one(
+            elapsed,
+            rows,
+            tops,
+            heads,
+            values,
+            deadlines,
+            nexts,
+            prevs,
+            turns,
+            marks,
+            i,
+        );
         i += 1;
     }
-    w.elapsed = 0;
-    Out {
-        answer: Answer::Done,
-        wheel: w,
-    }
+    Answer::Done
 }

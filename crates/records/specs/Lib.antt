@@ -1,6 +1,7 @@
 pub mod View
 pub mod Records
 pub mod Words
+pub mod Store
 pub mod Laws
 pub mod Code
 pub mod Cases

@@ -7,7 +7,9 @@ use native.Mathlib.Decide.{ℕ-discrete}
 use lib.ListN.{length, set}
 use lib.Seq.{ext-getD, getD-set-same, getD-set-other}
 use borrow.Author.Tests.{eq-eqb, ne-eqb}
-use Rattle.links.specs.Links.{at}
+use Rattle.lent.specs.Lent.{Lent, Turned, old, new}
+use Rattle.links.specs.Links.{links, at}
+use Rattle.stack.specs.Words.{stackWords}
 use Rattle.links.specs.Laws.{Kept, kept-refl, kept-trans}
 use Rattle.stack.specs.Laws as stack
 use Rattle.wheel.specs.Wheel.{Rule}
@@ -25,9 +27,27 @@ pub record QueueWords : Type 0 where
 abbrev pub queueWords : WheelWords → List ℕ → List ℕ → List ℕ → QueueWords
 queueWords w vs ds ts = record { wheel = w; values = vs; deadlines = ds; turns = ts }
 
--- as the functions have them
+-- as the public calls have them, with the wheel by value
 abbrev pub words : Wheel → List (List ℕ) → List ℕ → List ℕ → List ℕ → List ℕ → List ℕ → List ℕ → QueueWords
-words w hh vs ds ns ps ts ms = queueWords (wheeled w hh ns ps ms) vs ds ts
+words w hh vs ds ns ps ts ms = queueWords (wheelWords (w .elapsed) (w .occupied) (stackWords (w .stacks) hh (links ns ps ms))) vs ds ts
+
+-- and as the functions below them have them, in parts
+abbrev pub parts : ℕ → List ℕ → List ℕ → List (List ℕ) → List ℕ → List ℕ → List ℕ → List ℕ → List ℕ → List ℕ → QueueWords
+parts e occ tops hh vs ds ns ps ts ms = queueWords (wheeled e occ tops hh ns ps ms) vs ds ts
+
+-- in a `requires`, and in an `ensures` at the call and at the return
+module _ (elapsed : ℕ) where
+  module _ (rows tops : Lent (List ℕ)) (heads : Lent (List (List ℕ))) (values deadlines nexts prevs turns marks : Lent (List ℕ)) where
+    abbrev pub lent : QueueWords
+    lent =
+        parts elapsed (rows .now) (tops .now) (heads .now) (values .now) (deadlines .now) (nexts .now) (prevs .now) (turns .now) (marks .now)
+
+  module _ (rows tops : Turned (List ℕ)) (heads : Turned (List (List ℕ))) (values deadlines nexts prevs turns marks : Turned (List ℕ)) where
+    abbrev pub before : QueueWords
+    before = parts elapsed (old rows) (old tops) (old heads) (old values) (old deadlines) (old nexts) (old prevs) (old turns) (old marks)
+
+    abbrev pub after : QueueWords
+    after = parts elapsed (new rows) (new tops) (new heads) (new values) (new deadlines) (new nexts) (new prevs) (new turns) (new marks)
 
 abbrev pub count : QueueWords → ℕ
 count s = countIn (s .wheel)

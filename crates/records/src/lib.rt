@@ -1,7 +1,7 @@
 // Records in lent slices: their keys and turns, where a deadline may lie, and how one joins the wheel or leaves the store.
-use wheel::Wheel;
 ghost use Prim.Native.Nat.{_<_};
-ghost use Rattle.wheel.specs.Words.{words as wheeled};
+ghost use Rattle.lent.specs.Lent.{old, new};
+ghost use Rattle.wheel.specs.Words.{lent, before, after};
 ghost use Rattle.records.specs.Laws.{PlacesTo, CanPlace, LeavesTo, CanFree};
 ghost use Rattle.records.specs.Code.{DeadlineNo, Roomed, FindIs};
 
@@ -35,7 +35,9 @@ pub fn deadline_no(elapsed: u64, when: u64) -> u64
 
 // The loose record `item` is placed: on the expired stack if its deadline is not over elapsed, else in its slot.
 pub fn place(
-    wheel: Wheel,
+    elapsed: u64,
+    rows: &mut [u64; 6],
+    tops: &mut [u16; 3],
     heads: &mut [[u16; 64]; 6],
     deadlines: &mut [u64],
     nexts: &mut [u16],
@@ -43,57 +45,70 @@ pub fn place(
     marks: &mut [u16],
     item: u16,
     when: u64,
-) -> Wheel
-    requires { ⌜ CanPlace (wheeled wheel (now heads) (now nexts) (now prevs) (now marks)) (now deadlines) item when ⌝ }
-    ensures { λ r. ⌜
-        PlacesTo
-        (wheeled wheel (now (heads .entry)) (now (nexts .entry)) (now (prevs .entry)) (now (marks .entry)))
-        (now (deadlines .entry))
-        item
-        when
-        (wheeled r (now (heads .exit)) (now (nexts .exit)) (now (prevs .exit)) (now (marks .exit)))
-        (now (deadlines .exit)) ⌝ }
+)
+    requires { ⌜ CanPlace (lent elapsed rows tops heads nexts prevs marks) (now deadlines) item when ⌝ }
+    ensures { λ _. ⌜
+        PlacesTo (before elapsed rows tops heads nexts prevs marks) (old deadlines)
+        item when (after elapsed rows tops heads nexts prevs marks) (new deadlines) ⌝ }
 {
-    let elapsed = wheel.elapsed;
     if when <= elapsed {
         deadlines[item as usize] = elapsed;
-        return wheel::push(wheel, heads, nexts, prevs, marks, stack::EXPIRED, item);
+        wheel::push(
+            elapsed,
+            rows,
+            tops,
+            heads,
+            nexts,
+            prevs,
+            marks,
+            stack::EXPIRED,
+            item,
+        );
+        return;
     }
     deadlines[item as usize] = when;
-    wheel::insert(wheel, heads, nexts, prevs, marks, when, item)
+    wheel::insert(elapsed, rows, tops, heads, nexts, prevs, marks, when, item);
 }
 
 // The loose record `item` is freed, its turn raised by one; at the last turn it is retired.
 pub fn leave(
-    wheel: Wheel,
+    elapsed: u64,
+    rows: &[u64; 6],
+    tops: &mut [u16; 3],
     heads: &mut [[u16; 64]; 6],
     nexts: &mut [u16],
     prevs: &mut [u16],
     turns: &mut [u64],
     marks: &mut [u16],
     item: u16,
-) -> Wheel
-    requires { ⌜ CanFree (wheeled wheel (now heads) (now nexts) (now prevs) (now marks)) (now turns) item ⌝ }
-    ensures { λ r. ⌜
-        LeavesTo
-        (wheeled wheel (now (heads .entry)) (now (nexts .entry)) (now (prevs .entry)) (now (marks .entry)))
-        (now (turns .entry))
-        item
-        (wheeled r (now (heads .exit)) (now (nexts .exit)) (now (prevs .exit)) (now (marks .exit)))
-        (now (turns .exit)) ⌝ }
+)
+    requires { ⌜ CanFree (lent elapsed rows tops heads nexts prevs marks) (now turns) item ⌝ }
+    ensures { λ _. ⌜
+        LeavesTo (before elapsed rows tops heads nexts prevs marks) (old turns)
+        item (after elapsed rows tops heads nexts prevs marks) (new turns) ⌝ }
 {
     let turn = turns[item as usize];
     if turn == LAST_TURN {
-        return wheel;
+        return;
     }
     turns[item as usize] = turn + 1;
-    wheel::push(wheel, heads, nexts, prevs, marks, stack::FREE, item)
+    wheel::push(
+        elapsed,
+        rows,
+        tops,
+        heads,
+        nexts,
+        prevs,
+        marks,
+        stack::FREE,
+        item,
+    );
 }
 
 // The record number is the key's low 16 bits, the turn the rest.
 pub fn find(n: u16, turns: &[u64], marks: &[u16], key: u64) -> Found
     requires { ⌜ Roomed n (now turns) (now marks) ⌝ }
-    ensures { λ r. ⌜ FindIs n (now (turns .entry)) (now (marks .entry)) key r ⌝ }
+    ensures { λ r. ⌜ FindIs n (old turns) (old marks) key r ⌝ }
 {
     let item = (key % 65536) as u16;
     if n <= item {

@@ -9,6 +9,7 @@ use wheel::Wheel;
 ghost use mathlib.Core.Path.{_≡_};
 ghost use Prim.Native.Nat.{_≤_, _<_};
 ghost use lib.ListN.{length};
+ghost use Rattle.lent.specs.Lent.{old};
 
 // Whether each answer is followed by the contents of the lists, how many bytes of an unfinished line are kept, how many bytes wait
 // to be written, the store, and whether all writes went well.
@@ -54,7 +55,7 @@ fn show(
     nexts: &[u16],
 ) -> Pen
     requires { ⌜ at ≤ length (now out) ⌝ }
-    ensures { λ r. ⌜ r .at ≤ length (now (out .entry)) ⌝ }
+    ensures { λ r. ⌜ r .at ≤ length (old out) ⌝ }
 {
     let pen = Pen { at, fine };
     if !lists {
@@ -180,7 +181,7 @@ fn close(
 // Where the line that goes on at i ends: at its newline, or where what was read does.
 fn line_end(got: &[u8], i: usize) -> usize
     requires { ⌜ i ≤ length (now got) ⌝ }
-    ensures { λ r. ⌜ (i ≤ r) × (r ≤ length (now (got .entry))) ⌝ }
+    ensures { λ r. ⌜ (i ≤ r) × (r ≤ length (old got)) ⌝ }
 {
     let mut e = i;
     while e < got.len() {

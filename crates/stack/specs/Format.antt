@@ -12,6 +12,7 @@ use Rattle.links.specs.Lists.{nobody, Mem, firstD, change, change-same, change-
 use Rattle.links.specs.Segments.{Seg}
 use Rattle.links.specs.Family.{Net, Member, Fam}
 use Rattle.links.specs.Walk.{fam-lists}
+use Rattle.lent.specs.Lent.{Turned, old}
 use Rattle.links.specs.Links.{links, at, net, Deep}
 use Rattle.links.specs.Laws.{Kept, LinksKept, kept-refl, kept-trans, kept-set, deep-kept}
 use Rattle.stack.specs.declared.Stacks.{Stacks}
@@ -39,7 +40,11 @@ noRows = replicate 6 noRow
 
 unfoldable pub formatted : ℕ → List ℕ → List ℕ → List ℕ → StackWords
 formatted n ns ps ms =
-    words (record { n = n; expired = 65535; free = 0 }) noRows (set (over n (λ i. i + 1) ns) (n - 1) nobody) (over n before ps) (over n (λ i. free) ms)
+    words (n ∷ 65535 ∷ 0 ∷ []) noRows (set (over n (λ i. i + 1) ns) (n - 1) nobody) (over n before ps) (over n (λ i. free) ms)
+
+-- of the links that `format` is lent
+abbrev pub formattedOf : ℕ → Turned (List ℕ) → Turned (List ℕ) → Turned (List ℕ) → StackWords
+formattedOf n nexts prevs marks = formatted n (old nexts) (old prevs) (old marks)
 
 -- k, k + 1, .., k + m - 1
 unfoldable pub range : ℕ → ℕ → List ℕ
@@ -243,6 +248,6 @@ module _ (n : ℕ) (ns ps ms : List ℕ) where
         by zero h = absurd (omega arith)
         by (suc m) h = omega arith
 
-    pub fill-done : words (record { n = n; expired = 65535; free = 0 }) noRows (set ns′ b 65535) ps′ ms′ ≡ formatted n ns ps ms
+    pub fill-done : words (n ∷ 65535 ∷ 0 ∷ []) noRows (set ns′ b 65535) ps′ ms′ ≡ formatted n ns ps ms
     unfolding formatted
     fill-done = rw (fill-last, F .nexts, F .prevs, F .marks, all)

@@ -7,7 +7,8 @@ use Prim.Native.Nat.{ℕ, _<_}
 use lib.Dec.{eqb}
 use borrow.Author.Tests.{eq-eqb, ne-eqb}
 use Rattle.links.specs.Lists.{nobody}
-use Rattle.links.specs.Links.{Links, links, at, net, joined, cutOut, headAfter, CanCut}
+use Rattle.lent.specs.Lent.{Lent, Turned, old, new}
+use Rattle.links.specs.Links.{Links, links, at, net, joined, cutOut, headAfter, CanJoin, CanCut}
 use Rattle.links.specs.Judge.{judge}
 use Rattle.stack.specs.declared.Stacks.{Stacks}
 use Rattle.stack.specs.Places.{slotPlace, places}
@@ -21,9 +22,31 @@ pub record StackWords : Type 0 where
 abbrev pub stackWords : Stacks → List (List ℕ) → Links → StackWords
 stackWords st hh ls = record { stacks = st; heads = hh; links = ls }
 
--- as the functions have them
-abbrev pub words : Stacks → List (List ℕ) → List ℕ → List ℕ → List ℕ → StackWords
-words st hh ns ps ms = stackWords st hh (links ns ps ms)
+-- the three words of `tops`: how many records there are, and the heads of the lists that are no slot
+abbrev pub stacksOf : List ℕ → Stacks
+stacksOf tops = record { n = at tops 0; expired = at tops 1; free = at tops 2 }
+
+abbrev pub words : List ℕ → List (List ℕ) → List ℕ → List ℕ → List ℕ → StackWords
+words tops hh ns ps ms = stackWords (stacksOf tops) hh (links ns ps ms)
+
+-- as the functions have them: in a `requires`, and in an `ensures` at the call and at the return
+module _ (tops : Lent (List ℕ)) (heads : Lent (List (List ℕ))) (nexts prevs marks : Lent (List ℕ)) where
+  abbrev pub lent : StackWords
+  lent = words (tops .now) (heads .now) (nexts .now) (prevs .now) (marks .now)
+
+module _ (tops : Turned (List ℕ)) (heads : Turned (List (List ℕ))) (nexts prevs marks : Turned (List ℕ)) where
+  abbrev pub before : StackWords
+  before = words (old tops) (old heads) (old nexts) (old prevs) (old marks)
+
+  abbrev pub after : StackWords
+  after = words (new tops) (new heads) (new nexts) (new prevs) (new marks)
+
+-- of a function that `tops` is not lent to: R holds before and after, whatever stands there
+module _ (heads : Turned (List (List ℕ))) (nexts prevs marks : Turned (List ℕ)) where
+  abbrev pub Slotwise : (StackWords → StackWords → Type 0) → Type 0
+  Slotwise R =
+      (st : Stacks)
+      → R (stackWords st (old heads) (links (old nexts) (old prevs) (old marks))) (stackWords st (new heads) (links (new nexts) (new prevs) (new marks)))
 
 -- two are equal by their parts
 pub words-eq : {s s′ : Stacks} {h h′ : List (List ℕ)} {l l′ : Links} → s ≡ s′ → h ≡ h′ → l ≡ l′ → stackWords s h l ≡ stackWords s′ h′ l′
@@ -55,6 +78,14 @@ remove t i = withHead t (markOf t i) (headAfter (t .links) i (headAt t (markOf t
 -- the head of the list of p leaves it, if there is one
 unfoldable pub pop : StackWords → ℕ → StackWords
 pop t p = cond (eqb (headAt t p) nobody) t (remove t (headAt t p))
+
+-- p is a place, and i can come to its head
+abbrev pub CanPush : StackWords → ℕ → ℕ → Type 0
+CanPush t p i = (p < places) × CanJoin (t .links) i (headAt t p)
+
+-- i has the mark of a place, and can leave its neighbours
+abbrev pub CanRemove : StackWords → ℕ → Type 0
+CanRemove t i = (markOf t i < places) × CanCut (t .links) i
 
 -- p is a place, and its head can leave it
 pub record CanPop (t : StackWords) (p : ℕ) : Type 0 where

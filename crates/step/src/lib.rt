@@ -2,7 +2,7 @@
 use delay_queue::Call;
 use delay_queue::Reply;
 use wheel::Wheel;
-ghost use Rattle.records.specs.Words.{words};
+ghost use Rattle.records.specs.Store.{before, after};
 ghost use Rattle.delay_queue.specs.Claims.{CallClaim};
 
 pub fn step(
@@ -19,9 +19,9 @@ pub fn step(
     ensures { λ r. ⌜
         CallClaim
         call
-        (words state heads (now (values .entry)) (now (deadlines .entry)) (now (nexts .entry)) (now (prevs .entry)) (now (turns .entry)) (now (marks .entry)))
+        (before state heads values deadlines nexts prevs turns marks)
         (r .answer)
-        (words (r .state) (r .heads .rows) (now (values .exit)) (now (deadlines .exit)) (now (nexts .exit)) (now (prevs .exit)) (now (turns .exit)) (now (marks .exit))) ⌝ }
+        (after (r .state) (r .heads .rows) values deadlines nexts prevs turns marks) ⌝ }
 {
     match call {
         Call::Format(n, turn) => delay_queue::format(

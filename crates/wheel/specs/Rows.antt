@@ -25,9 +25,12 @@ filled (x ∷ l) = true
 abbrev pub flags : Lists → ℕ → ℕ → Bool
 flags L k s = filled (L (slotPlace k s))
 
--- the rows with v as the flag of slot s of level k
+-- the row of level k with v as the flag of slot s, and all rows then
+abbrev pub flagRow : List ℕ → ℕ → ℕ → Bool → ℕ
+flagRow occ k s v = rowOf (flagged (flagAt (at occ k)) s v)
+
 abbrev pub withFlag : List ℕ → ℕ → ℕ → Bool → List ℕ
-withFlag occ k s v = set occ k (rowOf (flagged (flagAt (at occ k)) s v))
+withFlag occ k s v = set occ k (flagRow occ k s v)
 
 -- six rows, each with the flags of its level
 pub record Rows (occ : List ℕ) (L : Lists) : Type 0 where
@@ -99,41 +102,3 @@ unfilled (x ∷ l) e = absurd (true≢false e)
 pub filled-some : (l : List ℕ) → filled l ≡ true → (x : ℕ) × (k : List ℕ) × (l ≡ x ∷ k)
 filled-some [] e = absurd (true≢false (sym e))
 filled-some (x ∷ l) e = (x, l, refl)
-
--- ---- the rows gone through, one after the other
-
--- after those below k
-abbrev pub flaggedTo : List ℕ → ℕ → ℕ → Bool → ℕ → List ℕ
-flaggedTo occ l s v k = cond (ltb l k) (withFlag occ l s v) occ
-
-module _ (occ : List ℕ) (l s : ℕ) (v : Bool) where
-  pub flag-start : occ ≡ flaggedTo occ l s v 0
-  flag-start = rw (le-ltb l 0 (omega arith))
-
-  -- until its level the rows are as they were
-  flag-not-yet : {r : List ℕ} (k : ℕ) → r ≡ flaggedTo occ l s v k → k ≤ l → r ≡ occ
-  flag-not-yet k e h = e ∙ rw (le-ltb l k h)
-
-  pub flag-asks : (r : List ℕ) (k : ℕ) → r ≡ flaggedTo occ l s v k → eqb k l ≡ true → flagAt (at occ l) s ≡ true → flagAt (at r k) s ≡ true
-  flag-asks r k e q f =
-      let h : k ≡ l = eqb-true k l q in
-      rw (flag-not-yet k e (omega (arith, h)), h) f
-
-  pub flag-turn : (r : List ℕ) (k x : ℕ) → r ≡ flaggedTo occ l s v k → x ≡ cond (eqb k l) (rowOf (flagged (flagAt (at r k)) s v)) (at r k)
-      → set r k x ≡ flaggedTo occ l s v (k + 1)
-  flag-turn r k x e f =
-      by-cases (ℕ-discrete k l)
-      (λ (q : k ≡ l).
-      let g : r ≡ occ = flag-not-yet k e (omega (arith, q)) in
-      let y : x ≡ rowOf (flagged (flagAt (at r k)) s v) = f ∙ rw (eq-eqb k l q) in
-      rw (lt-ltb l (k + 1) (omega (arith, q)), y, g, q))
-      (λ q.
-      let y : x ≡ at r k = f ∙ rw (ne-eqb k l q) in
-      let same : cond (ltb l k) (withFlag occ l s v) occ ≡ cond (ltb l (k + 1)) (withFlag occ l s v) occ
-      = by-cases (decLt l k)
-      (λ h. rw (lt-ltb l k h, lt-ltb l (k + 1) (omega (arith, h))))
-      (λ h. rw (le-ltb l k (omega (arith, h)), le-ltb l (k + 1) (omega (arith, h, q)))) in
-      ap (set r k) y ∙ set-getD r k 0 ∙ e ∙ same)
-
-  pub flag-end : {r : List ℕ} (k : ℕ) → r ≡ flaggedTo occ l s v k → l < k → r ≡ withFlag occ l s v
-  flag-end k e h = e ∙ rw (lt-ltb l k h)

@@ -6,18 +6,19 @@ use mathlib.Core.List.{List, [], _∷_, nil≢cons}
 use Prim.Native.Nat.{ℕ, _/_, _%_, _≤_, _<_}
 use native.Mathlib.Decide.{ℕ-discrete}
 use native.Mathlib.Omega.{arith}
+use lib.ListN.{set}
 use Rattle.times.specs.Times.{slotOf}
 use Rattle.times.specs.Quotients.{slot-lt}
 use Rattle.row.specs.Row.{flagAt}
 use Rattle.links.specs.Lists.{nobody, Mem, without, change, change-same}
+use Rattle.lent.specs.Lent.{Lent, Turned, old, new}
 use Rattle.links.specs.Links.{at, CanJoin, CanCut}
 use Rattle.stack.specs.Places.{slotPlace, slots, places, put}
 use Rattle.stack.specs.Words.{StackWords, push, pop, remove, words as stacked, count as countIn, headAt as headIn, markOf as markIn, CanPopSlot}
-use Rattle.stack.specs.Heads.{slotHead}
+use Rattle.stack.specs.Heads.{slotHead, slot-head, head-slot}
 use Rattle.stack.specs.Laws as stack
-use Rattle.wheel.specs.declared.Wheel.{Wheel}
 use Rattle.wheel.specs.Wheel.{Lists, arrive}
-use Rattle.wheel.specs.Rows.{filled, withFlag, Rows, flag-is, rows-flagged, rows-kept, rows-aside}
+use Rattle.wheel.specs.Rows.{filled, flagRow, withFlag, Rows, flag-is, rows-flagged, rows-kept, rows-aside}
 
 pub record WheelWords : Type 0 where
   pub elapsed : ℕ
@@ -27,9 +28,21 @@ pub record WheelWords : Type 0 where
 abbrev pub wheelWords : ℕ → List ℕ → StackWords → WheelWords
 wheelWords e occ t = record { elapsed = e; occupied = occ; stack = t }
 
--- as the functions have them
-abbrev pub words : Wheel → List (List ℕ) → List ℕ → List ℕ → List ℕ → WheelWords
-words w hh ns ps ms = wheelWords (w .elapsed) (w .occupied) (stacked (w .stacks) hh ns ps ms)
+abbrev pub words : ℕ → List ℕ → List ℕ → List (List ℕ) → List ℕ → List ℕ → List ℕ → WheelWords
+words e occ tops hh ns ps ms = wheelWords e occ (stacked tops hh ns ps ms)
+
+-- as the functions have them: in a `requires`, and in an `ensures` at the call and at the return
+module _ (elapsed : ℕ) where
+  module _ (rows tops : Lent (List ℕ)) (heads : Lent (List (List ℕ))) (nexts prevs marks : Lent (List ℕ)) where
+    abbrev pub lent : WheelWords
+    lent = words elapsed (rows .now) (tops .now) (heads .now) (nexts .now) (prevs .now) (marks .now)
+
+  module _ (rows tops : Turned (List ℕ)) (heads : Turned (List (List ℕ))) (nexts prevs marks : Turned (List ℕ)) where
+    abbrev pub before : WheelWords
+    before = words elapsed (old rows) (old tops) (old heads) (old nexts) (old prevs) (old marks)
+
+    abbrev pub after : WheelWords
+    after = words elapsed (new rows) (new tops) (new heads) (new nexts) (new prevs) (new marks)
 
 abbrev pub count : WheelWords → ℕ
 count t = countIn (t .stack)
@@ -66,6 +79,14 @@ becomes : {t : WheelWords} {p : ℕ} {l : List ℕ} {u : StackWords} {occ : List
     → Becomes t (change (lists t) p l) (wheelWords (t .elapsed) occ u)
 becomes C R = record { whole = record { stack = C .whole; rows = rw (C .lists) R }; lists = C .lists; elapsed = refl; kept = C .kept }
 
+-- i, with the deadline w, joins its slot of level k
+abbrev pub Arrives : WheelWords → ℕ → ℕ → ℕ → WheelWords → Type 0
+Arrives t k w i t′ = Becomes t (arrive k w i (lists t)) t′
+
+-- i comes into the list of p
+abbrev pub Comes : WheelWords → ℕ → ℕ → WheelWords → Type 0
+Comes t p i t′ = Becomes t (change (lists t) p (put p i (lists t p))) t′
+
 -- ---- an entry comes into a slot
 
 pub record CanAdd (t : WheelWords) (k i : ℕ) : Type 0 where
@@ -84,13 +105,13 @@ put-filled : (p i : ℕ) (l : List ℕ) → true ≡ filled (put p i l)
 unfolding put
 put-filled p i l = refl
 
-pub add-law : {t : WheelWords} {k i : ℕ} → CanAdd t k i → (w s : ℕ) {occ : List ℕ} {u : StackWords} → s ≡ slotOf w k
-    → u ≡ push (t .stack) (slotPlace k s) i → occ ≡ withFlag (t .occupied) k s true → Becomes t (arrive k w i (lists t)) (wheelWords (t .elapsed) occ u)
+pub add-law : {t : WheelWords} {k i : ℕ} → CanAdd t k i → (w s : ℕ) {x : ℕ} {u : StackWords} → s ≡ slotOf w k
+    → u ≡ push (t .stack) (slotPlace k s) i → x ≡ flagRow (t .occupied) k s true → Arrives t k w i (wheelWords (t .elapsed) (set (t .occupied) k x) u)
 unfolding arrive
-add-law {t} {k} {i} C w s es eu eo =
+add-law {t} {k} {i} C w s es eu ex =
     let hs : s < 64 = omega (arith, slot-lt w k) in
     let p : ℕ = slotPlace k s in
-    rw (← es, eo) (becomes (rw eu (stack.push-law (C .whole .stack) p i (omega arith) (C .item .below) (C .item .loose)))
+    rw (← es, ex) (becomes (rw eu (stack.push-law (C .whole .stack) p i (omega arith) (C .item .below) (C .item .loose)))
     (rows-flagged (C .whole .rows) k s true (put p i (lists t p)) (C .level) hs (put-filled p i (lists t p))))
 
 -- ---- an entry leaves its list, where l is left
@@ -192,6 +213,27 @@ pub record CanPop (t : WheelWords) (k s : ℕ) : Type 0 where
 pub pop-asks : {t : WheelWords} {k s : ℕ} → CanPop t k s → CanPopSlot (t .stack .heads) (t .stack .links) k s
 pop-asks {t} {k} {s} C = stack.can-pop-slot (C .whole .stack) k s (C .level) (C .slot)
 
+-- the three ways in the words of the code, which looks at the slot's head and at no place
+module _ {t : WheelWords} {k s : ℕ} (C : CanPop t k s) {item : ℕ} (ei : item ≡ slotHead (t .stack .heads) k s) {u : StackWords} (eu : u ≡ pop (t .stack) (slotPlace k s)) where
+  head-here : (v : StackWords) → slotHead (v .heads) k s ≡ headIn v (slotPlace k s)
+  head-here v = slot-head k s (C .level) (C .slot) (v .stacks) (v .heads)
+
+  pub slot-none : item ≡ nobody → Pops t (slotPlace k s) item (wheelWords (t .elapsed) (t .occupied) u)
+  slot-none z = popped-none (C .whole) (slotPlace k s) item (ei ∙ head-here (t .stack)) eu z
+
+  module _ (some : item ≢ nobody) where
+    pub slot-more : slotHead (u .heads) k s ≢ nobody → Pops t (slotPlace k s) item (wheelWords (t .elapsed) (t .occupied) u)
+    slot-more h = popped-more (C .whole) (slotPlace k s) item (ei ∙ head-here (t .stack)) eu some (λ z. h (head-here u ∙ z))
+
+    pub slot-flag : flagAt (at (t .occupied) k) s ≡ true
+    slot-flag = popped-flag (C .whole) (slotPlace k s) item (ei ∙ head-here (t .stack)) eu some k s (C .level) (C .slot) refl
+
+    pub slot-last : slotHead (u .heads) k s ≡ nobody → {x : ℕ} → x ≡ flagRow (t .occupied) k s false
+        → Pops t (slotPlace k s) item (wheelWords (t .elapsed) (set (t .occupied) k x) u)
+    slot-last h ex =
+        popped-last (C .whole) (slotPlace k s) item (ei ∙ head-here (t .stack)) eu some k s (C .level) (C .slot) refl (sym (head-here u) ∙ h)
+        (ap (set (t .occupied) k) ex)
+
 -- ---- a record comes to a list that is no slot
 
 pub record CanPush (t : WheelWords) (p i : ℕ) : Type 0 where
@@ -250,14 +292,20 @@ module _ {t : WheelWords} {i : ℕ} (C : CanLeave t i) {u : StackWords} (eu : u 
   pub leaves-aside : slots ≤ from → Leaves t i (wheelWords (t .elapsed) (t .occupied) u)
   leaves-aside h = leaves (left-aside (C .whole) left-here h)
 
-  pub leaves-more : headIn u from ≢ nobody → Leaves t i (wheelWords (t .elapsed) (t .occupied) u)
-  leaves-more h = leaves (left-some (C .whole) left-here was-filled h)
-
   module _ (slot : from < slots) where
+    head-there : headIn u from ≡ slotHead (u .heads) (from / 64) (from % 64)
+    head-there = head-slot (u .stacks) (u .heads) from slot
+
+    pub leaves-more : slotHead (u .heads) (from / 64) (from % 64) ≢ nobody → Leaves t i (wheelWords (t .elapsed) (t .occupied) u)
+    leaves-more h = leaves (left-some (C .whole) left-here was-filled (λ z. h (sym head-there ∙ z)))
+
     pub leaves-flag : flagAt (at (t .occupied) (from / 64)) (from % 64) ≡ true
     leaves-flag =
         let e : slotPlace (from / 64) (from % 64) ≡ from = omega arith in
         flag-is (C .whole .rows) (from / 64) (from % 64) (omega arith) (omega arith) ∙ rw e was-filled
 
-    pub leaves-last : headIn u from ≡ nobody → {occ : List ℕ} → occ ≡ withFlag (t .occupied) (from / 64) (from % 64) false → Leaves t i (wheelWords (t .elapsed) occ u)
-    leaves-last h eo = leaves (left-none (C .whole) left-here (from / 64) (from % 64) (omega arith) (omega arith) (omega arith) h eo)
+    pub leaves-last : slotHead (u .heads) (from / 64) (from % 64) ≡ nobody → {x : ℕ} → x ≡ flagRow (t .occupied) (from / 64) (from % 64) false
+        → Leaves t i (wheelWords (t .elapsed) (set (t .occupied) (from / 64) x) u)
+    leaves-last h ex =
+        leaves (left-none (C .whole) left-here (from / 64) (from % 64) (omega arith) (omega arith) (omega arith) (head-there ∙ h)
+        (ap (set (t .occupied) (from / 64)) ex))

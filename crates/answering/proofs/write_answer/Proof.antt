@@ -3,6 +3,51 @@ use borrow.Author.Needs.{needs}
 use Rattle.answering.proofs.write_answer.Statement.{statement}
 use Rattle.answering.proofs.write_answer.Tie as tie
 
+abbrev to-enum-told : tie.After-slice-known2 → tie.After-enum-told
+to-enum-told c =
+    let a = c .before .before .before .before in
+    a .before .before
+
+abbrev to-a : tie.After-slice-known3 → tie.After-a
+to-a c =
+    let a = c .before .before .before .before in
+    a .before .before .before
+
+abbrev to-a2 : tie.After-slice-known4 → tie.After-a2
+to-a2 c =
+    let a = c .before .before .before .before in
+    a .before .before .before
+
+abbrev to-a3 : tie.After-slice-known5 → tie.After-a3
+to-a3 c =
+    let a = c .before .before .before .before in
+    a .before .before .before
+
+abbrev to-a4 : tie.After-slice-known6 → tie.After-a4
+to-a4 c =
+    let a = c .before .before .before .before in
+    a .before .before .before
+
+abbrev to-a5 : tie.After-slice-known7 → tie.After-a5
+to-a5 c =
+    let a = c .before .before .before .before in
+    a .before .before .before
+
+abbrev to-enum-told2 : tie.After-slice-known8 → tie.After-enum-told2
+to-enum-told2 c =
+    let a = c .before .before .before .before in
+    a .before .before
+
+abbrev to-a6 : tie.After-slice-known9 → tie.After-a6
+to-a6 c =
+    let a = c .before .before .before .before in
+    a .before .before .before
+
+abbrev to-a7 : tie.After-slice-known10 → tie.After-a7
+to-a7 c =
+    let a = c .before .before .before .before in
+    a .before .before .before
+
 enum-told : tie.Need-enum-told
 enum-told c = search needs
 
@@ -115,55 +160,55 @@ same-length : tie.Need-same-length
 same-length c = search needs
 
 returns : tie.Need-returns
-returns c = rw (c .before .before .before .before .before .before .enum-told .given .1) (c .before .before .write-line .ensures)
+returns c = rw (to-enum-told c .enum-told .given .1) (c .before .before .write-line .ensures)
 
 same-length-2 : tie.Need-same-length-2
 same-length-2 c = search needs
 
 returns-2 : tie.Need-returns-2
-returns-2 c = rw (c .before .before .before .before .before .before .before .a .given .1) (c .before .before .write-line2 .ensures)
+returns-2 c = rw (to-a c .a .given .1) (c .before .before .write-line2 .ensures)
 
 same-length-3 : tie.Need-same-length-3
 same-length-3 c = search needs
 
 returns-3 : tie.Need-returns-3
-returns-3 c = rw (c .before .before .before .before .before .before .before .a2 .given .1) (c .before .before .write-line3 .ensures)
+returns-3 c = rw (to-a2 c .a2 .given .1) (c .before .before .write-line3 .ensures)
 
 same-length-4 : tie.Need-same-length-4
 same-length-4 c = search needs
 
 returns-4 : tie.Need-returns-4
-returns-4 c = rw (c .before .before .before .before .before .before .before .a3 .given .1) (c .before .before .write-line4 .ensures)
+returns-4 c = rw (to-a3 c .a3 .given .1) (c .before .before .write-line4 .ensures)
 
 same-length-5 : tie.Need-same-length-5
 same-length-5 c = search needs
 
 returns-5 : tie.Need-returns-5
-returns-5 c = rw (c .before .before .before .before .before .before .before .a4 .given .1) (c .before .before .write-line5 .ensures)
+returns-5 c = rw (to-a4 c .a4 .given .1) (c .before .before .write-line5 .ensures)
 
 same-length-6 : tie.Need-same-length-6
 same-length-6 c = search needs
 
 returns-6 : tie.Need-returns-6
-returns-6 c = rw (c .before .before .before .before .before .before .before .a5 .given .1) (c .before .before .write-line6 .ensures)
+returns-6 c = rw (to-a5 c .a5 .given .1) (c .before .before .write-line6 .ensures)
 
 same-length-7 : tie.Need-same-length-7
 same-length-7 c = search needs
 
 returns-7 : tie.Need-returns-7
-returns-7 c = rw (c .before .before .before .before .before .before .enum-told2 .given .1) (c .before .before .write-line7 .ensures)
+returns-7 c = rw (to-enum-told2 c .enum-told2 .given .1) (c .before .before .write-line7 .ensures)
 
 same-length-8 : tie.Need-same-length-8
 same-length-8 c = search needs
 
 returns-8 : tie.Need-returns-8
-returns-8 c = rw (c .before .before .before .before .before .before .before .a6 .given .1) (c .before .before .write-line8 .ensures)
+returns-8 c = rw (to-a6 c .a6 .given .1) (c .before .before .write-line8 .ensures)
 
 same-length-9 : tie.Need-same-length-9
 same-length-9 c = search needs
 
 returns-9 : tie.Need-returns-9
-returns-9 c = rw (c .before .before .before .before .before .before .before .a7 .given .1) (c .before .before .write-line9 .ensures)
+returns-9 c = rw (to-a7 c .a7 .given .1) (c .before .before .write-line9 .ensures)
 
 pub write-answer-spec : {M : Type 1} → statement M
 write-answer-spec =

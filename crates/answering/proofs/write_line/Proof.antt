@@ -9,23 +9,29 @@ use Rattle.answering.specs.Writing.{Made, made, no-room, placed}
 use Rattle.answering.proofs.write_line.Statement.{statement}
 use Rattle.answering.proofs.write_line.Tie as tie
 
+abbrev start : tie.After-numbers-before → tie.Start
+start c =
+    let a = c .before .before .before .before in
+    a .before .before
+
 -- five numbers leave six bytes for the word
-short : (c : tie.After-numbers-before) → length (c .before .before .before .before .before .before .args .word .now) ≤ c .numbers-before .result
+short : (c : tie.After-numbers-before) → length (start c .args .word .now) ≤ c .numbers-before .result
 short c =
     let n = c .numbers-before .ensures in
-    omega (arith, n .start, at-most-21 _ _ (n .is), c .before .before .before .before .before .before .pre)
+    omega (arith, n .start, at-most-21 _ _ (n .is), start c .pre)
 
 -- the line in the buffer
 abbrev word : tie.After-copy → List ℕ
-word c = c .before .before .before .before .before .before .before .before .before .args .word .now
+word c = start (c .before .before .before) .args .word .now
 
 abbrev numbers : tie.After-copy → List ℕ
-numbers c = c .before .before .before .before .before .before .before .before .before .args .numbers .now
+numbers c = start (c .before .before .before) .args .numbers .now
 
 line : (c : tie.After-copy) → Made (word c) (numbers c) (c .before .before .before .numbers-before .result - length (word c)) (c .copy .last .0)
 line c =
     let n = c .before .before .before in
-    made (word c) (numbers c) (n .before .before .blank .ensures) (n .numbers-before .ensures) (n .numbers-before .kept .0) (short n) (c .copy .ensures) (c .copy .kept .0)
+    made (word c) (numbers c) (n .before .before .blank .ensures) (n .numbers-before .ensures) (n .numbers-before .kept .0) (short n) (c .copy .ensures)
+    (c .copy .kept .0)
 
 blank-requires : tie.Need-blank-requires
 blank-requires c κs = search needs

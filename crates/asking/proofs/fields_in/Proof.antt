@@ -29,7 +29,8 @@ one-or-two-requires c κs = search needs
 returns-3 : tie.Need-returns-3
 returns-3 c =
     let i = c .before .before in
-    a-space (i .before .before .before .before .args .s .now) (c .one-or-two .result) (omega (arith, i .before .before .if1 .left)) (i .if2 .left) (c .one-or-two .ensures)
+    a-space (i .before .before .before .before .args .s .now) (c .one-or-two .result) (omega (arith, i .before .before .if1 .left)) (i .if2 .left)
+    (c .one-or-two .ensures)
 
 pub fields-in-spec : {M : Type 1} → statement M
 fields-in-spec =

@@ -4,6 +4,24 @@ use Rattle.bench.specs.Line.{line-asks, line-bad}
 use Rattle.bench.proofs.answer_line.Statement.{statement}
 use Rattle.bench.proofs.answer_line.Tie as tie
 
+abbrev to-step : tie.After-slice-known14 → tie.After-step
+to-step c =
+    let a = c .before .before .before .before in
+    let b = a .before .before .before .before in
+    let d = b .before .before .before .before in
+    let e = d .before .before .before .before in
+    e .before .before
+
+abbrev to-asked : tie.After-step → tie.After-asked
+to-asked c =
+    let a = c .before .before .before .before in
+    a .before .before .before .before
+
+abbrev to-enum-told : tie.After-heads-of → tie.After-enum-told
+to-enum-told c =
+    let a = c .before .before .before .before in
+    a .before
+
 read-line-requires : tie.Need-read-line-requires
 read-line-requires c κs = search needs
 
@@ -47,13 +65,20 @@ same-length-7 : tie.Need-same-length-7
 same-length-7 c = search needs
 
 returns : tie.Need-returns
-returns c = line-asks _ (c .before .before .before .before .before .before .before .before .before .before .before .before .before .before .before .before .before .before .before .before .before .before .before .before .before .before .before .before .read-line .ensures) (c .before .before .before .before .before .before .before .before .before .before .before .before .before .before .before .before .before .before .before .before .before .before .before .before .before .before .asked .given .1) _ (c .before .before .before .before .before .before .before .before .before .before .before .before .before .before .before .before .before .before .step .ensures) (c .before .before .write-answer .ensures)
+returns c =
+    let at-step = to-step c in
+    let at-asked = to-asked at-step in
+    line-asks _ (at-asked .before .before .read-line .ensures) (at-asked .asked .given .1) _ (at-step .step .ensures)
+    (c .before .before .write-answer .ensures)
 
 same-length-8 : tie.Need-same-length-8
 same-length-8 c = search needs
 
 returns-2 : tie.Need-returns-2
-returns-2 c = line-bad _ _ _ _ _ _ _ (c .before .before .before .before .before .before .before .read-line .ensures) (c .before .before .before .before .before .enum-told .given .1) (c .heads-of .ensures) (c .before .before .before .write-bad .ensures)
+returns-2 c =
+    let at-enum-told = to-enum-told c in
+    line-bad _ _ _ _ _ _ _ (at-enum-told .before .before .read-line .ensures) (at-enum-told .enum-told .given .1) (c .heads-of .ensures)
+    (c .before .before .before .write-bad .ensures)
 
 pub answer-line-spec : {M : Type 1} → statement M
 answer-line-spec =

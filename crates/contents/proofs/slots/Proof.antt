@@ -7,10 +7,10 @@ use Rattle.contents.proofs.slots.Statement.{statement}
 use Rattle.contents.proofs.slots.Tie as tie
 
 abbrev Inv-loop : tie.InvT-loop
-Inv-loop out₀ heads nexts stacks p₀ place₀ out p place = (place ≤ 384) × (length out ≡ length out₀)
+Inv-loop out₀ heads nexts n tops p₀ place₀ out p place = (place ≤ 384) × (length out ≡ length out₀)
 
 abbrev μ-loop : tie.MeasureT-loop
-μ-loop out₀ heads nexts stacks p₀ place₀ out p place = 384 - place
+μ-loop out₀ heads nexts n tops p₀ place₀ out p place = 384 - place
 
 loop-holds : tie.Need-loop-holds Inv-loop μ-loop
 loop-holds c = search needs

@@ -8,6 +8,18 @@ use Rattle.delay_queue.specs.Back.{back}
 use Rattle.delay_queue.proofs.format.Statement.{statement}
 use Rattle.delay_queue.proofs.format.Tie as tie
 
+abbrev to-else1 : tie.After-make-arg6 → tie.Else1
+to-else1 c =
+    let a = c .before .before .before .before in
+    a .before .before .before .before
+
+abbrev to-make : tie.After-packed → tie.After-make
+to-make c =
+    let a = c .before .before .before .before in
+    let b = a .before .before .before .before in
+    let d = b .before .before .before .before in
+    d .before
+
 format-no-requires : tie.Need-format-no-requires
 format-no-requires c κs = search needs
 
@@ -33,16 +45,21 @@ same-length-6 : tie.Need-same-length-6
 same-length-6 c = search needs
 
 returns : tie.Need-returns
-returns c = format-refused _ _ _ _ _ _ (c .before .before .format-no .ensures) (c .before .if1 .taken) (c .refused .ensures)
+returns c =
+    format-refused _ _ _ _ _ _ (c .before .before .format-no .ensures) (c .before .if1 .taken) (c .refused .ensures)
 
 cast-make : tie.Need-cast-make
-cast-make c = omega (arith, c .before .before .before .before .before .before .before .before .format-no .ensures .taken (c .before .before .before .before .before .before .before .if1 .left) .0 .1)
+cast-make c =
+    let else1 = to-else1 c in
+    omega (arith, else1 .before .format-no .ensures .taken (else1 .if1 .left) .0 .1)
 
 make-requires : tie.Need-make-requires
-make-requires c κs = c .before .before .before .before .before .before .before .before .format-no .ensures .taken (c .before .before .before .before .before .before .before .if1 .left) .0
+make-requires c κs =
+    let else1 = to-else1 c in
+    else1 .before .format-no .ensures .taken (else1 .if1 .left) .0
 
-answered-requires : tie.Need-answered-requires
-answered-requires c κs = search needs
+packed-requires : tie.Need-packed-requires
+packed-requires c κs = search needs
 
 same-length-7 : tie.Need-same-length-7
 same-length-7 c = search needs
@@ -63,7 +80,11 @@ same-length-12 : tie.Need-same-length-12
 same-length-12 c = search needs
 
 returns-2 : tie.Need-returns-2
-returns-2 c = back _ _ _ _ _ _ (c .answered .ensures) (FormatClaim _ _ _) (format-done _ _ _ (c .before .before .before .before .before .before .before .before .before .before .before .before .before .before .before .before .before .before .before .before .before .before .format-no .ensures) (c .before .before .before .before .before .before .before .before .before .before .before .before .before .before .before .before .before .before .before .before .before .if1 .left) (c .before .before .before .before .before .before .before .before .before .before .before .before .before .make .ensures) refl)
+returns-2 c =
+    let at-make = to-make c in
+    let else1 = to-else1 (at-make .before) in
+    back _ _ _ _ _ _ (c .packed .ensures) (FormatClaim _ _ _)
+    (format-done _ _ _ (else1 .before .format-no .ensures) (else1 .if1 .left) (at-make .make .ensures) refl)
 
 pub format-spec : {M : Type 1} → statement M
 format-spec =
@@ -80,7 +101,7 @@ format-spec =
     returns
     cast-make
     make-requires
-    answered-requires
+    packed-requires
     same-length-7
     same-length-8
     same-length-9

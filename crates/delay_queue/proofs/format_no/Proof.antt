@@ -25,13 +25,18 @@ returns-3 : tie.Need-returns-3
 returns-3 c = no-one (λ F. c .before .has-room .ensures .no (not-true _ (c .if3 .taken)) (F .2))
 
 returns-4 : tie.Need-returns-4
-returns-4 c = no-eight (omega arith, omega arith, c .before .before .has-room .ensures .yes (not-false _ (c .before .if3 .left))) (λ T. omega (arith, T .some))
+returns-4 c =
+    no-eight (omega arith, omega arith, c .before .before .has-room .ensures .yes (not-false _ (c .before .if3 .left))) (λ T. omega (arith, T .some))
 
 returns-5 : tie.Need-returns-5
-returns-5 c = no-eight (omega arith, omega arith, c .before .before .before .has-room .ensures .yes (not-false _ (c .before .before .if3 .left))) (λ T. omega (arith, T .last))
+returns-5 c =
+    no-eight (omega arith, omega arith, c .before .before .before .has-room .ensures .yes (not-false _ (c .before .before .if3 .left)))
+    (λ T. omega (arith, T .last))
 
 returns-6 : tie.Need-returns-6
-returns-6 c = no-none (omega arith, omega arith, c .before .before .before .has-room .ensures .yes (not-false _ (c .before .before .if3 .left))) (record { some = omega arith; last = omega arith })
+returns-6 c =
+    no-none (omega arith, omega arith, c .before .before .before .has-room .ensures .yes (not-false _ (c .before .before .if3 .left)))
+    (record { some = omega arith; last = omega arith })
 
 pub format-no-spec : {M : Type 1} → statement M
 format-no-spec =

@@ -50,7 +50,8 @@ into-id (x ∷ xs) = λ i. map-id x i ∷ into-id xs i
 abbrev stayed : Stays (heads-of.ended .signature .params) (heads-of.ended .kept)
 stayed = (stay-none (λ _. Grid) yes, tt)
 
-module _ {M : Type 1} (𝓤 : URA M) (H : Heap 𝓤) (A : Atoms 𝓤) (W : Given 𝓤 H A) (mem : Memory → SProp 𝓤) (run : Routine → Fun 𝓤) (x : List (List ℕ)) (is : Is Grid x (gridVal x ∷ [])) where
+module _ {M : Type 1} (𝓤 : URA M) (H : Heap 𝓤) (A : Atoms 𝓤) (W : Given 𝓤 H A) (mem : Memory → SProp 𝓤) (run : Routine → Fun 𝓤) (x : List (List ℕ))
+    (is : Is Grid x (gridVal x ∷ [])) where
   abbrev h : Heads
   h = record { rows = x }
 
@@ -68,25 +69,32 @@ module _ {M : Type 1} (𝓤 : URA M) (H : Heap 𝓤) (A : Atoms 𝓤) (W : Given
   exits : ent 𝓤 (sem 𝓤 H A (Grid .own x (gridVal x ∷ []))) (Post mach)
   exits =
       qed W (‵ (Grid .own x (gridVal x ∷ [])) ∷ []) ∵
-      suffices ! _ (ends-at 𝓤 H A heads-of.ended stayed (heads-of.clauses 𝓤 H A mem run) W ((tt, tt, tt, (x, tt), (gridVal x ∷ [], tt)), tt) mach h (tt, tt) (tt, tt)) $ says ! refl $
-      nothing ! $ move ! (1 ∷ 0 ∷ []) $ fjoin ! $ owned ! T.the-row (Is T.the-row) (LL.makes T.the-type T′.the-plain 𝓤 H A) h _ made $ move ! (1 ∷ 0 ∷ []) $ nothing ! $ done !
+      suffices ! _ (ends-at 𝓤 H A heads-of.ended stayed (heads-of.clauses 𝓤 H A mem run) W ((tt, tt, tt, (x, tt), (gridVal x ∷ [], tt)), tt) mach h (tt, tt)
+      (tt, tt)) $ says ! refl $
+      nothing ! $ move ! (1 ∷ 0 ∷ []) $ fjoin ! $ owned ! T.the-row (Is T.the-row) (LL.makes T.the-type T′.the-plain 𝓤 H A) h _ made $ move !
+      (1 ∷ 0 ∷ []) $ nothing ! $ done !
 
   module _ (C : Calls 𝓤 H) (Λ : Loops 𝓤 H) where
     walk : ent 𝓤 (onEntry 𝓤 H A heads-of.signature tt tt (x, tt) (gridVal x ∷ [], tt)) (WpFn 𝓤 H C Λ code.function (gridVal x ∷ []) Post)
     walk =
         qed W (‵ ftrue ∷ ‵ (owns (Grid ∷ []) (x, tt) (gridVal x ∷ [], tt)) ∷ []) ∵ enter ! C Λ code.function (gridVal x ∷ []) _ $
         alloc1 ! (λ l₀. alloc1 ! (λ l₁. alloc0 ! $ params1 ! $ pass1 ! (init ! 0 refl (T′.the-laws .0 .lawful 𝓤 H A W .typed x _ is .0)) $ pass0 ! $
-        assigns ! (agg ! (and-then ! (load ! (from ! (stop !)) (look ! 0 refl)) (no-more !))) (from ! (stop !)) (init ! 2 refl (LL.lawful T.the-type T′.the-laws 𝓤 H A W .typed h _ made .0)) $
-        returns ! (look ! 2 refl) $ forget ! 0 refl $ forget ! 2 refl $ move ! (2 ∷ 3 ∷ []) $ free1 ! $ free1 ! $ free0 ! $ keep ! (1 ∷ []) $ fsplit ! $ keep ! (0 ∷ []) $ by ! exits))
+        assigns ! (agg ! (and-then ! (load ! (from ! (stop !)) (look ! 0 refl)) (no-more !))) (from ! (stop !))
+        (init ! 2 refl (LL.lawful T.the-type T′.the-laws 𝓤 H A W .typed h _ made .0)) $
+        returns ! (look ! 2 refl) $ forget ! 0 refl $ forget ! 2 refl $ move ! (2 ∷ 3 ∷ []) $ free1 ! $ free1 ! $ free0 ! $ keep ! (1 ∷ []) $ fsplit ! $ keep !
+        (0 ∷ []) $ by ! exits))
 
 module _ {M : Type 1} (𝓤 : URA M) (H : Heap 𝓤) (A : Atoms 𝓤) (W : Given 𝓤 H A) (mem : Memory → SProp 𝓤) (run : Routine → Fun 𝓤) where
   heads-of-walks : (C : Calls 𝓤 H) (Λ : Loops 𝓤 H) → Walks 𝓤 H A heads-of.ended stayed (WpFn 𝓤 H C Λ code.function) (heads-of.clauses 𝓤 H A mem run)
-  heads-of-walks C Λ = walked 𝓤 H A heads-of.ended stayed (heads-of.clauses 𝓤 H A mem run) (WpFn 𝓤 H C Λ code.function) (λ κs. ((λ x. gridVal x ∷ []), tt)) (λ κs. (T′.the-laws .0 .tells, tt))
+  heads-of-walks C Λ = walked 𝓤 H A heads-of.ended stayed (heads-of.clauses 𝓤 H A mem run) (WpFn 𝓤 H C Λ code.function) (λ κs. ((λ x. gridVal x ∷ []), tt))
+      (λ κs. (T′.the-laws .0 .tells, tt))
       (λ κs qs bounds a g are. via 𝓤 _ (fst∗ 𝓤 _ (emp 𝓤)) (walk 𝓤 H A W mem run (a .0) (are .0) C Λ))
 
 heads-of-meets : {M : Type 1} (𝓤 : URA M) (H : Heap 𝓤) (A : Atoms 𝓤) → Given 𝓤 H A → (mem : Memory → SProp 𝓤) (run : Routine → Fun 𝓤) (𝓣 : Tables 𝓤 H)
     → Meets 𝓤 H A heads-of.signature (WpFn 𝓤 H (𝓣 .C) (𝓣 .Λ) code.function) (heads-of.spec 𝓤 H A mem run)
-heads-of-meets 𝓤 H A W mem run 𝓣 = walk-meets 𝓤 H A heads-of.ended stayed W (goes-none 𝓤 H A W 0 (λ _. Grid) yes (λ κs x f. refl), tt) (heads-of.clauses 𝓤 H A mem run) (WpFn 𝓤 H (𝓣 .C) (𝓣 .Λ) code.function) (WpFn-mono 𝓤 H (W .laws) 𝓣 code.function) (heads-of-walks 𝓤 H A W mem run (𝓣 .C) (𝓣 .Λ))
+heads-of-meets 𝓤 H A W mem run 𝓣 = walk-meets 𝓤 H A heads-of.ended stayed W (goes-none 𝓤 H A W 0 (λ _. Grid) yes (λ κs x f. refl), tt)
+    (heads-of.clauses 𝓤 H A mem run) (WpFn 𝓤 H (𝓣 .C) (𝓣 .Λ) code.function) (WpFn-mono 𝓤 H (W .laws) 𝓣 code.function)
+    (heads-of-walks 𝓤 H A W mem run (𝓣 .C) (𝓣 .Λ))
 
 pub heads-of-spec : {M : Type 1} → stated.statement M
 unfolding code.routine tablesOf

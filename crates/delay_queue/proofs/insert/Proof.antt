@@ -5,6 +5,18 @@ use Rattle.delay_queue.specs.Back.{back, turned-down, is-sound, taken-up
 use Rattle.delay_queue.proofs.insert.Statement.{statement}
 use Rattle.delay_queue.proofs.insert.Tie as tie
 
+abbrev to-else1 : tie.After-insert-arg5 → tie.Else1
+to-else1 c =
+    let a = c .before .before .before .before in
+    let b = a .before .before .before .before in
+    b .before .before
+
+abbrev to-insert : tie.After-packed → tie.After-insert
+to-insert c =
+    let a = c .before .before .before .before in
+    let b = a .before .before .before .before in
+    b .before .before .before
+
 is-sound-requires : tie.Need-is-sound-requires
 is-sound-requires c κs = search needs
 
@@ -27,13 +39,16 @@ same-length-5 : tie.Need-same-length-5
 same-length-5 c = search needs
 
 returns : tie.Need-returns
-returns c = turned-down _ _ _ _ _ _ (c .before .before .is-sound .ensures) (c .before .if1 .taken) (c .refused .ensures)
+returns c =
+    turned-down _ _ _ _ _ _ (c .before .before .is-sound .ensures) (c .before .if1 .taken) (c .refused .ensures)
 
 insert-requires : tie.Need-insert-requires
-insert-requires c κs = is-sound (c .before .before .before .before .before .before .before .is-sound .ensures) (c .before .before .before .before .before .before .if1 .left)
+insert-requires c κs =
+    let else1 = to-else1 c in
+    is-sound (else1 .before .is-sound .ensures) (else1 .if1 .left)
 
-answered-requires : tie.Need-answered-requires
-answered-requires c κs = search needs
+packed-requires : tie.Need-packed-requires
+packed-requires c κs = search needs
 
 same-length-6 : tie.Need-same-length-6
 same-length-6 c = search needs
@@ -51,7 +66,11 @@ same-length-10 : tie.Need-same-length-10
 same-length-10 c = search needs
 
 returns-2 : tie.Need-returns-2
-returns-2 c = taken-up (is-sound (c .before .before .before .before .before .before .before .before .before .before .before .before .before .before .before .before .before .before .before .is-sound .ensures) (c .before .before .before .before .before .before .before .before .before .before .before .before .before .before .before .before .before .before .if1 .left)) (back _ _ _ _ _ _ (c .answered .ensures) (InsertOn _ _ _) (c .before .before .before .before .before .before .before .before .before .before .before .insert .ensures))
+returns-2 c =
+    let at-insert = to-insert c in
+    let else1 = to-else1 (at-insert .before) in
+    taken-up (is-sound (else1 .before .is-sound .ensures) (else1 .if1 .left))
+    (back _ _ _ _ _ _ (c .packed .ensures) (InsertOn _ _ _) (at-insert .insert .ensures))
 
 pub insert-spec : {M : Type 1} → statement M
 insert-spec =
@@ -66,7 +85,7 @@ insert-spec =
     same-length-5
     returns
     insert-requires
-    answered-requires
+    packed-requires
     same-length-6
     same-length-7
     same-length-8

@@ -6,6 +6,19 @@ use Rattle.wheel.specs.Words.{wheelWords}
 use Rattle.delay_queue.proofs.make.Statement.{statement}
 use Rattle.delay_queue.proofs.make.Tie as tie
 
+abbrev to-fill2 : tie.After-slice-known12 → tie.After-fill2
+to-fill2 c =
+    let a = c .before .before .before .before in
+    a .before .before
+
+abbrev to-fill : tie.After-fill2 → tie.After-fill
+to-fill c = c .before .before .before .before
+
+abbrev to-format : tie.After-fill → tie.After-format
+to-format c =
+    let a = c .before .before .before .before in
+    a .before .before .before .before
+
 format-requires : tie.Need-format-requires
 format-requires c κs = search needs
 
@@ -37,7 +50,15 @@ same-length-6 : tie.Need-same-length-6
 same-length-6 c = search needs
 
 returns : tie.Need-returns
-returns c = record { wheel = ap (wheelWords 0 (replicate 6 0)) (c .before .before .before .before .before .before .before .before .before .before .before .before .before .before .before .before .before .before .format .ensures); values = c .before .before .before .before .before .before .before .before .before .before .fill .ensures; deadlines = c .before .before .before .before .before .before .fill2 .ensures; turns = c .before .before .fill3 .ensures }
+returns c =
+    let at-fill2 = to-fill2 c in
+    let at-fill = to-fill at-fill2 in
+    record {
+      wheel = ap (wheelWords 0 (replicate 6 0)) (to-format at-fill .format .ensures);
+      values = at-fill .fill .ensures;
+      deadlines = at-fill2 .fill2 .ensures;
+      turns = c .before .before .fill3 .ensures;
+    }
 
 pub make-spec : {M : Type 1} → statement M
 make-spec =

@@ -4,6 +4,9 @@ use Rattle.delay_queue.specs.Back.{no-answer, is-sound, taken-up, not-pa
 use Rattle.delay_queue.proofs.next_wake.Statement.{statement}
 use Rattle.delay_queue.proofs.next_wake.Tie as tie
 
+abbrev to-is-sound : tie.After-next-wake → tie.After-is-sound
+to-is-sound c = c .before .before .before .before
+
 is-sound-requires : tie.Need-is-sound-requires
 is-sound-requires c κs = search needs
 
@@ -11,10 +14,12 @@ returns : tie.Need-returns
 returns c = no-answer (c .before .is-sound .ensures) (c .if1 .taken)
 
 next-wake-requires : tie.Need-next-wake-requires
-next-wake-requires c κs = not-passed (is-sound (c .before .is-sound .ensures) (c .if1 .left))
+next-wake-requires c κs = not-passed (is-sound (c .before .before .before .is-sound .ensures) (c .before .before .if1 .left))
 
 returns-2 : tie.Need-returns-2
-returns-2 c = let S = is-sound (c .before .before .is-sound .ensures) (c .before .if1 .left) in taken-up S (wake-done S (c .next-wake .ensures))
+returns-2 c =
+    let S = is-sound (to-is-sound c .is-sound .ensures) (c .before .before .before .if1 .left) in
+    taken-up S (wake-done S (c .next-wake .ensures))
 
 pub next-wake-spec : {M : Type 1} → statement M
 next-wake-spec = tie.close (tie.spec is-sound-requires returns next-wake-requires returns-2)

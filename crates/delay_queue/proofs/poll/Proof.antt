@@ -5,6 +5,18 @@ use Rattle.delay_queue.specs.Back.{back, turned-down, is-sound, taken-up
 use Rattle.delay_queue.proofs.poll.Statement.{statement}
 use Rattle.delay_queue.proofs.poll.Tie as tie
 
+abbrev to-else1 : tie.After-poll-arg4 → tie.Else1
+to-else1 c =
+    let a = c .before .before .before .before in
+    let b = a .before .before .before .before in
+    b .before
+
+abbrev to-poll : tie.After-packed → tie.After-poll
+to-poll c =
+    let a = c .before .before .before .before in
+    let b = a .before .before .before .before in
+    b .before
+
 is-sound-requires : tie.Need-is-sound-requires
 is-sound-requires c κs = search needs
 
@@ -24,13 +36,16 @@ same-length-4 : tie.Need-same-length-4
 same-length-4 c = search needs
 
 returns : tie.Need-returns
-returns c = turned-down _ _ _ _ _ _ (c .before .before .is-sound .ensures) (c .before .if1 .taken) (c .refused .ensures)
+returns c =
+    turned-down _ _ _ _ _ _ (c .before .before .is-sound .ensures) (c .before .if1 .taken) (c .refused .ensures)
 
 poll-requires : tie.Need-poll-requires
-poll-requires c κs = is-sound (c .before .before .before .before .before .before .is-sound .ensures) (c .before .before .before .before .before .if1 .left)
+poll-requires c κs =
+    let else1 = to-else1 c in
+    is-sound (else1 .before .is-sound .ensures) (else1 .if1 .left)
 
-answered-requires : tie.Need-answered-requires
-answered-requires c κs = search needs
+packed-requires : tie.Need-packed-requires
+packed-requires c κs = search needs
 
 same-length-5 : tie.Need-same-length-5
 same-length-5 c = search needs
@@ -45,7 +60,11 @@ same-length-8 : tie.Need-same-length-8
 same-length-8 c = search needs
 
 returns-2 : tie.Need-returns-2
-returns-2 c = taken-up (is-sound (c .before .before .before .before .before .before .before .before .before .before .before .before .before .before .before .before .is-sound .ensures) (c .before .before .before .before .before .before .before .before .before .before .before .before .before .before .before .if1 .left)) (back _ _ _ _ _ _ (c .answered .ensures) (PollOn _ _) (c .before .before .before .before .before .before .before .before .before .poll .ensures))
+returns-2 c =
+    let at-poll = to-poll c in
+    let else1 = to-else1 (at-poll .before) in
+    taken-up (is-sound (else1 .before .is-sound .ensures) (else1 .if1 .left))
+    (back _ _ _ _ _ _ (c .packed .ensures) (PollOn _ _) (at-poll .poll .ensures))
 
 pub poll-spec : {M : Type 1} → statement M
 poll-spec =
@@ -59,7 +78,7 @@ poll-spec =
     same-length-4
     returns
     poll-requires
-    answered-requires
+    packed-requires
     same-length-5
     same-length-6
     same-length-7

@@ -68,16 +68,21 @@ module _ {M : Type 1} (𝓤 : URA M) (H : Heap 𝓤) (A : Atoms 𝓤) (W : Given
   exits : Is Grid (h .rows) (got ∷ []) → ent 𝓤 (sem 𝓤 H A (T.the-row .own h (mach ∷ []))) (Post got)
   exits is =
       qed W (‵ (T.the-row .own h (mach ∷ [])) ∷ []) ∵
-      suffices ! _ (ends-at 𝓤 H A rows-of.ended stayed (rows-of.clauses 𝓤 H A mem run) W ((tt, tt, tt, (h, tt), (mach ∷ [], tt)), tt) got (h .rows) (tt, tt) (tt, tt)) $ says ! refl $
-      nothing ! $ move ! (1 ∷ 0 ∷ []) $ fjoin ! $ owned ! Grid (Is Grid) (λ y vs p. makes-shadow 𝓤 H A (Grid .own y vs) (T′.the-plain .0 y vs) p) (h .rows) _ is $ move ! (1 ∷ 0 ∷ []) $ nothing ! $ done !
+      suffices ! _ (ends-at 𝓤 H A rows-of.ended stayed (rows-of.clauses 𝓤 H A mem run) W ((tt, tt, tt, (h, tt), (mach ∷ [], tt)), tt) got (h .rows) (tt, tt)
+      (tt, tt)) $ says ! refl $
+      nothing ! $ move ! (1 ∷ 0 ∷ []) $ fjoin ! $ owned ! Grid (Is Grid)
+      (λ y vs p. makes-shadow 𝓤 H A (Grid .own y vs) (T′.the-plain .0 y vs) p) (h .rows) _ is $ move ! (1 ∷ 0 ∷ []) $ nothing ! $ done !
 
   module _ (C : Calls 𝓤 H) (Λ : Loops 𝓤 H) where
-    walk : Is Grid (h .rows) (got ∷ []) → Holds (hasTy T′.mir mach) × WT mach → ent 𝓤 (onEntry 𝓤 H A rows-of.signature tt tt (h, tt) (mach ∷ [], tt)) (WpFn 𝓤 H C Λ code.function (mach ∷ []) Post)
+    walk : Is Grid (h .rows) (got ∷ []) → Holds (hasTy T′.mir mach) × WT mach
+        → ent 𝓤 (onEntry 𝓤 H A rows-of.signature tt tt (h, tt) (mach ∷ [], tt)) (WpFn 𝓤 H C Λ code.function (mach ∷ []) Post)
     walk is wt =
         qed W (‵ ftrue ∷ ‵ (owns (T.the-row ∷ []) (h, tt) (mach ∷ [], tt)) ∷ []) ∵ enter ! C Λ code.function (mach ∷ []) _ $
         alloc1 ! (λ l₀. alloc1 ! (λ l₁. alloc0 ! $ params1 ! $ pass1 ! (init ! 0 refl wt) $ pass0 ! $
-        assigns ! (of-opd ! (load ! (from ! (fld ! refl (stop !))) (look-in ! 0 (sub ! 0 refl (whole !))))) (from ! (stop !)) (init ! 2 refl (T′.the-laws .0 .lawful 𝓤 H A W .typed (h .rows) _ is .0)) $
-        returns ! (look ! 2 refl) $ forget ! 0 refl $ forget ! 2 refl $ move ! (2 ∷ 3 ∷ []) $ free1 ! $ free1 ! $ free0 ! $ keep ! (1 ∷ []) $ fsplit ! $ keep ! (0 ∷ []) $ by ! (exits is)))
+        assigns ! (of-opd ! (load ! (from ! (fld ! refl (stop !))) (look-in ! 0 (sub ! 0 refl (whole !))))) (from ! (stop !))
+        (init ! 2 refl (T′.the-laws .0 .lawful 𝓤 H A W .typed (h .rows) _ is .0)) $
+        returns ! (look ! 2 refl) $ forget ! 0 refl $ forget ! 2 refl $ move ! (2 ∷ 3 ∷ []) $ free1 ! $ free1 ! $ free0 ! $ keep ! (1 ∷ []) $ fsplit ! $ keep !
+        (0 ∷ []) $ by ! (exits is)))
 
 -- what the struct's relation says of its field
 held : (h : Heads) → Is T.the-row h (vstruct (vcons (gridVal (inner (h .rows))) vnil) ∷ []) → Is Grid (h .rows) (gridVal (inner (h .rows)) ∷ [])
@@ -85,12 +90,16 @@ held h p = subst (λ (y : List (List ℕ)). Is Grid y (gridVal (inner (h .rows))
 
 module _ {M : Type 1} (𝓤 : URA M) (H : Heap 𝓤) (A : Atoms 𝓤) (W : Given 𝓤 H A) (mem : Memory → SProp 𝓤) (run : Routine → Fun 𝓤) where
   rows-of-walks : (C : Calls 𝓤 H) (Λ : Loops 𝓤 H) → Walks 𝓤 H A rows-of.ended stayed (WpFn 𝓤 H C Λ code.function) (rows-of.clauses 𝓤 H A mem run)
-  rows-of-walks C Λ = walked 𝓤 H A rows-of.ended stayed (rows-of.clauses 𝓤 H A mem run) (WpFn 𝓤 H C Λ code.function) (λ κs. (LL.vals T.the-type T′.the-laws, tt)) (λ κs. (LL.tells T.the-type T′.the-laws, tt))
-      (λ κs qs bounds a g are. via 𝓤 _ (fst∗ 𝓤 _ (emp 𝓤)) (walk 𝓤 H A W mem run (a .0) C Λ (held (a .0) (are .0)) (LL.lawful T.the-type T′.the-laws 𝓤 H A W .typed (a .0) _ (are .0) .0)))
+  rows-of-walks C Λ = walked 𝓤 H A rows-of.ended stayed (rows-of.clauses 𝓤 H A mem run) (WpFn 𝓤 H C Λ code.function)
+      (λ κs. (LL.vals T.the-type T′.the-laws, tt)) (λ κs. (LL.tells T.the-type T′.the-laws, tt))
+      (λ κs qs bounds a g are. via 𝓤 _ (fst∗ 𝓤 _ (emp 𝓤)) (walk 𝓤 H A W mem run (a .0) C Λ (held (a .0) (are .0))
+      (LL.lawful T.the-type T′.the-laws 𝓤 H A W .typed (a .0) _ (are .0) .0)))
 
 rows-of-meets : {M : Type 1} (𝓤 : URA M) (H : Heap 𝓤) (A : Atoms 𝓤) → Given 𝓤 H A → (mem : Memory → SProp 𝓤) (run : Routine → Fun 𝓤) (𝓣 : Tables 𝓤 H)
     → Meets 𝓤 H A rows-of.signature (WpFn 𝓤 H (𝓣 .C) (𝓣 .Λ) code.function) (rows-of.spec 𝓤 H A mem run)
-rows-of-meets 𝓤 H A W mem run 𝓣 = walk-meets 𝓤 H A rows-of.ended stayed W (goes-none 𝓤 H A W 0 (λ _. T.the-row) yes (λ κs x f. refl), tt) (rows-of.clauses 𝓤 H A mem run) (WpFn 𝓤 H (𝓣 .C) (𝓣 .Λ) code.function) (WpFn-mono 𝓤 H (W .laws) 𝓣 code.function) (rows-of-walks 𝓤 H A W mem run (𝓣 .C) (𝓣 .Λ))
+rows-of-meets 𝓤 H A W mem run 𝓣 = walk-meets 𝓤 H A rows-of.ended stayed W (goes-none 𝓤 H A W 0 (λ _. T.the-row) yes (λ κs x f. refl), tt)
+    (rows-of.clauses 𝓤 H A mem run) (WpFn 𝓤 H (𝓣 .C) (𝓣 .Λ) code.function) (WpFn-mono 𝓤 H (W .laws) 𝓣 code.function)
+    (rows-of-walks 𝓤 H A W mem run (𝓣 .C) (𝓣 .Λ))
 
 pub rows-of-spec : {M : Type 1} → stated.statement M
 unfolding code.routine tablesOf

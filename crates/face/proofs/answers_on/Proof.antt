@@ -4,14 +4,15 @@ use native.Mathlib.Omega.{arith}
 use mathlib.Core.Path.{_≡_, _∙_}
 use Prim.Native.Nat.{_≤_, _-_}
 use lib.ListN.{length}
-use Rattle.records.specs.Words.{words, Sound}
+use Rattle.records.specs.Words.{parts, Sound}
 use Rattle.face.proofs.answers_on.Statement.{statement}
 use Rattle.face.proofs.answers_on.Tie as tie
 
 abbrev Inv-loop : tie.InvT-loop
-Inv-loop heads₀ values₀ deadlines₀ nexts₀ prevs₀ turns₀ marks₀ script answers₀ w₀ commands i₀ heads values deadlines nexts prevs turns marks answers w i =
+Inv-loop elapsed rows₀ tops₀ heads₀ values₀ deadlines₀ nexts₀ prevs₀ turns₀ marks₀ script answers₀ e₀ commands i₀ rows tops heads values deadlines nexts prevs
+    turns marks answers e i =
     (i ≤ commands)
-    × Sound (words w heads values deadlines nexts prevs turns marks)
+    × Sound (parts e rows tops heads values deadlines nexts prevs turns marks)
     × (length values ≡ length values₀)
     × (length deadlines ≡ length deadlines₀)
     × (length nexts ≡ length nexts₀)
@@ -21,8 +22,23 @@ Inv-loop heads₀ values₀ deadlines₀ nexts₀ prevs₀ turns₀ marks₀ scr
     × (length answers ≡ length answers₀)
 
 abbrev μ-loop : tie.MeasureT-loop
-μ-loop heads₀ values₀ deadlines₀ nexts₀ prevs₀ turns₀ marks₀ script answers₀ w₀ commands i₀ heads values deadlines nexts prevs turns marks answers w i =
+μ-loop elapsed rows₀ tops₀ heads₀ values₀ deadlines₀ nexts₀ prevs₀ turns₀ marks₀ script answers₀ e₀ commands i₀ rows tops heads values deadlines nexts prevs
+    turns marks answers e i =
     commands - i
+
+abbrev to-called : tie.After-words-of Inv-loop μ-loop → tie.After-called Inv-loop μ-loop
+to-called c =
+    let a = c .before .before .before .before in
+    let b = a .before .before .before .before in
+    let d = b .before .before .before .before in
+    d .before .before
+
+abbrev to-in-loop : tie.After-called Inv-loop μ-loop → tie.In-loop Inv-loop μ-loop
+to-in-loop c =
+    let a = c .before .before .before .before in
+    let b = a .before .before .before .before in
+    let d = b .before .before .before .before in
+    d .before
 
 least-requires : tie.Need-least-requires Inv-loop μ-loop
 least-requires c κs = search needs
@@ -76,23 +92,31 @@ words-of-requires : tie.Need-words-of-requires Inv-loop μ-loop
 words-of-requires c κs = search needs
 
 write-words-requires : tie.Need-write-words-requires Inv-loop μ-loop
-write-words-requires c κs = omega (arith, c .before .before .before .before .before .before .before .before .before .before .before .before .before .before .before .before .before .before .before .before .before .before .before .before .before .before .loop-test .taken, c .before .before .before .before .before .before .before .before .before .before .before .before .before .before .before .before .before .before .before .before .before .before .before .before .before .before .before .loop .inv .8, c .before .before .before .before .before .before .before .before .before .before .before .before .before .before .before .before .before .before .before .before .before .before .before .before .before .before .before .before .least .ensures)
+write-words-requires c κs =
+    let in-loop = to-in-loop (to-called c) in
+    let turn = in-loop .before in
+    omega (arith, in-loop .loop-test .taken, turn .loop .inv .8, turn .before .least .ensures)
 
 loop-less : tie.Need-loop-less Inv-loop μ-loop
-loop-less c = omega (arith, c .before .before .before .before .before .before .before .before .before .before .before .before .before .before .before .before .before .before .before .before .before .before .before .before .before .before .before .before .before .loop-test .taken)
+loop-less c =
+    let in-loop = to-in-loop (to-called (c .before .before .before)) in
+    omega (arith, in-loop .loop-test .taken)
 
 loop-again : tie.Need-loop-again Inv-loop μ-loop
-loop-again c = (
-  omega (arith, c .before .before .before .before .before .before .before .before .before .before .before .before .before .before .before .before .before .before .before .before .before .before .before .before .before .before .before .before .before .loop-test .taken),
-  c .before .before .before .before .before .before .before .before .before .before .before .before .before .before .before .before .before .before .called .ensures,
-  c .before .before .before .before .before .before .before .before .before .before .before .before .before .before .before .before .before .before .called .kept .1 .1 .0 ∙ c .before .before .before .before .before .before .before .before .before .before .before .before .before .before .before .before .before .before .before .before .before .before .before .before .before .before .before .before .before .before .loop .inv .2,
-  c .before .before .before .before .before .before .before .before .before .before .before .before .before .before .before .before .before .before .called .kept .1 .1 .1 .0 ∙ c .before .before .before .before .before .before .before .before .before .before .before .before .before .before .before .before .before .before .before .before .before .before .before .before .before .before .before .before .before .before .loop .inv .3,
-  c .before .before .before .before .before .before .before .before .before .before .before .before .before .before .before .before .before .before .called .kept .1 .1 .1 .1 .0 ∙ c .before .before .before .before .before .before .before .before .before .before .before .before .before .before .before .before .before .before .before .before .before .before .before .before .before .before .before .before .before .before .loop .inv .4,
-  c .before .before .before .before .before .before .before .before .before .before .before .before .before .before .before .before .before .before .called .kept .1 .1 .1 .1 .1 .0 ∙ c .before .before .before .before .before .before .before .before .before .before .before .before .before .before .before .before .before .before .before .before .before .before .before .before .before .before .before .before .before .before .loop .inv .5,
-  c .before .before .before .before .before .before .before .before .before .before .before .before .before .before .before .before .before .before .called .kept .1 .1 .1 .1 .1 .1 .0 ∙ c .before .before .before .before .before .before .before .before .before .before .before .before .before .before .before .before .before .before .before .before .before .before .before .before .before .before .before .before .before .before .loop .inv .6,
-  c .before .before .before .before .before .before .before .before .before .before .before .before .before .before .before .before .before .before .called .kept .1 .1 .1 .1 .1 .1 .1 .0 ∙ c .before .before .before .before .before .before .before .before .before .before .before .before .before .before .before .before .before .before .before .before .before .before .before .before .before .before .before .before .before .before .loop .inv .7,
-  c .before .before .write-words .kept .0 ∙ c .before .before .before .before .before .before .before .before .before .before .before .before .before .before .before .before .before .before .before .before .before .before .before .before .before .before .before .before .before .before .loop .inv .8,
-)
+loop-again c =
+    let at-called = to-called (c .before .before .before) in
+    let in-loop = to-in-loop at-called in
+    let turn = in-loop .before in (
+      omega (arith, in-loop .loop-test .taken),
+      at-called .called .ensures,
+      at-called .called .kept .1 .1 .1 .1 .0 ∙ turn .loop .inv .2,
+      at-called .called .kept .1 .1 .1 .1 .1 .0 ∙ turn .loop .inv .3,
+      at-called .called .kept .1 .1 .1 .1 .1 .1 .0 ∙ turn .loop .inv .4,
+      at-called .called .kept .1 .1 .1 .1 .1 .1 .1 .0 ∙ turn .loop .inv .5,
+      at-called .called .kept .1 .1 .1 .1 .1 .1 .1 .1 .0 ∙ turn .loop .inv .6,
+      at-called .called .kept .1 .1 .1 .1 .1 .1 .1 .1 .1 .0 ∙ turn .loop .inv .7,
+      c .before .before .write-words .kept .0 ∙ turn .loop .inv .8,
+    )
 
 same-length : tie.Need-same-length Inv-loop μ-loop
 same-length c = search needs

@@ -5,6 +5,59 @@ use Rattle.face.specs.Stays.{insert-stays, reset-stays, remove-stays, po
 use Rattle.face.proofs.called.Statement.{statement}
 use Rattle.face.proofs.called.Tie as tie
 
+abbrev to-insert : tie.After-slice-known11 → tie.After-insert
+to-insert c =
+    let a = c .before .before .before .before in
+    let b = a .before .before .before .before in
+    b .before .before
+
+abbrev to-slice-known6 : tie.After-insert → tie.After-slice-known6
+to-slice-known6 c =
+    let a = c .before .before .before .before in
+    let b = a .before .before .before .before in
+    b .before .before .before
+
+abbrev to-start : tie.After-slice-known6 → tie.Start
+to-start c =
+    let a = c .before .before .before .before in
+    a .before .before
+
+abbrev to-reset : tie.After-slice-known15 → tie.After-reset
+to-reset c =
+    let a = c .before .before .before .before in
+    a .before .before .before .before
+
+abbrev to-else1 : tie.After-reset → tie.Else1
+to-else1 c =
+    let a = c .before .before .before .before in
+    let b = a .before .before .before .before in
+    b .before .before .before
+
+abbrev to-remove : tie.After-slice-known19 → tie.After-remove
+to-remove c =
+    let a = c .before .before .before .before in
+    a .before .before .before .before
+
+abbrev to-else2 : tie.After-remove → tie.Else2
+to-else2 c =
+    let a = c .before .before .before .before in
+    let b = a .before .before .before .before in
+    b .before .before .before
+
+abbrev to-poll : tie.After-slice-known23 → tie.After-poll
+to-poll c =
+    let a = c .before .before .before .before in
+    a .before .before .before .before
+
+abbrev to-else3 : tie.After-poll → tie.Else3
+to-else3 c =
+    let a = c .before .before .before .before in
+    let b = a .before .before .before .before in
+    b .before .before .before
+
+abbrev to-else4 : tie.After-asked-arg3 → tie.Else4
+to-else4 c = c .before .before .before .before
+
 insert-requires : tie.Need-insert-requires
 insert-requires c κs = search needs
 
@@ -27,7 +80,9 @@ same-length-6 : tie.Need-same-length-6
 same-length-6 c = search needs
 
 returns : tie.Need-returns
-returns c = insert-stays (c .before .before .before .before .before .before .before .before .before .before .before .before .before .before .before .before .before .before .before .before .before .before .before .before .before .pre) (c .before .before .before .before .before .before .before .before .before .before .insert .ensures)
+returns c =
+    let at-insert = to-insert c in
+    insert-stays (to-start (to-slice-known6 at-insert) .pre) (at-insert .insert .ensures)
 
 reset-requires : tie.Need-reset-requires
 reset-requires c κs = search needs
@@ -51,7 +106,9 @@ same-length-12 : tie.Need-same-length-12
 same-length-12 c = search needs
 
 returns-2 : tie.Need-returns-2
-returns-2 c = reset-stays (c .before .before .before .before .before .before .before .before .before .before .before .before .before .before .before .before .before .before .before .before .before .before .before .before .pre) (c .before .before .before .before .before .before .before .before .reset .ensures)
+returns-2 c =
+    let at-reset = to-reset c in
+    reset-stays (to-start (to-else1 at-reset .before) .pre) (at-reset .reset .ensures)
 
 remove-requires : tie.Need-remove-requires
 remove-requires c κs = search needs
@@ -75,7 +132,10 @@ same-length-18 : tie.Need-same-length-18
 same-length-18 c = search needs
 
 returns-3 : tie.Need-returns-3
-returns-3 c = remove-stays (c .before .before .before .before .before .before .before .before .before .before .before .before .before .before .before .before .before .before .before .before .before .before .before .before .before .pre) (c .before .before .before .before .before .before .before .before .remove .ensures)
+returns-3 c =
+    let at-remove = to-remove c in
+    let start = to-start (to-else2 at-remove .before .before) in
+    remove-stays (start .pre) (at-remove .remove .ensures)
 
 poll-requires : tie.Need-poll-requires
 poll-requires c κs = search needs
@@ -99,7 +159,10 @@ same-length-24 : tie.Need-same-length-24
 same-length-24 c = search needs
 
 returns-4 : tie.Need-returns-4
-returns-4 c = poll-stays (c .before .before .before .before .before .before .before .before .before .before .before .before .before .before .before .before .before .before .before .before .before .before .before .before .before .before .pre) (c .before .before .before .before .before .before .before .before .poll .ensures)
+returns-4 c =
+    let at-poll = to-poll c in
+    let start = to-start (to-else3 at-poll .before .before .before) in
+    poll-stays (start .pre) (at-poll .poll .ensures)
 
 clear-requires : tie.Need-clear-requires
 clear-requires c κs = search needs
@@ -126,13 +189,18 @@ returns-5 : tie.Need-returns-5
 returns-5 c = search needs
 
 asked-requires : tie.Need-asked-requires
-asked-requires c κs = (not-passed (c .before .before .before .before .before .before .before .before .before .before .before .before .pre), marks-long (c .before .before .before .before .before .before .before .before .before .before .before .before .pre))
+asked-requires c κs =
+    let start = to-start (to-else4 c .before .before .before .before) in
+    (not-passed (start .pre), marks-long (start .pre))
 
 same-length-31 : tie.Need-same-length-31
 same-length-31 c = search needs
 
 returns-6 : tie.Need-returns-6
 returns-6 c = search needs
+
+element-copy-out-asked : tie.Need-element-copy-out-asked
+element-copy-out-asked c = search needs
 
 pub called-spec : {M : Type 1} → statement M
 called-spec =
@@ -178,6 +246,7 @@ called-spec =
     same-length-29
     same-length-30
     returns-5
+    element-copy-out-asked
     asked-requires
     same-length-31
     returns-6)

@@ -4,6 +4,12 @@ use Rattle.delay_queue.specs.Back.{is-sound}
 use Rattle.face.proofs.face_answers.Statement.{statement}
 use Rattle.face.proofs.face_answers.Tie as tie
 
+abbrev to-else1 : tie.After-answers-on-arg8 → tie.Else1
+to-else1 c =
+    let a = c .before .before .before .before in
+    let b = a .before .before .before .before in
+    b .before .before .before .before
+
 state-of-requires : tie.Need-state-of-requires
 state-of-requires c κs = search needs
 
@@ -32,7 +38,9 @@ returns : tie.Need-returns
 returns c = search needs
 
 answers-on-requires : tie.Need-answers-on-requires
-answers-on-requires c κs = is-sound (c .before .before .before .before .before .before .before .before .before .is-sound .ensures) (c .before .before .before .before .before .before .before .before .if1 .left)
+answers-on-requires c κs =
+    let else1 = to-else1 c in
+    is-sound (else1 .before .is-sound .ensures) (else1 .if1 .left)
 
 keep-state-requires : tie.Need-keep-state-requires
 keep-state-requires c κs = search needs
@@ -61,6 +69,9 @@ same-length-13 c = search needs
 returns-2 : tie.Need-returns-2
 returns-2 c = search needs
 
+wheel-of-requires : tie.Need-wheel-of-requires
+wheel-of-requires c κs = search needs
+
 pub face-answers-spec : {M : Type 1} → statement M
 face-answers-spec =
     tie.close
@@ -75,6 +86,7 @@ face-answers-spec =
     same-length-6
     returns
     answers-on-requires
+    wheel-of-requires
     keep-state-requires
     same-length-7
     same-length-8

@@ -21,6 +21,19 @@ abbrev μ-loop : tie.MeasureT-loop
 μ-loop state heads values₀ deadlines₀ nexts₀ prevs₀ turns₀ marks₀ script w₀ rows₀ sum₀ commands i₀ values deadlines nexts prevs turns marks w rows sum i =
     commands - i
 
+abbrev to-step : tie.After-summed Inv-loop μ-loop → tie.After-step Inv-loop μ-loop
+to-step c =
+    let a = c .before .before .before .before in
+    let b = a .before .before .before .before in
+    let d = b .before .before .before .before in
+    d .before .before .before .before
+
+abbrev to-in-loop : tie.After-step Inv-loop μ-loop → tie.In-loop Inv-loop μ-loop
+to-in-loop c =
+    let a = c .before .before .before .before in
+    let b = a .before .before .before .before in
+    b .before .before .before
+
 state-of-requires : tie.Need-state-of-requires Inv-loop μ-loop
 state-of-requires c κs = search needs
 
@@ -67,18 +80,21 @@ summed-requires : tie.Need-summed-requires Inv-loop μ-loop
 summed-requires c κs = search needs
 
 loop-less : tie.Need-loop-less Inv-loop μ-loop
-loop-less c = omega (arith, c .before .before .before .before .before .before .before .before .before .before .before .before .before .before .before .before .before .before .before .before .before .before .before .before .before .before .before .loop-test .taken)
+loop-less c = omega (arith, to-in-loop (to-step c) .loop-test .taken)
 
 loop-again : tie.Need-loop-again Inv-loop μ-loop
-loop-again c = (
-  omega (arith, c .before .before .before .before .before .before .before .before .before .before .before .before .before .before .before .before .before .before .before .before .before .before .before .before .before .before .before .loop-test .taken),
-  c .before .before .before .before .before .before .before .before .before .before .before .before .before .before .before .before .step .kept .1 .1 .0 ∙ c .before .before .before .before .before .before .before .before .before .before .before .before .before .before .before .before .before .before .before .before .before .before .before .before .before .before .before .before .loop .inv .1,
-  c .before .before .before .before .before .before .before .before .before .before .before .before .before .before .before .before .step .kept .1 .1 .1 .0 ∙ c .before .before .before .before .before .before .before .before .before .before .before .before .before .before .before .before .before .before .before .before .before .before .before .before .before .before .before .before .loop .inv .2,
-  c .before .before .before .before .before .before .before .before .before .before .before .before .before .before .before .before .step .kept .1 .1 .1 .1 .0 ∙ c .before .before .before .before .before .before .before .before .before .before .before .before .before .before .before .before .before .before .before .before .before .before .before .before .before .before .before .before .loop .inv .3,
-  c .before .before .before .before .before .before .before .before .before .before .before .before .before .before .before .before .step .kept .1 .1 .1 .1 .1 .0 ∙ c .before .before .before .before .before .before .before .before .before .before .before .before .before .before .before .before .before .before .before .before .before .before .before .before .before .before .before .before .loop .inv .4,
-  c .before .before .before .before .before .before .before .before .before .before .before .before .before .before .before .before .step .kept .1 .1 .1 .1 .1 .1 .0 ∙ c .before .before .before .before .before .before .before .before .before .before .before .before .before .before .before .before .before .before .before .before .before .before .before .before .before .before .before .before .loop .inv .5,
-  c .before .before .before .before .before .before .before .before .before .before .before .before .before .before .before .before .step .kept .1 .1 .1 .1 .1 .1 .1 .0 ∙ c .before .before .before .before .before .before .before .before .before .before .before .before .before .before .before .before .before .before .before .before .before .before .before .before .before .before .before .before .loop .inv .6,
-)
+loop-again c =
+    let at-step = to-step c in
+    let in-loop = to-in-loop at-step in
+    let turn = in-loop .before in (
+      omega (arith, in-loop .loop-test .taken),
+      at-step .step .kept .1 .1 .0 ∙ turn .loop .inv .1,
+      at-step .step .kept .1 .1 .1 .0 ∙ turn .loop .inv .2,
+      at-step .step .kept .1 .1 .1 .1 .0 ∙ turn .loop .inv .3,
+      at-step .step .kept .1 .1 .1 .1 .1 .0 ∙ turn .loop .inv .4,
+      at-step .step .kept .1 .1 .1 .1 .1 .1 .0 ∙ turn .loop .inv .5,
+      at-step .step .kept .1 .1 .1 .1 .1 .1 .1 .0 ∙ turn .loop .inv .6,
+    )
 
 keep-state-requires : tie.Need-keep-state-requires Inv-loop μ-loop
 keep-state-requires c κs = search needs

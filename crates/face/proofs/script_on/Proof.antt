@@ -4,14 +4,15 @@ use native.Mathlib.Omega.{arith}
 use mathlib.Core.Path.{_≡_, _∙_}
 use Prim.Native.Nat.{_≤_, _-_}
 use lib.ListN.{length}
-use Rattle.records.specs.Words.{words, Sound}
+use Rattle.records.specs.Words.{parts, Sound}
 use Rattle.face.proofs.script_on.Statement.{statement}
 use Rattle.face.proofs.script_on.Tie as tie
 
 abbrev Inv-loop : tie.InvT-loop
-Inv-loop heads₀ values₀ deadlines₀ nexts₀ prevs₀ turns₀ marks₀ script w₀ sum₀ commands i₀ heads values deadlines nexts prevs turns marks w sum i =
+Inv-loop elapsed rows₀ tops₀ heads₀ values₀ deadlines₀ nexts₀ prevs₀ turns₀ marks₀ script e₀ sum₀ commands i₀ rows tops heads values deadlines nexts prevs turns
+    marks e sum i =
     (i ≤ commands)
-    × Sound (words w heads values deadlines nexts prevs turns marks)
+    × Sound (parts e rows tops heads values deadlines nexts prevs turns marks)
     × (length values ≡ length values₀)
     × (length deadlines ≡ length deadlines₀)
     × (length nexts ≡ length nexts₀)
@@ -20,8 +21,21 @@ Inv-loop heads₀ values₀ deadlines₀ nexts₀ prevs₀ turns₀ marks₀ scr
     × (length marks ≡ length marks₀)
 
 abbrev μ-loop : tie.MeasureT-loop
-μ-loop heads₀ values₀ deadlines₀ nexts₀ prevs₀ turns₀ marks₀ script w₀ sum₀ commands i₀ heads values deadlines nexts prevs turns marks w sum i =
+μ-loop elapsed rows₀ tops₀ heads₀ values₀ deadlines₀ nexts₀ prevs₀ turns₀ marks₀ script e₀ sum₀ commands i₀ rows tops heads values deadlines nexts prevs turns
+    marks e sum i =
     commands - i
+
+abbrev to-turn : tie.After-slice-known12 Inv-loop μ-loop → tie.After-turn Inv-loop μ-loop
+to-turn c =
+    let a = c .before .before .before .before in
+    let b = a .before .before .before .before in
+    b .before .before .before .before
+
+abbrev to-in-loop : tie.After-turn Inv-loop μ-loop → tie.In-loop Inv-loop μ-loop
+to-in-loop c =
+    let a = c .before .before .before .before in
+    let b = a .before .before .before .before in
+    b .before .before .before .before
 
 loop-holds : tie.Need-loop-holds Inv-loop μ-loop
 loop-holds c = search needs
@@ -54,19 +68,22 @@ turn-requires : tie.Need-turn-requires Inv-loop μ-loop
 turn-requires c κs = search needs
 
 loop-less : tie.Need-loop-less Inv-loop μ-loop
-loop-less c = omega (arith, c .before .before .before .before .before .before .before .before .before .before .before .before .before .before .before .before .before .before .before .before .before .before .before .loop-test .taken)
+loop-less c = omega (arith, to-in-loop (to-turn c) .loop-test .taken)
 
 loop-again : tie.Need-loop-again Inv-loop μ-loop
-loop-again c = (
-  omega (arith, c .before .before .before .before .before .before .before .before .before .before .before .before .before .before .before .before .before .before .before .before .before .before .before .loop-test .taken),
-  c .before .before .before .before .before .before .before .before .before .before .before .before .before .turn .ensures,
-  c .before .before .before .before .before .before .before .before .before .before .before .before .before .turn .kept .1 .1 .0 ∙ c .before .before .before .before .before .before .before .before .before .before .before .before .before .before .before .before .before .before .before .before .before .before .before .before .loop .inv .2,
-  c .before .before .before .before .before .before .before .before .before .before .before .before .before .turn .kept .1 .1 .1 .0 ∙ c .before .before .before .before .before .before .before .before .before .before .before .before .before .before .before .before .before .before .before .before .before .before .before .before .loop .inv .3,
-  c .before .before .before .before .before .before .before .before .before .before .before .before .before .turn .kept .1 .1 .1 .1 .0 ∙ c .before .before .before .before .before .before .before .before .before .before .before .before .before .before .before .before .before .before .before .before .before .before .before .before .loop .inv .4,
-  c .before .before .before .before .before .before .before .before .before .before .before .before .before .turn .kept .1 .1 .1 .1 .1 .0 ∙ c .before .before .before .before .before .before .before .before .before .before .before .before .before .before .before .before .before .before .before .before .before .before .before .before .loop .inv .5,
-  c .before .before .before .before .before .before .before .before .before .before .before .before .before .turn .kept .1 .1 .1 .1 .1 .1 .0 ∙ c .before .before .before .before .before .before .before .before .before .before .before .before .before .before .before .before .before .before .before .before .before .before .before .before .loop .inv .6,
-  c .before .before .before .before .before .before .before .before .before .before .before .before .before .turn .kept .1 .1 .1 .1 .1 .1 .1 .0 ∙ c .before .before .before .before .before .before .before .before .before .before .before .before .before .before .before .before .before .before .before .before .before .before .before .before .loop .inv .7,
-)
+loop-again c =
+    let at-turn = to-turn c in
+    let in-loop = to-in-loop at-turn in
+    let turn = in-loop .before in (
+      omega (arith, in-loop .loop-test .taken),
+      at-turn .turn .ensures,
+      at-turn .turn .kept .1 .1 .1 .1 .0 ∙ turn .loop .inv .2,
+      at-turn .turn .kept .1 .1 .1 .1 .1 .0 ∙ turn .loop .inv .3,
+      at-turn .turn .kept .1 .1 .1 .1 .1 .1 .0 ∙ turn .loop .inv .4,
+      at-turn .turn .kept .1 .1 .1 .1 .1 .1 .1 .0 ∙ turn .loop .inv .5,
+      at-turn .turn .kept .1 .1 .1 .1 .1 .1 .1 .1 .0 ∙ turn .loop .inv .6,
+      at-turn .turn .kept .1 .1 .1 .1 .1 .1 .1 .1 .1 .0 ∙ turn .loop .inv .7,
+    )
 
 same-length : tie.Need-same-length Inv-loop μ-loop
 same-length c = search needs

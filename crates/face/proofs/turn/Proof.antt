@@ -5,14 +5,67 @@ use Rattle.face.specs.Stays.{insert-stays, reset-stays, remove-stays, po
 use Rattle.face.proofs.turn.Statement.{statement}
 use Rattle.face.proofs.turn.Tie as tie
 
+abbrev to-insert : tie.After-summed → tie.After-insert
+to-insert c =
+    let a = c .before .before .before .before in
+    let b = a .before .before .before .before in
+    b .before .before .before
+
+abbrev to-slice-known6 : tie.After-insert → tie.After-slice-known6
+to-slice-known6 c =
+    let a = c .before .before .before .before in
+    let b = a .before .before .before .before in
+    b .before .before .before
+
+abbrev to-start : tie.After-slice-known6 → tie.Start
+to-start c =
+    let a = c .before .before .before .before in
+    a .before .before
+
+abbrev to-reset : tie.After-summed2 → tie.After-reset
+to-reset c =
+    let a = c .before .before .before .before in
+    let b = a .before .before .before .before in
+    b .before
+
+abbrev to-else1 : tie.After-reset → tie.Else1
+to-else1 c =
+    let a = c .before .before .before .before in
+    let b = a .before .before .before .before in
+    b .before .before .before
+
+abbrev to-remove : tie.After-summed3 → tie.After-remove
+to-remove c =
+    let a = c .before .before .before .before in
+    let b = a .before .before .before .before in
+    b .before
+
+abbrev to-else2 : tie.After-remove → tie.Else2
+to-else2 c =
+    let a = c .before .before .before .before in
+    let b = a .before .before .before .before in
+    b .before .before .before
+
+abbrev to-poll : tie.After-summed4 → tie.After-poll
+to-poll c =
+    let a = c .before .before .before .before in
+    let b = a .before .before .before .before in
+    b .before
+
+abbrev to-else3 : tie.After-poll → tie.Else3
+to-else3 c =
+    let a = c .before .before .before .before in
+    let b = a .before .before .before .before in
+    b .before .before .before
+
+abbrev to-slice-known6-2 : tie.Else1 → tie.After-slice-known6
+to-slice-known6-2 c = c .before
+
 rem-key : tie.Need-rem-key
 rem-key c = search needs
 
 insert-requires : tie.Need-insert-requires
 insert-requires c κs = search needs
-
-turned-requires : tie.Need-turned-requires
-turned-requires c κs = search needs
 
 same-length : tie.Need-same-length
 same-length c = search needs
@@ -33,13 +86,12 @@ same-length-6 : tie.Need-same-length-6
 same-length-6 c = search needs
 
 returns : tie.Need-returns
-returns c = rw (c .turned .ensures) (insert-stays (c .before .before .before .before .before .before .before .before .before .before .before .before .before .before .before .before .before .before .before .before .before .before .before .before .before .before .pre) (c .before .before .before .before .before .before .before .before .before .before .before .insert .ensures))
+returns c =
+    let at-insert = to-insert c in
+    insert-stays (to-start (to-slice-known6 at-insert) .pre) (at-insert .insert .ensures)
 
 reset-requires : tie.Need-reset-requires
 reset-requires c κs = search needs
-
-turned-requires-2 : tie.Need-turned-requires-2
-turned-requires-2 c κs = search needs
 
 same-length-7 : tie.Need-same-length-7
 same-length-7 c = search needs
@@ -60,13 +112,12 @@ same-length-12 : tie.Need-same-length-12
 same-length-12 c = search needs
 
 returns-2 : tie.Need-returns-2
-returns-2 c = rw (c .turned2 .ensures) (reset-stays (c .before .before .before .before .before .before .before .before .before .before .before .before .before .before .before .before .before .before .before .before .before .before .before .before .before .pre) (c .before .before .before .before .before .before .before .before .before .reset .ensures))
+returns-2 c =
+    let at-reset = to-reset c in
+    reset-stays (to-start (to-else1 at-reset .before) .pre) (at-reset .reset .ensures)
 
 remove-requires : tie.Need-remove-requires
 remove-requires c κs = search needs
-
-turned-requires-3 : tie.Need-turned-requires-3
-turned-requires-3 c κs = search needs
 
 same-length-13 : tie.Need-same-length-13
 same-length-13 c = search needs
@@ -87,13 +138,13 @@ same-length-18 : tie.Need-same-length-18
 same-length-18 c = search needs
 
 returns-3 : tie.Need-returns-3
-returns-3 c = rw (c .turned3 .ensures) (remove-stays (c .before .before .before .before .before .before .before .before .before .before .before .before .before .before .before .before .before .before .before .before .before .before .before .before .before .before .pre) (c .before .before .before .before .before .before .before .before .before .remove .ensures))
+returns-3 c =
+    let at-remove = to-remove c in
+    let start = to-start (to-else2 at-remove .before .before) in
+    remove-stays (start .pre) (at-remove .remove .ensures)
 
 poll-requires : tie.Need-poll-requires
 poll-requires c κs = search needs
-
-turned-requires-4 : tie.Need-turned-requires-4
-turned-requires-4 c κs = search needs
 
 same-length-19 : tie.Need-same-length-19
 same-length-19 c = search needs
@@ -114,10 +165,15 @@ same-length-24 : tie.Need-same-length-24
 same-length-24 c = search needs
 
 returns-4 : tie.Need-returns-4
-returns-4 c = rw (c .turned4 .ensures) (poll-stays (c .before .before .before .before .before .before .before .before .before .before .before .before .before .before .before .before .before .before .before .before .before .before .before .before .before .before .before .pre) (c .before .before .before .before .before .before .before .before .before .poll .ensures))
+returns-4 c =
+    let at-poll = to-poll c in
+    let start = to-start (to-else3 at-poll .before .before .before) in
+    poll-stays (start .pre) (at-poll .poll .ensures)
 
 next-wake-requires : tie.Need-next-wake-requires
-next-wake-requires c κs = not-passed (c .before .before .before .before .before .before .before .before .before .before .pre)
+next-wake-requires c κs =
+    let start = to-start (to-slice-known6-2 (c .before .before .before .before)) in
+    not-passed (start .pre)
 
 told-requires : tie.Need-told-requires
 told-requires c κs = search needs
@@ -125,13 +181,25 @@ told-requires c κs = search needs
 returns-5 : tie.Need-returns-5
 returns-5 c = search needs
 
+summed-requires : tie.Need-summed-requires
+summed-requires c κs = search needs
+
+summed-requires-2 : tie.Need-summed-requires-2
+summed-requires-2 c κs = search needs
+
+summed-requires-3 : tie.Need-summed-requires-3
+summed-requires-3 c κs = search needs
+
+summed-requires-4 : tie.Need-summed-requires-4
+summed-requires-4 c κs = search needs
+
 pub turn-spec : {M : Type 1} → statement M
 turn-spec =
     tie.close
     (tie.spec
     rem-key
     insert-requires
-    turned-requires
+    summed-requires
     same-length
     same-length-2
     same-length-3
@@ -140,7 +208,7 @@ turn-spec =
     same-length-6
     returns
     reset-requires
-    turned-requires-2
+    summed-requires-2
     same-length-7
     same-length-8
     same-length-9
@@ -149,7 +217,7 @@ turn-spec =
     same-length-12
     returns-2
     remove-requires
-    turned-requires-3
+    summed-requires-3
     same-length-13
     same-length-14
     same-length-15
@@ -158,7 +226,7 @@ turn-spec =
     same-length-18
     returns-3
     poll-requires
-    turned-requires-4
+    summed-requires-4
     same-length-19
     same-length-20
     same-length-21

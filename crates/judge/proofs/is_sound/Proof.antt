@@ -9,6 +9,17 @@ use Rattle.judge.proofs.Rows.{shaped}
 use Rattle.judge.proofs.is_sound.Statement.{statement}
 use Rattle.judge.proofs.is_sound.Tie as tie
 
+abbrev to-is-whole : tie.Else4 → tie.After-is-whole
+to-is-whole c = c .before
+
+abbrev to-else4 : tie.After-rows-agree → tie.Else4
+to-else4 c = c .before .before .before
+
+abbrev to-start : tie.After-stacks → tie.Start
+to-start c =
+    let a = c .before .before .before .before in
+    a .before .before .before
+
 returns : tie.Need-returns
 returns c = tells-no (λ S. omega (arith, S .some))
 
@@ -22,29 +33,40 @@ returns-3 : tie.Need-returns-3
 returns-3 c = tells-no (λ S. c .before .has-room .ensures .no (not-true _ (c .if3 .taken)) (sound-judged S .room))
 
 is-whole-requires : tie.Need-is-whole-requires
-is-whole-requires c κs = let R = c .before .before .has-room .ensures .yes (not-false _ (c .before .if3 .left)) in record { nexts = R .nexts; prevs = R .prevs; marks = R .marks }
+is-whole-requires c κs =
+    let R = c .before .before .before .has-room .ensures .yes (not-false _ (c .before .before .if3 .left)) in
+    record { nexts = R .nexts; prevs = R .prevs; marks = R .marks }
 
 returns-4 : tie.Need-returns-4
-returns-4 c = tells-no (λ S. true≢false (sym (sound-judged S .lists) ∙ sym (c .before .is-whole .ensures) ∙ not-true _ (c .if4 .taken)))
+returns-4 c =
+    tells-no (λ S. true≢false (sym (sound-judged S .lists) ∙ sym (c .before .is-whole .ensures) ∙ not-true _ (c .if4 .taken)))
 
 rows-agree-requires : tie.Need-rows-agree-requires
 rows-agree-requires c κs = search needs
 
 returns-5 : tie.Need-returns-5
-returns-5 c = tells-no (λ S. c .before .rows-agree .ensures .no (not-true _ (c .if5 .taken)) (sound-judged S .rows))
+returns-5 c =
+    tells-no (λ S. c .before .rows-agree .ensures .no (not-true _ (c .if5 .taken)) (sound-judged S .rows))
 
 records-agree-requires : tie.Need-records-agree-requires
-records-agree-requires c κs = let R = c .before .before .before .before .before .before .before .before .has-room .ensures .yes (not-false _ (c .before .before .before .before .before .before .before .if3 .left)) in (R .deadlines, R .turns, R .marks)
+records-agree-requires c κs =
+    let else3 = to-is-whole (c .before .before .before .before) .before .before .before in
+    let R = else3 .before .has-room .ensures .yes (not-false _ (else3 .if3 .left)) in (R .deadlines, R .turns, R .marks)
 
 returns-6 : tie.Need-returns-6
 returns-6 c =
+    let else4 = to-else4 (c .before .before) in
+    let at-is-whole = else4 .before in
+    let else3 = at-is-whole .before .before .before in
+    let at-has-room = else3 .before in
+    let start = to-start (at-has-room .before .before .before) in
     tells-by (c .records-agree .ensures)
     (λ R.
-    judged-sound (shaped (c .before .before .before .before .before .before .before .before .before .before .before .before .before .before .before .before .before .before .before .args .t2) (c .before .before .before .before .before .before .before .before .before .before .before .before .before .before .before .before .before .before .before .good .1 .0 .0) (c .before .before .before .before .before .before .before .before .before .before .before .before .before .before .before .before .before .before .before .good .1 .0 .1 .0 .1) (c .before .before .before .before .before .before .before .before .before .before .before .before .before .before .before .before .before .before .before .good .1 .0 .1 .1)) (record {
+    judged-sound (shaped (start .args .t2) (start .good .1 .0 .0) (start .good .1 .0 .1 .0 .1) (start .good .1 .0 .1 .1)) (record {
       some = omega arith;
       few = omega arith;
-      room = c .before .before .before .before .before .before .before .before .before .has-room .ensures .yes (not-false _ (c .before .before .before .before .before .before .before .before .if3 .left));
-      lists = sym (c .before .before .before .before .before .before .is-whole .ensures) ∙ not-false _ (c .before .before .before .before .before .if4 .left);
+      room = at-has-room .has-room .ensures .yes (not-false _ (else3 .if3 .left));
+      lists = sym (at-is-whole .is-whole .ensures) ∙ not-false _ (else4 .if4 .left);
       rows = c .before .before .rows-agree .ensures .yes (not-false _ (c .before .if5 .left));
       records = R;
     }))

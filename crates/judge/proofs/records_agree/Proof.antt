@@ -13,6 +13,12 @@ Inv-loop elapsed n deadlines turns marks i₀ i = (i ≤ n) × RecordsAgree elap
 abbrev μ-loop : tie.MeasureT-loop
 μ-loop elapsed n deadlines turns marks i₀ i = n - i
 
+abbrev to-in-loop : tie.After-record-agrees Inv-loop μ-loop → tie.In-loop Inv-loop μ-loop
+to-in-loop c = c .before .before .before .before
+
+abbrev to-start : tie.At-loop Inv-loop μ-loop → tie.Start Inv-loop μ-loop
+to-start c = c .before .before .before .before
+
 loop-holds : tie.Need-loop-holds Inv-loop μ-loop
 loop-holds c = (omega arith, λ i h. absurd (omega arith))
 
@@ -41,7 +47,8 @@ record-agrees-requires : tie.Need-record-agrees-requires Inv-loop μ-loop
 record-agrees-requires c κs = search needs
 
 returns : tie.Need-returns Inv-loop μ-loop
-returns c = tells-no (λ R. c .before .record-agrees .ensures .no (not-true _ (c .if1 .taken)) (R _ (c .before .before .before .before .before .loop-test .taken)))
+returns c =
+    tells-no (λ R. c .before .record-agrees .ensures .no (not-true _ (c .if1 .taken)) (R _ (to-in-loop (c .before) .loop-test .taken)))
 
 add-i : tie.Need-add-i Inv-loop μ-loop
 add-i c = search needs
@@ -50,7 +57,13 @@ loop-less : tie.Need-loop-less Inv-loop μ-loop
 loop-less c = search needs
 
 loop-again : tie.Need-loop-again Inv-loop μ-loop
-loop-again c = (omega arith, record-next (c .before .before .before .before .before .before .before .before .before .before .args .deadlines .now) (c .before .before .before .before .before .before .before .before .before .before .args .turns .now) (c .before .before .before .before .before .before .before .before .before .before .args .marks .now) (c .before .before .before .before .before .before .loop .inv .1) (c .before .record-agrees .ensures .yes (not-false _ (c .if1 .left))))
+loop-again c =
+    let turn = to-in-loop (c .before) .before in
+    let start = to-start turn in (
+      omega arith,
+      record-next (start .args .deadlines .now) (start .args .turns .now) (start .args .marks .now) (turn .loop .inv .1)
+          (c .before .record-agrees .ensures .yes (not-false _ (c .if1 .left))),
+    )
 
 returns-2 : tie.Need-returns-2 Inv-loop μ-loop
 returns-2 c = tells-yes (λ i h. c .before .loop .inv .1 i (omega (arith, h)))

@@ -39,13 +39,17 @@ loop-less : tie.Need-loop-less Inv-loop μ-loop
 loop-less c = search needs
 
 loop-again : tie.Need-loop-again Inv-loop μ-loop
-loop-again c = (
-  omega arith,
-  ⊎-elim
-      (λ w. subst (HasBelow _ _) (sym (w .2 ∙ w .1 .ensures)) (row-taken (c .before .before .before .loop .inv .1) (c .before .before .loop-test .taken) (has-head (c .before .before .before .before .args .heads .now) (c .before .before .before .before .args .level) (c .before .before .before .loop .slot) (w .0 .taken))))
-      (λ w. subst (HasBelow _ _) (sym (w .1)) (row-passed (c .before .before .before .loop .inv .1) (no-head (c .before .before .before .before .args .heads .now) (c .before .before .before .before .args .level) (c .before .before .before .loop .slot) (w .0 .left))))
-      (c .if1 .came),
-)
+loop-again c =
+    let start = c .before .before .before .before in (
+      omega arith,
+      ⊎-elim
+          (λ w. subst (HasBelow _ _) (sym (w .2 ∙ w .1 .ensures))
+          (row-taken (c .before .before .before .loop .inv .1) (c .before .before .loop-test .taken)
+          (has-head (start .args .heads .now) (start .args .level) (c .before .before .before .loop .slot) (w .0 .taken))))
+          (λ w. subst (HasBelow _ _) (sym (w .1)) (row-passed (c .before .before .before .loop .inv .1)
+          (no-head (start .args .heads .now) (start .args .level) (c .before .before .before .loop .slot) (w .0 .left))))
+          (c .if1 .came),
+    )
 
 returns : tie.Need-returns Inv-loop μ-loop
 returns c = row-done (c .before .loop .inv .1) (c .loop-test .left)

@@ -28,7 +28,8 @@ row-of-requires : tie.Need-row-of-requires Inv-loop μ-loop
 row-of-requires c κs = search needs
 
 returns : tie.Need-returns Inv-loop μ-loop
-returns c = tells-no (λ R. c .if1 .taken (R .row _ (c .before .before .loop-test .taken) ∙ sym (c .before .row-of .ensures)))
+returns c =
+    tells-no (λ R. c .if1 .taken (R .row _ (c .before .before .loop-test .taken) ∙ sym (c .before .row-of .ensures)))
 
 add-level : tie.Need-add-level Inv-loop μ-loop
 add-level c = search needs
@@ -37,10 +38,13 @@ loop-less : tie.Need-loop-less Inv-loop μ-loop
 loop-less c = search needs
 
 loop-again : tie.Need-loop-again Inv-loop μ-loop
-loop-again c = (omega arith, row-next (c .before .before .before .before .args .t1) (c .before .before .before .before .args .heads .now) (c .before .before .before .loop .inv .1) (c .if1 .left ∙ c .before .row-of .ensures))
+loop-again c =
+    let start = c .before .before .before .before in
+    (omega arith, row-next (start .args .t1) (start .args .heads .now) (c .before .before .before .loop .inv .1) (c .if1 .left ∙ c .before .row-of .ensures))
 
 returns-2 : tie.Need-returns-2 Inv-loop μ-loop
-returns-2 c = tells-yes (record { six = c .before .before .good .0 .1 .0 .1; row = λ k h. c .before .loop .inv .1 k (omega (arith, h)) })
+returns-2 c =
+    tells-yes (record { six = c .before .before .good .0 .1 .0 .1; row = λ k h. c .before .loop .inv .1 k (omega (arith, h)) })
 
 pub rows-agree-spec : {M : Type 1} → statement M
 rows-agree-spec =

@@ -1,8 +1,24 @@
--- `cancel_twice` meets its contract: the claims of its two calls go into one law, `cancels`, and the rest is found.
+-- `cancel_twice` meets its contract: the claims of its two calls go into one law, `cancels-on`, and the rest is found.
 use borrow.Author.Needs.{needs}
-use Rattle.lending.specs.Lending.{cancels}
+use Rattle.lending.specs.Lending.{cancels-on}
 use Rattle.lending.proofs.cancel_twice.Statement.{statement}
 use Rattle.lending.proofs.cancel_twice.Tie as tie
+
+abbrev to-remove2 : tie.After-slice-known12 → tie.After-remove2
+to-remove2 c =
+    let a = c .before .before .before .before in
+    a .before .before .before .before
+
+abbrev to-rows-of : tie.After-remove2 → tie.After-rows-of
+to-rows-of c =
+    let a = c .before .before .before .before in
+    a .before
+
+abbrev to-remove : tie.After-rows-of → tie.After-remove
+to-remove c =
+    let a = c .before .before .before .before in
+    let b = a .before .before .before .before in
+    b .before .before .before
 
 remove-requires : tie.Need-remove-requires
 remove-requires c κs = search needs
@@ -26,7 +42,10 @@ same-length-4 : tie.Need-same-length-4
 same-length-4 c = search needs
 
 returns : tie.Need-returns
-returns c = cancels (c .before .before .before .before .before .before .before .before .before .before .before .before .before .before .before .before .before .before .before .before .before .before .before .before .remove .ensures) (rw (c .before .before .before .before .before .before .before .before .before .before .before .before .before .rows-of .ensures) at (c .before .before .before .before .before .before .before .before .remove2 .ensures))
+returns c =
+    let at-remove2 = to-remove2 c in
+    let at-rows-of = to-rows-of at-remove2 in
+    cancels-on (to-remove at-rows-of .remove .ensures) (at-rows-of .rows-of .ensures) (at-remove2 .remove2 .ensures)
 
 pub cancel-twice-spec : {M : Type 1} → statement M
 cancel-twice-spec =

@@ -15,6 +15,14 @@ Inv-loop nexts prevs marks n count₀ i₀ count i = (i ≤ n) × (count ≤ i) 
 abbrev μ-loop : tie.MeasureT-loop
 μ-loop nexts prevs marks n count₀ i₀ count i = n - i
 
+abbrev to-at-loop : tie.After-is-loose Inv-loop μ-loop → tie.At-loop Inv-loop μ-loop
+to-at-loop c =
+    let a = c .before .before .before .before in
+    a .before
+
+abbrev to-start : tie.At-loop Inv-loop μ-loop → tie.Start Inv-loop μ-loop
+to-start c = c .before .before .before .before
+
 loop-holds : tie.Need-loop-holds Inv-loop μ-loop
 loop-holds c = (omega arith, omega arith, sym (loose-zero _ _ _))
 
@@ -53,13 +61,21 @@ loop-less c = search needs
 
 loop-again : tie.Need-loop-again Inv-loop μ-loop
 loop-again c =
+    let turn = to-at-loop (c .before) in
     ⊎-elim
-    (λ w. (omega arith, omega arith, w .1 ∙ ap (λ (x : ℕ). x + 1) (c .before .before .before .before .before .before .loop .inv .2) ∙ sym (loose-more _ _ _ _ (sym (c .before .is-loose .ensures) ∙ w .0 .taken))))
-    (λ w. (omega arith, omega arith, w .1 ∙ c .before .before .before .before .before .before .loop .inv .2 ∙ sym (loose-same _ _ _ _ (sym (c .before .is-loose .ensures) ∙ w .0 .left))))
+    (λ w. (
+      omega arith,
+      omega arith,
+      w .1 ∙ ap (λ (x : ℕ). x + 1) (turn .loop .inv .2)
+          ∙ sym (loose-more _ _ _ _ (sym (c .before .is-loose .ensures) ∙ w .0 .taken)),
+    ))
+    (λ w. (omega arith, omega arith, w .1 ∙ turn .loop .inv .2 ∙ sym (loose-same _ _ _ _ (sym (c .before .is-loose .ensures) ∙ w .0 .left))))
     (c .if1 .came)
 
 returns : tie.Need-returns Inv-loop μ-loop
-returns c = let e : c .before .loop .i ≡ c .before .before .before .before .before .args .n = omega arith in c .before .loop .inv .2 ∙ ap (looseIn _ _ _) e
+returns c =
+    let e : c .before .loop .i ≡ to-start (c .before) .args .n = omega arith in
+    c .before .loop .inv .2 ∙ ap (looseIn _ _ _) e
 
 pub count-loose-spec : {M : Type 1} → statement M
 count-loose-spec =

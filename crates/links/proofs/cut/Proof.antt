@@ -5,6 +5,11 @@ use Rattle.links.specs.Links.{cut-is, headAfter}
 use Rattle.links.proofs.cut.Statement.{statement}
 use Rattle.links.proofs.cut.Tie as tie
 
+abbrev to-put : tie.After-slice-known7 → tie.After-put
+to-put c =
+    let a = c .before .before .before .before in
+    a .before .before
+
 mul-before : tie.Need-mul-before
 mul-before c = search needs
 
@@ -52,7 +57,8 @@ same-length-3 c = search needs
 
 returns : tie.Need-returns
 unfolding headAfter
-returns c = (simp (eq-eqb _ _ (c .if1 .taken)), cut-is _ _ (c .before .before .before .before .before .before .before .put .ensures) (c .before .before .before .put2 .ensures))
+returns c =
+    (simp (eq-eqb _ _ (c .if1 .taken)), cut-is _ _ (to-put (c .before) .put .ensures) (c .before .before .before .put2 .ensures))
 
 same-length-4 : tie.Need-same-length-4
 same-length-4 c = search needs
@@ -65,7 +71,8 @@ same-length-6 c = search needs
 
 returns-2 : tie.Need-returns-2
 unfolding headAfter
-returns-2 c = (simp (ne-eqb _ _ (c .if1 .left)), cut-is _ _ (c .before .before .before .before .before .before .before .put .ensures) (c .before .before .before .put2 .ensures))
+returns-2 c =
+    (simp (ne-eqb _ _ (c .if1 .left)), cut-is _ _ (to-put (c .before) .put .ensures) (c .before .before .before .put2 .ensures))
 
 pub cut-spec : {M : Type 1} → statement M
 cut-spec =

@@ -15,6 +15,9 @@ Inv-loop nexts prevs marks n p h room left₀ prev₀ i₀ left prev i =
 abbrev μ-loop : tie.MeasureT-loop
 μ-loop nexts prevs marks n p h room left₀ prev₀ i₀ left prev i = left
 
+abbrev to-else1 : tie.After-shared-slice-known Inv-loop μ-loop → tie.Else1 Inv-loop μ-loop
+to-else1 c = c .before .before
+
 loop-holds : tie.Need-loop-holds Inv-loop μ-loop
 loop-holds c = search needs
 
@@ -22,10 +25,12 @@ cast-k : tie.Need-cast-k Inv-loop μ-loop
 cast-k c = search needs
 
 returns : tie.Need-returns Inv-loop μ-loop
-returns c = sym (scan-full _ _ _ _ _ _ _ _ (c .before .loop-test .taken) (c .if1 .taken)) ∙ c .before .before .loop .inv .1
+returns c =
+    sym (scan-full _ _ _ _ _ _ _ _ (c .before .loop-test .taken) (c .if1 .taken)) ∙ c .before .before .loop .inv .1
 
 returns-2 : tie.Need-returns-2 Inv-loop μ-loop
-returns-2 c = sym (scan-far _ _ _ _ _ _ _ _ (c .before .before .loop-test .taken) (c .if2 .taken)) ∙ c .before .before .before .loop .inv .1
+returns-2 c =
+    sym (scan-far _ _ _ _ _ _ _ _ (c .before .before .loop-test .taken) (c .if2 .taken)) ∙ c .before .before .before .loop .inv .1
 
 mul-if3 : tie.Need-mul-if3 Inv-loop μ-loop
 mul-if3 c = search needs
@@ -34,7 +39,9 @@ shared-slice-read-if3 : tie.Need-shared-slice-read-if3 Inv-loop μ-loop
 shared-slice-read-if3 c = search needs
 
 returns-3 : tie.Need-returns-3 Inv-loop μ-loop
-returns-3 c = sym (scan-mark _ _ _ _ _ _ _ _ (c .before .before .before .before .loop-test .taken) (c .if3 .taken)) ∙ c .before .before .before .before .before .loop .inv .1
+returns-3 c =
+    let in-loop = c .before .before .before .before in
+    sym (scan-mark _ _ _ _ _ _ _ _ (in-loop .loop-test .taken) (c .if3 .taken)) ∙ in-loop .before .loop .inv .1
 
 mul-if4 : tie.Need-mul-if4 Inv-loop μ-loop
 mul-if4 c = search needs
@@ -43,7 +50,9 @@ shared-slice-read-if4 : tie.Need-shared-slice-read-if4 Inv-loop μ-loop
 shared-slice-read-if4 c = search needs
 
 returns-4 : tie.Need-returns-4 Inv-loop μ-loop
-returns-4 c = sym (scan-prev _ _ _ _ _ _ _ _ (c .before .before .before .before .before .before .loop-test .taken) (c .if4 .taken)) ∙ c .before .before .before .before .before .before .before .loop .inv .1
+returns-4 c =
+    let in-loop = to-else1 (c .before .before .before) .before in
+    sym (scan-prev _ _ _ _ _ _ _ _ (in-loop .loop-test .taken) (c .if4 .taken)) ∙ in-loop .before .loop .inv .1
 
 sub-left : tie.Need-sub-left Inv-loop μ-loop
 sub-left c = search needs
@@ -58,7 +67,13 @@ loop-less : tie.Need-loop-less Inv-loop μ-loop
 loop-less c = search needs
 
 loop-again : tie.Need-loop-again Inv-loop μ-loop
-loop-again c = (omega (arith, c .shared-slice-known3 .given (c .before .before .before .before .before .before .before .before .loop .i)), sym (scan-go _ _ _ _ _ _ _ _ (c .before .before .before .before .before .before .before .loop-test .taken) (omega arith) (omega arith) (c .before .before .before .if3 .left) (c .before .if4 .left)) ∙ c .before .before .before .before .before .before .before .before .loop .inv .1)
+loop-again c =
+    let in-loop = to-else1 (c .before .before .before .before) .before in
+    let turn = in-loop .before in (
+      omega (arith, c .shared-slice-known3 .given (turn .loop .i)),
+      sym (scan-go _ _ _ _ _ _ _ _ (in-loop .loop-test .taken) (omega arith) (omega arith) (c .before .before .before .if3 .left) (c .before .if4 .left))
+          ∙ turn .loop .inv .1,
+    )
 
 returns-5 : tie.Need-returns-5 Inv-loop μ-loop
 returns-5 c = sym (scan-end _ _ _ _ _ _ _ _ (c .loop-test .left)) ∙ c .before .loop .inv .1

@@ -3,22 +3,39 @@ use borrow.Author.Needs.{needs}
 use mathlib.Core.Path.{_≡_, refl}
 use Prim.Native.Nat.{_≤_, _-_}
 use native.Mathlib.Omega.{arith}
-use Rattle.records.specs.Words.{words, count}
+use Rattle.records.specs.Words.{parts, count}
 use Rattle.queue.specs.PollLaws.{ClearedSo, clear-none, clear-turn, clear-done}
 use Rattle.queue.proofs.clear.Statement.{statement}
 use Rattle.queue.proofs.clear.Tie as tie
 
 abbrev Inv-loop : tie.InvT-loop
-Inv-loop heads₀ values deadlines nexts₀ prevs₀ turns₀ marks₀ n w₀ i₀ heads nexts prevs turns marks w i =
+Inv-loop elapsed rows₀ tops₀ heads₀ values deadlines nexts₀ prevs₀ turns₀ marks₀ n i₀ rows tops heads nexts prevs turns marks i =
     (i ≤ n)
-    × (n ≡ count (words w₀ heads₀ values deadlines nexts₀ prevs₀ turns₀ marks₀))
-    × ClearedSo (words w₀ heads₀ values deadlines nexts₀ prevs₀ turns₀ marks₀) i (words w heads values deadlines nexts prevs turns marks)
+    × (n ≡ count (parts elapsed rows₀ tops₀ heads₀ values deadlines nexts₀ prevs₀ turns₀ marks₀))
+    × ClearedSo (parts elapsed rows₀ tops₀ heads₀ values deadlines nexts₀ prevs₀ turns₀ marks₀)
+    i (parts elapsed rows tops heads values deadlines nexts prevs turns marks)
 
 abbrev μ-loop : tie.MeasureT-loop
-μ-loop heads₀ values deadlines nexts₀ prevs₀ turns₀ marks₀ n w₀ i₀ heads nexts prevs turns marks w i = n - i
+μ-loop elapsed rows₀ tops₀ heads₀ values deadlines nexts₀ prevs₀ turns₀ marks₀ n i₀ rows tops heads nexts prevs turns marks i = n - i
+
+abbrev to-start : tie.After-n Inv-loop μ-loop → tie.Start Inv-loop μ-loop
+to-start c =
+    let a = c .before .before .before .before in
+    a .before .before .before
+
+abbrev to-clear-one : tie.After-slice-known8 Inv-loop μ-loop → tie.After-clear-one Inv-loop μ-loop
+to-clear-one c =
+    let a = c .before .before .before .before in
+    a .before .before .before .before
+
+abbrev to-at-loop : tie.After-clear-one Inv-loop μ-loop → tie.At-loop Inv-loop μ-loop
+to-at-loop c =
+    let a = c .before .before .before .before in
+    let b = a .before .before .before .before in
+    b .before
 
 loop-holds : tie.Need-loop-holds Inv-loop μ-loop
-loop-holds c = (omega arith, refl, clear-none (c .before .before .before .before .before .before .before .pre))
+loop-holds c = (omega arith, refl, clear-none (to-start c .pre))
 
 clear-one-requires : tie.Need-clear-one-requires Inv-loop μ-loop
 clear-one-requires c κs = search needs
@@ -30,11 +47,13 @@ loop-less : tie.Need-loop-less Inv-loop μ-loop
 loop-less c = search needs
 
 loop-again : tie.Need-loop-again Inv-loop μ-loop
-loop-again c = (
-  omega arith,
-  c .before .before .before .before .before .before .before .before .before .before .before .before .before .before .before .loop .inv .1,
-  clear-turn (c .before .before .before .before .before .before .before .before .before .before .before .before .before .before .before .loop .inv .2) (search needs) (c .before .before .before .before .before .before .before .before .clear-one .ensures),
-)
+loop-again c =
+    let at-clear-one = to-clear-one c in
+    let turn = to-at-loop at-clear-one in (
+      omega arith,
+      turn .loop .inv .1,
+      clear-turn (turn .loop .inv .2) (search needs) (at-clear-one .clear-one .ensures),
+    )
 
 same-length : tie.Need-same-length Inv-loop μ-loop
 same-length c = search needs
@@ -51,12 +70,16 @@ same-length-4 c = search needs
 returns : tie.Need-returns Inv-loop μ-loop
 returns c = clear-done (c .before .loop .inv .2) (omega arith)
 
+element-copy-out-n : tie.Need-element-copy-out-n Inv-loop μ-loop
+element-copy-out-n c = search needs
+
 pub clear-spec : {M : Type 1} → statement M
 clear-spec =
     tie.close
     (tie.spec
     Inv-loop
     μ-loop
+    element-copy-out-n
     loop-holds
     clear-one-requires
     add-i

@@ -4,6 +4,28 @@ use Rattle.queue.specs.PollLaws.{clear-stays, clear-leaves, clear-frees,
 use Rattle.queue.proofs.clear_one.Statement.{statement}
 use Rattle.queue.proofs.clear_one.Tie as tie
 
+abbrev to-start : tie.After-slice-known5 → tie.Start
+to-start c =
+    let a = c .before .before .before .before in
+    a .before .before .before
+
+abbrev to-else1 : tie.After-remove-arg6 → tie.Else1
+to-else1 c =
+    let a = c .before .before .before .before in
+    a .before .before
+
+abbrev to-remove : tie.After-leave-arg7 → tie.After-remove
+to-remove c =
+    let a = c .before .before .before .before in
+    let b = a .before .before .before .before in
+    let d = b .before .before .before .before in
+    d .before
+
+abbrev to-leave : tie.After-slice-known12 → tie.After-leave
+to-leave c =
+    let a = c .before .before .before .before in
+    a .before .before .before .before
+
 mul-if1 : tie.Need-mul-if1
 mul-if1 c = search needs
 
@@ -11,13 +33,22 @@ slice-read-if1 : tie.Need-slice-read-if1
 slice-read-if1 c = search needs
 
 returns : tie.Need-returns
-returns c = clear-stays (c .before .before .before .before .before .before .before .before .pre .0) (c .before .before .before .before .before .before .before .before .pre .1) (c .if1 .taken)
+returns c =
+    let start = to-start (c .before) in
+    clear-stays (start .pre .0) (start .pre .1) (c .if1 .taken)
 
 remove-requires : tie.Need-remove-requires
-remove-requires c κs = clear-leaves (c .before .before .before .before .before .before .before .before .before .before .before .before .pre .0) (c .before .before .before .before .before .before .before .before .before .before .before .before .pre .1) (c .before .before .before .before .if1 .left)
+remove-requires c κs =
+    let else1 = to-else1 c in
+    let start = to-start (else1 .before) in
+    clear-leaves (start .pre .0) (start .pre .1) (else1 .if1 .left)
 
 leave-requires : tie.Need-leave-requires
-leave-requires c κs = clear-frees (c .before .before .before .before .before .before .before .before .before .before .before .before .before .before .before .before .before .before .before .before .before .before .before .before .pre .0) (c .before .before .before .before .before .before .before .before .before .before .before .before .before .before .before .before .before .before .before .before .before .before .before .before .pre .1) (c .before .before .before .before .before .before .before .before .before .before .before .before .before .before .before .before .if1 .left) (c .before .before .before .before .before .before .before .before .before .before .before .remove .ensures)
+leave-requires c κs =
+    let at-remove = to-remove c in
+    let else1 = to-else1 (at-remove .before) in
+    let start = to-start (else1 .before) in
+    clear-frees (start .pre .0) (start .pre .1) (else1 .if1 .left) (at-remove .remove .ensures)
 
 same-length : tie.Need-same-length
 same-length c = search needs
@@ -32,7 +63,12 @@ same-length-4 : tie.Need-same-length-4
 same-length-4 c = search needs
 
 returns-2 : tie.Need-returns-2
-returns-2 c = clear-goes (c .before .before .before .before .before .before .before .before .before .before .before .before .before .before .before .before .before .before .before .before .before .before .before .before .before .before .before .before .before .before .before .before .before .pre .0) (c .before .before .before .before .before .before .before .before .before .before .before .before .before .before .before .before .before .before .before .before .before .before .before .before .before .before .before .before .before .before .before .before .before .pre .1) (c .before .before .before .before .before .before .before .before .before .before .before .before .before .before .before .before .before .before .before .before .before .before .before .before .before .if1 .left) (c .before .before .before .before .before .before .before .before .before .before .before .before .before .before .before .before .before .before .before .before .remove .ensures) (c .before .before .before .before .before .before .before .before .leave .ensures)
+returns-2 c =
+    let at-leave = to-leave c in
+    let at-remove = to-remove (at-leave .before) in
+    let else1 = to-else1 (at-remove .before) in
+    let start = to-start (else1 .before) in
+    clear-goes (start .pre .0) (start .pre .1) (else1 .if1 .left) (at-remove .remove .ensures) (at-leave .leave .ensures)
 
 pub clear-one-spec : {M : Type 1} → statement M
 clear-one-spec =

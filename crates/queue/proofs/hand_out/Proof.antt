@@ -5,32 +5,59 @@ use Rattle.queue.specs.PollLaws.{out-words, out-frees, out-done}
 use Rattle.queue.proofs.hand_out.Statement.{statement}
 use Rattle.queue.proofs.hand_out.Tie as tie
 
+abbrev to-start : tie.After-slice-known5 → tie.Start
+to-start c =
+    let a = c .before .before .before .before in
+    a .before .before .before
+
+abbrev to-shared-slice-known4 : tie.After-leave-arg6 → tie.After-shared-slice-known4
+to-shared-slice-known4 c =
+    let a = c .before .before .before .before in
+    a .before .before
+
+abbrev to-leave : tie.After-slice-known9 → tie.After-leave
+to-leave c =
+    let a = c .before .before .before .before in
+    a .before .before .before .before
+
 mul-key : tie.Need-mul-key
 mul-key c = search needs
 
 slice-read-key : tie.Need-slice-read-key
-slice-read-key c = out-words (c .before .before .before .before .before .before .before .pre .0) (c .before .before .before .before .before .before .before .pre .1) .2
+slice-read-key c =
+    let start = to-start c in
+    out-words (start .pre .0) (start .pre .1) .2
 
 mul-key-2 : tie.Need-mul-key-2
-mul-key-2 c = omega (arith, out-words (c .before .before .before .before .before .before .before .pre .0) (c .before .before .before .before .before .before .before .pre .1) .3)
+mul-key-2 c =
+    let start = to-start c in
+    omega (arith, out-words (start .pre .0) (start .pre .1) .3)
 
 add-key : tie.Need-add-key
-add-key c = omega (arith, out-words (c .before .before .before .before .before .before .before .pre .0) (c .before .before .before .before .before .before .before .pre .1) .3)
+add-key c =
+    let start = to-start c in
+    omega (arith, out-words (start .pre .0) (start .pre .1) .3)
 
 mul-value : tie.Need-mul-value
 mul-value c = search needs
 
 shared-slice-read-value : tie.Need-shared-slice-read-value
-shared-slice-read-value c = out-words (c .before .before .before .before .before .before .before .before .pre .0) (c .before .before .before .before .before .before .before .before .pre .1) .0
+shared-slice-read-value c =
+    let start = to-start (c .before) in
+    out-words (start .pre .0) (start .pre .1) .0
 
 mul-deadline : tie.Need-mul-deadline
 mul-deadline c = search needs
 
 shared-slice-read-deadline : tie.Need-shared-slice-read-deadline
-shared-slice-read-deadline c = out-words (c .before .before .before .before .before .before .before .before .before .pre .0) (c .before .before .before .before .before .before .before .before .before .pre .1) .1
+shared-slice-read-deadline c =
+    let start = to-start (c .before .before) in
+    out-words (start .pre .0) (start .pre .1) .1
 
 leave-requires : tie.Need-leave-requires
-leave-requires c κs = out-frees (c .before .before .before .before .before .before .before .before .before .before .before .before .before .before .pre .0) (c .before .before .before .before .before .before .before .before .before .before .before .before .before .before .pre .1)
+leave-requires c κs =
+    let start = to-start (to-shared-slice-known4 c .before .before) in
+    out-frees (start .pre .0) (start .pre .1)
 
 same-length : tie.Need-same-length
 same-length c = search needs
@@ -45,7 +72,10 @@ same-length-4 : tie.Need-same-length-4
 same-length-4 c = search needs
 
 returns : tie.Need-returns
-returns c = out-done (c .before .before .before .before .before .before .before .before .before .before .before .before .before .before .before .before .before .before .before .before .before .before .before .pre .0) (c .before .before .before .before .before .before .before .before .before .before .before .before .before .before .before .before .before .before .before .before .before .before .before .pre .1) _ _ (c .before .before .before .before .before .before .before .before .leave .ensures)
+returns c =
+    let at-leave = to-leave c in
+    let start = to-start (to-shared-slice-known4 (at-leave .before) .before .before) in
+    out-done (start .pre .0) (start .pre .1) _ _ (at-leave .leave .ensures)
 
 pub hand-out-spec : {M : Type 1} → statement M
 hand-out-spec =

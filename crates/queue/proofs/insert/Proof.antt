@@ -6,17 +6,45 @@ use Rattle.queue.specs.CallLaws.{insert-full, insert-refused, insert-wor
 use Rattle.queue.proofs.insert.Statement.{statement}
 use Rattle.queue.proofs.insert.Tie as tie
 
+abbrev to-start : tie.After-if12 → tie.Start
+to-start c =
+    let a = c .before .before .before .before in
+    a .before .before .before
+
+abbrev to-else2 : tie.After-pop-arg6 → tie.Else2
+to-else2 c =
+    let a = c .before .before .before .before in
+    a .before .before
+
+abbrev to-pop : tie.After-slice-known8 → tie.After-pop
+to-pop c =
+    let a = c .before .before .before .before in
+    a .before .before
+
+abbrev to-shared-slice-known2 : tie.After-place-arg7 → tie.After-shared-slice-known2
+to-shared-slice-known2 c =
+    let a = c .before .before .before .before in
+    a .before .before .before
+
+abbrev to-place : tie.After-slice-known12 → tie.After-place
+to-place c =
+    let a = c .before .before .before .before in
+    a .before .before .before .before
+
 returns : tie.Need-returns
-returns c = insert-full (c .before .before .before .before .before .before .before .before .before .pre) _ _ (c .if1 .taken)
+returns c = insert-full (to-start (c .before) .pre) _ _ (c .if1 .taken)
 
 deadline-no-requires : tie.Need-deadline-no-requires
 deadline-no-requires c κs = search needs
 
 returns-2 : tie.Need-returns-2
-returns-2 c = insert-refused (c .before .before .before .before .before .before .before .before .before .before .before .pre) _ _ (c .before .before .if1 .left) (c .before .deadline-no .ensures) (c .if2 .taken)
+returns-2 c =
+    insert-refused (to-start (c .before .before .before) .pre) _ _ (c .before .before .if1 .left) (c .before .deadline-no .ensures) (c .if2 .taken)
 
 pop-requires : tie.Need-pop-requires
-pop-requires c κs = (c .before .before .before .before .before .before .before .before .before .before .before .before .before .before .before .pre .whole, omega arith, omega arith)
+pop-requires c κs =
+    let start = to-start (to-else2 c .before .before .before) in
+    (start .pre .whole, omega arith, omega arith)
 
 cast-values : tie.Need-cast-values
 cast-values c = search needs
@@ -25,7 +53,13 @@ mul-values : tie.Need-mul-values
 mul-values c = search needs
 
 slice-write-values : tie.Need-slice-write-values
-slice-write-values c = insert-words (c .before .before .before .before .before .before .before .before .before .before .before .before .before .before .before .before .before .before .before .before .before .before .before .pre) 0 _ (c .before .before .before .before .before .before .before .before .before .before .before .before .before .before .if1 .left) (c .before .before .before .before .before .before .before .before .before .before .before .before .before .deadline-no .ensures) (c .before .before .before .before .before .before .before .before .before .before .before .before .if2 .left) (c .before .before .before .before .before .before .before .pop .ensures) .0
+slice-write-values c =
+    let at-pop = to-pop c in
+    let else2 = to-else2 (at-pop .before) in
+    let at-deadline-no = else2 .before in
+    let else1 = at-deadline-no .before in
+    insert-words (to-start (else1 .before) .pre) 0 _ (else1 .if1 .left) (at-deadline-no .deadline-no .ensures) (else2 .if2 .left)
+    (at-pop .pop .ensures) .0
 
 cast-key : tie.Need-cast-key
 cast-key c = search needs
@@ -34,19 +68,49 @@ mul-key : tie.Need-mul-key
 mul-key c = search needs
 
 shared-slice-read-key : tie.Need-shared-slice-read-key
-shared-slice-read-key c = insert-words (c .before .before .before .before .before .before .before .before .before .before .before .before .before .before .before .before .before .before .before .before .before .before .before .before .pre) 0 _ (c .before .before .before .before .before .before .before .before .before .before .before .before .before .before .before .if1 .left) (c .before .before .before .before .before .before .before .before .before .before .before .before .before .before .deadline-no .ensures) (c .before .before .before .before .before .before .before .before .before .before .before .before .before .if2 .left) (c .before .before .before .before .before .before .before .before .pop .ensures) .1
+shared-slice-read-key c =
+    let at-pop = to-pop (c .before) in
+    let else2 = to-else2 (at-pop .before) in
+    let at-deadline-no = else2 .before in
+    let else1 = at-deadline-no .before in
+    insert-words (to-start (else1 .before) .pre) 0 _ (else1 .if1 .left) (at-deadline-no .deadline-no .ensures) (else2 .if2 .left)
+    (at-pop .pop .ensures) .1
 
 mul-key-2 : tie.Need-mul-key-2
-mul-key-2 c = omega (arith, insert-words (c .before .before .before .before .before .before .before .before .before .before .before .before .before .before .before .before .before .before .before .before .before .before .before .before .pre) 0 _ (c .before .before .before .before .before .before .before .before .before .before .before .before .before .before .before .if1 .left) (c .before .before .before .before .before .before .before .before .before .before .before .before .before .before .deadline-no .ensures) (c .before .before .before .before .before .before .before .before .before .before .before .before .before .if2 .left) (c .before .before .before .before .before .before .before .before .pop .ensures) .2)
+mul-key-2 c =
+    let at-pop = to-pop (c .before) in
+    let else2 = to-else2 (at-pop .before) in
+    let at-deadline-no = else2 .before in
+    let else1 = at-deadline-no .before in
+    omega (
+      arith,
+      insert-words (to-start (else1 .before) .pre) 0 _ (else1 .if1 .left) (at-deadline-no .deadline-no .ensures) (else2 .if2 .left)
+          (at-pop .pop .ensures) .2,
+    )
 
 cast-key-2 : tie.Need-cast-key-2
 cast-key-2 c = search needs
 
 add-key : tie.Need-add-key
-add-key c = omega (arith, insert-words (c .before .before .before .before .before .before .before .before .before .before .before .before .before .before .before .before .before .before .before .before .before .before .before .before .pre) 0 _ (c .before .before .before .before .before .before .before .before .before .before .before .before .before .before .before .if1 .left) (c .before .before .before .before .before .before .before .before .before .before .before .before .before .before .deadline-no .ensures) (c .before .before .before .before .before .before .before .before .before .before .before .before .before .if2 .left) (c .before .before .before .before .before .before .before .before .pop .ensures) .2)
+add-key c =
+    let at-pop = to-pop (c .before) in
+    let else2 = to-else2 (at-pop .before) in
+    let at-deadline-no = else2 .before in
+    let else1 = at-deadline-no .before in
+    omega (
+      arith,
+      insert-words (to-start (else1 .before) .pre) 0 _ (else1 .if1 .left) (at-deadline-no .deadline-no .ensures) (else2 .if2 .left)
+          (at-pop .pop .ensures) .2,
+    )
 
 place-requires : tie.Need-place-requires
-place-requires c κs = insert-place (c .before .before .before .before .before .before .before .before .before .before .before .before .before .before .before .before .before .before .before .before .before .before .before .before .before .before .before .before .before .pre) 0 _ (c .before .before .before .before .before .before .before .before .before .before .before .before .before .before .before .before .before .before .before .before .if1 .left) (c .before .before .before .before .before .before .before .before .before .before .before .before .before .before .before .before .before .before .before .deadline-no .ensures) (c .before .before .before .before .before .before .before .before .before .before .before .before .before .before .before .before .before .before .if2 .left) (c .before .before .before .before .before .before .before .before .before .before .before .before .before .pop .ensures)
+place-requires c κs =
+    let at-pop = to-pop (to-shared-slice-known2 c .before) in
+    let else2 = to-else2 (at-pop .before) in
+    let at-deadline-no = else2 .before in
+    let else1 = at-deadline-no .before in
+    insert-place (to-start (else1 .before) .pre) 0 _ (else1 .if1 .left) (at-deadline-no .deadline-no .ensures) (else2 .if2 .left)
+    (at-pop .pop .ensures)
 
 same-length : tie.Need-same-length
 same-length c = search needs
@@ -64,12 +128,23 @@ same-length-5 : tie.Need-same-length-5
 same-length-5 c = search needs
 
 returns-3 : tie.Need-returns-3
-returns-3 c = insert-done (c .before .before .before .before .before .before .before .before .before .before .before .before .before .before .before .before .before .before .before .before .before .before .before .before .before .before .before .before .before .before .before .before .before .before .before .before .before .before .pre) _ _ (c .before .before .before .before .before .before .before .before .before .before .before .before .before .before .before .before .before .before .before .before .before .before .before .before .before .before .before .before .before .if1 .left) (c .before .before .before .before .before .before .before .before .before .before .before .before .before .before .before .before .before .before .before .before .before .before .before .before .before .before .before .before .deadline-no .ensures) (c .before .before .before .before .before .before .before .before .before .before .before .before .before .before .before .before .before .before .before .before .before .before .before .before .before .before .before .if2 .left) (c .before .before .before .before .before .before .before .before .before .before .before .before .before .before .before .before .before .before .before .before .before .before .pop .ensures) _ refl (c .before .before .before .before .before .before .before .before .place .ensures)
+returns-3 c =
+    let at-place = to-place c in
+    let at-pop = to-pop (to-shared-slice-known2 (at-place .before) .before) in
+    let else2 = to-else2 (at-pop .before) in
+    let at-deadline-no = else2 .before in
+    let else1 = at-deadline-no .before in
+    insert-done (to-start (else1 .before) .pre) _ _ (else1 .if1 .left) (at-deadline-no .deadline-no .ensures) (else2 .if2 .left)
+    (at-pop .pop .ensures) _ refl (at-place .place .ensures)
+
+element-copy-out-if1 : tie.Need-element-copy-out-if1
+element-copy-out-if1 c = search needs
 
 pub insert-spec : {M : Type 1} → statement M
 insert-spec =
     tie.close
     (tie.spec
+    element-copy-out-if1
     returns
     deadline-no-requires
     returns-2

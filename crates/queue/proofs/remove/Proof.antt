@@ -6,8 +6,34 @@ use Rattle.queue.specs.CallLaws.{found-roomed, remove-dead, found-leaves
 use Rattle.queue.proofs.remove.Statement.{statement}
 use Rattle.queue.proofs.remove.Tie as tie
 
+abbrev to-start : tie.After-find-arg3 → tie.Start
+to-start c =
+    let a = c .before .before .before .before in
+    let b = a .before .before .before .before in
+    b .before
+
+abbrev to-find : tie.After-found → tie.After-find
+to-find c = c .before .before
+
+abbrev to-shared-slice-known4 : tie.After-remove-arg6 → tie.After-shared-slice-known4
+to-shared-slice-known4 c =
+    let a = c .before .before .before .before in
+    a .before .before
+
+abbrev to-remove : tie.After-leave-arg7 → tie.After-remove
+to-remove c =
+    let a = c .before .before .before .before in
+    let b = a .before .before .before .before in
+    let d = b .before .before .before .before in
+    d .before
+
+abbrev to-leave : tie.After-slice-known11 → tie.After-leave
+to-leave c =
+    let a = c .before .before .before .before in
+    a .before .before .before .before
+
 find-requires : tie.Need-find-requires
-find-requires c κs = found-roomed (c .before .before .before .before .before .before .before .before .before .pre)
+find-requires c κs = found-roomed (to-start c .pre)
 
 enum-known-found : tie.Need-enum-known-found
 enum-known-found c = search needs
@@ -22,7 +48,8 @@ same-length-2 : tie.Need-same-length-2
 same-length-2 c = search needs
 
 returns : tie.Need-returns
-returns c = remove-dead (c .before .before .before .before .before .before .before .before .before .before .before .before .pre) _ 0 (find-nowhere (c .before .before .find .ensures) (c .enum-told .given .1))
+returns c =
+    remove-dead (to-start (c .before .before .before) .pre) _ 0 (find-nowhere (c .before .before .find .ensures) (c .enum-told .given .1))
 
 cast-value : tie.Need-cast-value
 cast-value c = search needs
@@ -31,7 +58,9 @@ mul-value : tie.Need-mul-value
 mul-value c = search needs
 
 shared-slice-read-value : tie.Need-shared-slice-read-value
-shared-slice-read-value c = found-words (c .before .before .before .before .before .before .before .before .before .before .before .before .before .before .pre) _ 0 (find-at (c .before .before .before .before .find .ensures) _ (c .before .before .found .given .1)) .0
+shared-slice-read-value c =
+    let at-find = c .before .before .before .before in
+    found-words (to-start (at-find .before) .pre) _ 0 (find-at (at-find .find .ensures) _ (c .before .before .found .given .1)) .0
 
 cast-deadline : tie.Need-cast-deadline
 cast-deadline c = search needs
@@ -40,13 +69,22 @@ mul-deadline : tie.Need-mul-deadline
 mul-deadline c = search needs
 
 shared-slice-read-deadline : tie.Need-shared-slice-read-deadline
-shared-slice-read-deadline c = found-words (c .before .before .before .before .before .before .before .before .before .before .before .before .before .before .before .pre) _ 0 (find-at (c .before .before .before .before .before .find .ensures) _ (c .before .before .before .found .given .1)) .1
+shared-slice-read-deadline c =
+    let at-find = to-find (c .before .before .before) in
+    found-words (to-start (at-find .before) .pre) _ 0 (find-at (at-find .find .ensures) _ (c .before .before .before .found .given .1)) .1
 
 remove-requires : tie.Need-remove-requires
-remove-requires c κs = found-leaves (c .before .before .before .before .before .before .before .before .before .before .before .before .before .before .before .before .before .before .before .pre) _ 0 (find-at (c .before .before .before .before .before .before .before .before .before .find .ensures) _ (c .before .before .before .before .before .before .before .found .given .1))
+remove-requires c κs =
+    let at-found = to-shared-slice-known4 c .before .before .before in
+    let at-find = at-found .before .before in
+    found-leaves (to-start (at-find .before) .pre) _ 0 (find-at (at-find .find .ensures) _ (at-found .found .given .1))
 
 leave-requires : tie.Need-leave-requires
-leave-requires c κs = remove-frees (c .before .before .before .before .before .before .before .before .before .before .before .before .before .before .before .before .before .before .before .before .before .before .before .before .before .before .before .before .before .before .before .pre) _ 0 (find-at (c .before .before .before .before .before .before .before .before .before .before .before .before .before .before .before .before .before .before .before .before .before .find .ensures) _ (c .before .before .before .before .before .before .before .before .before .before .before .before .before .before .before .before .before .before .before .found .given .1)) (c .before .before .before .before .before .before .before .before .before .before .before .remove .ensures)
+leave-requires c κs =
+    let at-remove = to-remove c in
+    let at-found = to-shared-slice-known4 (at-remove .before) .before .before .before in
+    let at-find = at-found .before .before in
+    remove-frees (to-start (at-find .before) .pre) _ 0 (find-at (at-find .find .ensures) _ (at-found .found .given .1)) (at-remove .remove .ensures)
 
 same-length-3 : tie.Need-same-length-3
 same-length-3 c = search needs
@@ -61,12 +99,22 @@ same-length-6 : tie.Need-same-length-6
 same-length-6 c = search needs
 
 returns-2 : tie.Need-returns-2
-returns-2 c = remove-done (c .before .before .before .before .before .before .before .before .before .before .before .before .before .before .before .before .before .before .before .before .before .before .before .before .before .before .before .before .before .before .before .before .before .before .before .before .before .before .before .before .pre) _ 0 (find-at (c .before .before .before .before .before .before .before .before .before .before .before .before .before .before .before .before .before .before .before .before .before .before .before .before .before .before .before .before .before .before .find .ensures) _ (c .before .before .before .before .before .before .before .before .before .before .before .before .before .before .before .before .before .before .before .before .before .before .before .before .before .before .before .before .found .given .1)) (c .before .before .before .before .before .before .before .before .before .before .before .before .before .before .before .before .before .before .before .before .remove .ensures) _ _ refl refl (c .before .before .before .before .before .before .before .before .leave .ensures)
+returns-2 c =
+    let at-leave = to-leave c in
+    let at-remove = to-remove (at-leave .before) in
+    let at-found = to-shared-slice-known4 (at-remove .before) .before .before .before in
+    let at-find = at-found .before .before in
+    remove-done (to-start (at-find .before) .pre) _ 0 (find-at (at-find .find .ensures) _ (at-found .found .given .1))
+    (at-remove .remove .ensures) _ _ refl refl (at-leave .leave .ensures)
+
+element-copy-out-find : tie.Need-element-copy-out-find
+element-copy-out-find c = search needs
 
 pub remove-spec : {M : Type 1} → statement M
 remove-spec =
     tie.close
     (tie.spec
+    element-copy-out-find
     find-requires
     enum-known-found
     enum-told

@@ -5,8 +5,33 @@ use Rattle.queue.specs.CallLaws.{found-roomed, reset-dead, found-leaves,
 use Rattle.queue.proofs.reset.Statement.{statement}
 use Rattle.queue.proofs.reset.Tie as tie
 
+abbrev to-start : tie.After-find-arg2 → tie.Start
+to-start c =
+    let a = c .before .before .before .before in
+    a .before .before .before .before
+
+abbrev to-find : tie.After-found → tie.After-find
+to-find c = c .before .before
+
+abbrev to-else1 : tie.After-remove-arg6 → tie.Else1
+to-else1 c =
+    let a = c .before .before .before .before in
+    a .before .before
+
+abbrev to-remove : tie.After-place-arg7 → tie.After-remove
+to-remove c =
+    let a = c .before .before .before .before in
+    let b = a .before .before .before .before in
+    let d = b .before .before .before .before in
+    d .before
+
+abbrev to-place : tie.After-slice-known11 → tie.After-place
+to-place c =
+    let a = c .before .before .before .before in
+    a .before .before .before .before
+
 find-requires : tie.Need-find-requires
-find-requires c κs = found-roomed (c .before .before .before .before .before .before .before .before .pre)
+find-requires c κs = found-roomed (to-start c .pre)
 
 enum-known-found : tie.Need-enum-known-found
 enum-known-found c = search needs
@@ -18,7 +43,8 @@ same-length : tie.Need-same-length
 same-length c = search needs
 
 returns : tie.Need-returns
-returns c = reset-dead (c .before .before .before .before .before .before .before .before .before .before .before .pre) _ _ (find-nowhere (c .before .before .find .ensures) (c .enum-told .given .1))
+returns c =
+    reset-dead (to-start (c .before .before .before) .pre) _ _ (find-nowhere (c .before .before .find .ensures) (c .enum-told .given .1))
 
 deadline-no-requires : tie.Need-deadline-no-requires
 deadline-no-requires c κs = search needs
@@ -27,13 +53,26 @@ same-length-2 : tie.Need-same-length-2
 same-length-2 c = search needs
 
 returns-2 : tie.Need-returns-2
-returns-2 c = reset-refused (c .before .before .before .before .before .before .before .before .before .before .before .before .before .before .pre) _ _ (find-at (c .before .before .before .before .before .find .ensures) _ (c .before .before .before .found .given .1)) (c .before .deadline-no .ensures) (c .if1 .taken)
+returns-2 c =
+    let at-find = to-find (c .before .before .before) in
+    reset-refused (to-start (at-find .before) .pre) _ _ (find-at (at-find .find .ensures) _ (c .before .before .before .found .given .1))
+    (c .before .deadline-no .ensures) (c .if1 .taken)
 
 remove-requires : tie.Need-remove-requires
-remove-requires c κs = found-leaves (c .before .before .before .before .before .before .before .before .before .before .before .before .before .before .before .before .before .before .pre) _ 0 (find-at (c .before .before .before .before .before .before .before .before .before .find .ensures) _ (c .before .before .before .before .before .before .before .found .given .1))
+remove-requires c κs =
+    let at-found = to-else1 c .before .before .before in
+    let at-find = at-found .before .before in
+    found-leaves (to-start (at-find .before) .pre) _ 0 (find-at (at-find .find .ensures) _ (at-found .found .given .1))
 
 place-requires : tie.Need-place-requires
-place-requires c κs = reset-place (c .before .before .before .before .before .before .before .before .before .before .before .before .before .before .before .before .before .before .before .before .before .before .before .before .before .before .before .before .before .before .pre) _ _ (find-at (c .before .before .before .before .before .before .before .before .before .before .before .before .before .before .before .before .before .before .before .before .before .find .ensures) _ (c .before .before .before .before .before .before .before .before .before .before .before .before .before .before .before .before .before .before .before .found .given .1)) (c .before .before .before .before .before .before .before .before .before .before .before .before .before .before .before .before .before .deadline-no .ensures) (c .before .before .before .before .before .before .before .before .before .before .before .before .before .before .before .before .if1 .left) (c .before .before .before .before .before .before .before .before .before .before .before .remove .ensures)
+place-requires c κs =
+    let at-remove = to-remove c in
+    let else1 = to-else1 (at-remove .before) in
+    let at-deadline-no = else1 .before in
+    let at-found = at-deadline-no .before .before in
+    let at-find = at-found .before .before in
+    reset-place (to-start (at-find .before) .pre) _ _ (find-at (at-find .find .ensures) _ (at-found .found .given .1))
+    (at-deadline-no .deadline-no .ensures) (else1 .if1 .left) (at-remove .remove .ensures)
 
 same-length-3 : tie.Need-same-length-3
 same-length-3 c = search needs
@@ -48,12 +87,24 @@ same-length-6 : tie.Need-same-length-6
 same-length-6 c = search needs
 
 returns-3 : tie.Need-returns-3
-returns-3 c = reset-done (c .before .before .before .before .before .before .before .before .before .before .before .before .before .before .before .before .before .before .before .before .before .before .before .before .before .before .before .before .before .before .before .before .before .before .before .before .before .before .before .pre) _ _ (find-at (c .before .before .before .before .before .before .before .before .before .before .before .before .before .before .before .before .before .before .before .before .before .before .before .before .before .before .before .before .before .before .find .ensures) _ (c .before .before .before .before .before .before .before .before .before .before .before .before .before .before .before .before .before .before .before .before .before .before .before .before .before .before .before .before .found .given .1)) (c .before .before .before .before .before .before .before .before .before .before .before .before .before .before .before .before .before .before .before .before .before .before .before .before .before .before .deadline-no .ensures) (c .before .before .before .before .before .before .before .before .before .before .before .before .before .before .before .before .before .before .before .before .before .before .before .before .before .if1 .left) (c .before .before .before .before .before .before .before .before .before .before .before .before .before .before .before .before .before .before .before .before .remove .ensures) (c .before .before .before .before .before .before .before .before .place .ensures)
+returns-3 c =
+    let at-place = to-place c in
+    let at-remove = to-remove (at-place .before) in
+    let else1 = to-else1 (at-remove .before) in
+    let at-deadline-no = else1 .before in
+    let at-found = at-deadline-no .before .before in
+    let at-find = at-found .before .before in
+    reset-done (to-start (at-find .before) .pre) _ _ (find-at (at-find .find .ensures) _ (at-found .found .given .1))
+    (at-deadline-no .deadline-no .ensures) (else1 .if1 .left) (at-remove .remove .ensures) (at-place .place .ensures)
+
+element-copy-out-find : tie.Need-element-copy-out-find
+element-copy-out-find c = search needs
 
 pub reset-spec : {M : Type 1} → statement M
 reset-spec =
     tie.close
     (tie.spec
+    element-copy-out-find
     find-requires
     enum-known-found
     enum-told

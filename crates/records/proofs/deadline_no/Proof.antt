@@ -18,11 +18,16 @@ same-block-requires : tie.Need-same-block-requires
 same-block-requires c κs = search needs
 
 returns-3 : tie.Need-returns-3
-returns-3 c = no-near _ _ (c .before .before .before .before .if1 .left) (sym (c .before .before .if2 .left) ∙ c .before .before .before .too-far .ensures) (sym (c .if3 .taken) ∙ c .before .same-block .ensures)
+returns-3 c =
+    no-near _ _ (c .before .before .before .before .if1 .left) (sym (c .before .before .if2 .left) ∙ c .before .before .before .too-far .ensures)
+    (sym (c .if3 .taken) ∙ c .before .same-block .ensures)
 
 returns-4 : tie.Need-returns-4
-returns-4 c = no-other _ _ (c .before .before .before .before .if1 .left) (sym (c .before .before .if2 .left) ∙ c .before .before .before .too-far .ensures) (sym (c .if3 .left) ∙ c .before .same-block .ensures)
+returns-4 c =
+    no-other _ _ (c .before .before .before .before .if1 .left) (sym (c .before .before .if2 .left) ∙ c .before .before .before .too-far .ensures)
+    (sym (c .if3 .left) ∙ c .before .same-block .ensures)
 
 pub deadline-no-spec : {M : Type 1} → statement M
 deadline-no-spec =
-    tie.close (tie.spec returns too-far-requires returns-2 same-block-requires returns-3 returns-4)
+    tie.close
+    (tie.spec returns too-far-requires returns-2 same-block-requires returns-3 returns-4)

@@ -4,6 +4,21 @@ use Rattle.records.specs.Laws.{free-push, freed-last, freed-given}
 use Rattle.records.proofs.leave.Statement.{statement}
 use Rattle.records.proofs.leave.Tie as tie
 
+abbrev to-start : tie.After-slice-known5 → tie.Start
+to-start c =
+    let a = c .before .before .before .before in
+    a .before
+
+abbrev to-else1 : tie.After-push-arg5 → tie.Else1
+to-else1 c =
+    let a = c .before .before .before .before in
+    a .before
+
+abbrev to-push : tie.After-slice-known8 → tie.After-push
+to-push c =
+    let a = c .before .before .before .before in
+    a .before .before
+
 mul-turn : tie.Need-mul-turn
 mul-turn c = search needs
 
@@ -11,7 +26,7 @@ slice-read-turn : tie.Need-slice-read-turn
 slice-read-turn c = search needs
 
 returns : tie.Need-returns
-returns c = freed-last (c .before .before .before .before .before .before .pre) (c .if1 .taken)
+returns c = freed-last (to-start (c .before) .pre) (c .if1 .taken)
 
 add-turns : tie.Need-add-turns
 add-turns c = search needs
@@ -23,7 +38,7 @@ slice-write-turns : tie.Need-slice-write-turns
 slice-write-turns c = search needs
 
 push-requires : tie.Need-push-requires
-push-requires c κs = free-push (c .before .before .before .before .before .before .before .before .before .before .pre)
+push-requires c κs = free-push (to-start (to-else1 c .before) .pre)
 
 same-length : tie.Need-same-length
 same-length c = search needs
@@ -38,7 +53,10 @@ same-length-4 : tie.Need-same-length-4
 same-length-4 c = search needs
 
 returns-2 : tie.Need-returns-2
-returns-2 c = freed-given (c .before .before .before .before .before .before .before .before .before .before .before .before .before .before .before .before .before .pre) (c .before .before .before .before .before .before .before .before .before .before .before .if1 .left) (c .before .before .before .before .before .before .push .ensures)
+returns-2 c =
+    let at-push = to-push c in
+    let else1 = to-else1 (at-push .before) in
+    freed-given (to-start (else1 .before) .pre) (else1 .if1 .left) (at-push .push .ensures)
 
 pub leave-spec : {M : Type 1} → statement M
 leave-spec =

@@ -6,6 +6,22 @@ use Rattle.bench.specs.Line.{line-within}
 use Rattle.serve.proofs.answer.Statement.{statement}
 use Rattle.serve.proofs.answer.Tie as tie
 
+abbrev to-answer-line : tie.After-show-arg2 → tie.After-answer-line
+to-answer-line c =
+    let a = c .before .before .before .before in
+    let b = a .before .before .before .before in
+    let d = b .before .before .before .before in
+    let e = d .before .before .before .before in
+    e .before .before
+
+abbrev to-start : tie.After-answer-line → tie.Start
+to-start c =
+    let a = c .before .before .before .before in
+    let b = a .before .before .before .before in
+    let d = b .before .before .before .before in
+    let e = d .before .before .before .before in
+    e .before
+
 slice-aggregate-answer-line : tie.Need-slice-aggregate-answer-line
 slice-aggregate-answer-line c = simp length-take (omega arith)
 
@@ -13,7 +29,9 @@ answer-line-requires : tie.Need-answer-line-requires
 answer-line-requires c κs = search needs
 
 show-requires : tie.Need-show-requires
-show-requires c κs = omega (arith, line-within (c .before .before .before .before .before .before .before .before .before .before .before .before .before .before .before .before .before .before .answer-line .ensures) (c .before .before .before .before .before .before .before .before .before .before .before .before .before .before .before .before .before .before .before .before .before .before .before .before .before .before .before .before .before .before .before .before .before .before .before .pre .1), c .before .before .before .before .before .before .before .before .before .before .before .before .before .before .before .before .before .before .answer-line .kept)
+show-requires c κs =
+    let at-answer-line = to-answer-line c in
+    omega (arith, line-within (at-answer-line .answer-line .ensures) (to-start at-answer-line .pre .1), at-answer-line .answer-line .kept)
 
 same-length : tie.Need-same-length
 same-length c = search needs

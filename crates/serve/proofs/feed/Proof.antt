@@ -7,7 +7,8 @@ use Rattle.serve.proofs.feed.Statement.{statement}
 use Rattle.serve.proofs.feed.Tie as tie
 
 abbrev Inv-loop : tie.InvT-loop
-Inv-loop got line₀ values₀ deadlines₀ nexts₀ prevs₀ turns₀ marks₀ out₀ lists n₀ at₀ state₀ rows₀ fine₀ i₀ line values deadlines nexts prevs turns marks out n at state rows fine i =
+Inv-loop got line₀ values₀ deadlines₀ nexts₀ prevs₀ turns₀ marks₀ out₀ lists n₀ at₀ state₀ rows₀ fine₀ i₀ line values deadlines nexts prevs turns marks out n at
+    state rows fine i =
     (i ≤ length got)
     × (n ≤ 81)
     × (at ≤ 4096)
@@ -21,7 +22,22 @@ Inv-loop got line₀ values₀ deadlines₀ nexts₀ prevs₀ turns₀ marks₀ 
     × (length out ≡ length out₀)
 
 abbrev μ-loop : tie.MeasureT-loop
-μ-loop got line₀ values₀ deadlines₀ nexts₀ prevs₀ turns₀ marks₀ out₀ lists n₀ at₀ state₀ rows₀ fine₀ i₀ line values deadlines nexts prevs turns marks out n at state rows fine i = length got - i
+μ-loop got line₀ values₀ deadlines₀ nexts₀ prevs₀ turns₀ marks₀ out₀ lists n₀ at₀ state₀ rows₀ fine₀ i₀ line values deadlines nexts prevs turns marks out n at
+    state rows fine i = length got - i
+
+abbrev to-close : tie.After-rows-of2 Inv-loop μ-loop → tie.After-close Inv-loop μ-loop
+to-close c =
+    let a = c .before .before .before .before in
+    let b = a .before .before .before .before in
+    let d = b .before .before .before .before in
+    let e = d .before .before .before .before in
+    e .before
+
+abbrev to-keep : tie.After-close Inv-loop μ-loop → tie.After-keep Inv-loop μ-loop
+to-keep c =
+    let a = c .before .before .before .before in
+    let b = a .before .before .before .before in
+    b .before .before .before
 
 rows-of-requires : tie.Need-rows-of-requires Inv-loop μ-loop
 rows-of-requires c κs = search needs
@@ -42,25 +58,30 @@ rows-of-requires-2 : tie.Need-rows-of-requires-2 Inv-loop μ-loop
 rows-of-requires-2 c κs = search needs
 
 past-requires : tie.Need-past-requires Inv-loop μ-loop
-past-requires c κs = (c .before .before .before .before .before .before .before .before .before .before .before .before .before .before .before .before .before .before .before .before .before .before .before .before .before .before .before .before .before .before .line-end .ensures .0, c .before .before .before .before .before .before .before .before .before .before .before .before .before .before .before .before .before .before .before .before .before .before .before .before .before .before .before .before .before .before .line-end .ensures .1, c .before .before .before .before .before .before .before .before .before .before .before .before .before .before .before .before .before .before .before .before .before .before .before .before .before .before .before .before .before .before .before .loop-test .taken)
+past-requires c κs =
+    let at-line-end = to-keep (to-close c) .before .before in
+    (at-line-end .line-end .ensures .0, at-line-end .line-end .ensures .1, at-line-end .before .loop-test .taken)
 
 loop-less : tie.Need-loop-less Inv-loop μ-loop
 loop-less c = search needs
 
 loop-again : tie.Need-loop-again Inv-loop μ-loop
-loop-again c = (
-  search needs,
-  search needs,
-  search needs,
-  c .before .before .before .before .before .before .before .before .before .before .before .before .before .before .before .before .before .before .before .before .before .before .before .before .before .before .before .before .before .keep .kept .0 ∙ c .before .before .before .before .before .before .before .before .before .before .before .before .before .before .before .before .before .before .before .before .before .before .before .before .before .before .before .before .before .before .before .before .before .loop .inv .3,
-  c .before .before .before .before .before .before .before .before .before .before .before .before .before .before .before .before .before .before .close .kept .1 .1 .1 .1 .1 .1 .0 ∙ c .before .before .before .before .before .before .before .before .before .before .before .before .before .before .before .before .before .before .before .before .before .before .before .before .before .before .before .before .before .before .before .before .before .loop .inv .4,
-  c .before .before .before .before .before .before .before .before .before .before .before .before .before .before .before .before .before .before .close .kept .1 .1 .1 .1 .1 .1 .1 .0 ∙ c .before .before .before .before .before .before .before .before .before .before .before .before .before .before .before .before .before .before .before .before .before .before .before .before .before .before .before .before .before .before .before .before .before .loop .inv .5,
-  c .before .before .before .before .before .before .before .before .before .before .before .before .before .before .before .before .before .before .close .kept .1 .1 .1 .1 .1 .1 .1 .1 .0 ∙ c .before .before .before .before .before .before .before .before .before .before .before .before .before .before .before .before .before .before .before .before .before .before .before .before .before .before .before .before .before .before .before .before .before .loop .inv .6,
-  c .before .before .before .before .before .before .before .before .before .before .before .before .before .before .before .before .before .before .close .kept .1 .1 .1 .1 .1 .1 .1 .1 .1 .0 ∙ c .before .before .before .before .before .before .before .before .before .before .before .before .before .before .before .before .before .before .before .before .before .before .before .before .before .before .before .before .before .before .before .before .before .loop .inv .7,
-  c .before .before .before .before .before .before .before .before .before .before .before .before .before .before .before .before .before .before .close .kept .1 .1 .1 .1 .1 .1 .1 .1 .1 .1 .0 ∙ c .before .before .before .before .before .before .before .before .before .before .before .before .before .before .before .before .before .before .before .before .before .before .before .before .before .before .before .before .before .before .before .before .before .loop .inv .8,
-  c .before .before .before .before .before .before .before .before .before .before .before .before .before .before .before .before .before .before .close .kept .1 .1 .1 .1 .1 .1 .1 .1 .1 .1 .1 .0 ∙ c .before .before .before .before .before .before .before .before .before .before .before .before .before .before .before .before .before .before .before .before .before .before .before .before .before .before .before .before .before .before .before .before .before .loop .inv .9,
-  c .before .before .before .before .before .before .before .before .before .before .before .before .before .before .before .before .before .before .close .kept .1 .1 .1 .1 .1 .1 .1 .1 .1 .1 .1 .1 .0 ∙ c .before .before .before .before .before .before .before .before .before .before .before .before .before .before .before .before .before .before .before .before .before .before .before .before .before .before .before .before .before .before .before .before .before .loop .inv .10,
-)
+loop-again c =
+    let at-close = to-close (c .before) in
+    let at-keep = to-keep at-close in
+    let turn = at-keep .before .before .before .before in (
+      search needs,
+      search needs,
+      search needs,
+      at-keep .keep .kept .0 ∙ turn .loop .inv .3,
+      at-close .close .kept .1 .1 .1 .1 .1 .1 .0 ∙ turn .loop .inv .4,
+      at-close .close .kept .1 .1 .1 .1 .1 .1 .1 .0 ∙ turn .loop .inv .5,
+      at-close .close .kept .1 .1 .1 .1 .1 .1 .1 .1 .0 ∙ turn .loop .inv .6,
+      at-close .close .kept .1 .1 .1 .1 .1 .1 .1 .1 .1 .0 ∙ turn .loop .inv .7,
+      at-close .close .kept .1 .1 .1 .1 .1 .1 .1 .1 .1 .1 .0 ∙ turn .loop .inv .8,
+      at-close .close .kept .1 .1 .1 .1 .1 .1 .1 .1 .1 .1 .1 .0 ∙ turn .loop .inv .9,
+      at-close .close .kept .1 .1 .1 .1 .1 .1 .1 .1 .1 .1 .1 .1 .0 ∙ turn .loop .inv .10,
+    )
 
 heads-of-requires : tie.Need-heads-of-requires Inv-loop μ-loop
 heads-of-requires c κs = search needs

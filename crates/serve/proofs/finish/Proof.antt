@@ -4,6 +4,21 @@ use native.Mathlib.Omega.{arith}
 use Rattle.serve.proofs.finish.Statement.{statement}
 use Rattle.serve.proofs.finish.Tie as tie
 
+abbrev to-close : tie.After-flush-arg → tie.After-close
+to-close c =
+    let a = c .before .before .before .before in
+    let b = a .before .before .before .before in
+    let d = b .before .before .before .before in
+    d .before .before .before
+
+abbrev to-start : tie.After-close → tie.Start
+to-start c =
+    let a = c .before .before .before .before in
+    let b = a .before .before .before .before in
+    let d = b .before .before .before .before in
+    let e = d .before .before .before .before in
+    e .before .before .before
+
 rows-of-requires : tie.Need-rows-of-requires
 rows-of-requires c κs = search needs
 
@@ -11,7 +26,9 @@ close-requires : tie.Need-close-requires
 close-requires c κs = search needs
 
 flush-requires : tie.Need-flush-requires
-flush-requires c κs = omega (arith, c .before .before .before .before .before .before .before .before .before .before .before .before .before .before .before .close .ensures .1, c .before .before .before .before .before .before .before .before .before .before .before .before .before .before .before .close .kept, c .before .before .before .before .before .before .before .before .before .before .before .before .before .before .before .before .before .before .before .before .before .before .before .before .before .before .before .before .before .before .before .before .before .before .pre)
+flush-requires c κs =
+    let at-close = to-close c in
+    omega (arith, at-close .close .ensures .1, at-close .close .kept, to-start at-close .pre)
 
 slice-aggregate-write-all : tie.Need-slice-aggregate-write-all
 slice-aggregate-write-all c = search needs

@@ -24,6 +24,24 @@ Inv-loop line₀ values₀ deadlines₀ nexts₀ prevs₀ turns₀ marks₀ out�
 abbrev μ-loop : tie.MeasureT-loop
 μ-loop line₀ values₀ deadlines₀ nexts₀ prevs₀ turns₀ marks₀ out₀ buf₀ run₀ left₀ t15 t16 line values deadlines nexts prevs turns marks out buf run left = left
 
+abbrev to-feed : tie.After-struct-known Inv-loop μ-loop → tie.After-feed Inv-loop μ-loop
+to-feed c =
+    let a = c .before .before .before .before in
+    let b = a .before .before .before .before in
+    let d = b .before .before .before .before in
+    let e = d .before .before .before .before in
+    e .before
+
+abbrev to-joined1 : tie.After-feed Inv-loop μ-loop → tie.Joined1 Inv-loop μ-loop
+to-joined1 c =
+    let a = c .before .before .before .before in
+    let b = a .before .before .before .before in
+    let d = b .before .before .before .before in
+    d .before
+
+abbrev to-at-loop : tie.In-loop Inv-loop μ-loop → tie.At-loop Inv-loop μ-loop
+to-at-loop c = c .before
+
 buffer-requires : tie.Need-buffer-requires Inv-loop μ-loop
 buffer-requires c κs = search needs
 
@@ -97,49 +115,78 @@ write-all-requires-2 : tie.Need-write-all-requires-2 Inv-loop μ-loop
 write-all-requires-2 c κs = search needs
 
 same-length-9 : tie.Need-same-length-9 Inv-loop μ-loop
-same-length-9 c = c .before .before .before .before .before .before .before .before .before .before .before .before .before .before .before .before .before .before .before .before .feed .kept .1 .0 ∙ c .before .before .before .before .before .before .before .before .before .before .before .before .before .before .before .before .before .before .before .before .before .before .before .before .before .before .before .before .before .before .before .before .before .before .before .before .before .before .loop .inv .3
+same-length-9 c =
+    let at-feed = to-feed (c .before .before .before) in
+    let turn = to-at-loop (to-joined1 at-feed .before .before .before .before) in
+    at-feed .feed .kept .1 .0 ∙ turn .loop .inv .3
 
 same-length-10 : tie.Need-same-length-10 Inv-loop μ-loop
-same-length-10 c = c .before .before .before .before .before .before .before .before .before .before .before .before .before .before .before .before .before .before .before .before .feed .kept .1 .1 .1 .0 ∙ c .before .before .before .before .before .before .before .before .before .before .before .before .before .before .before .before .before .before .before .before .before .before .before .before .before .before .before .before .before .before .before .before .before .before .before .before .before .before .loop .inv .4
+same-length-10 c =
+    let at-feed = to-feed (c .before .before .before) in
+    let turn = to-at-loop (to-joined1 at-feed .before .before .before .before) in
+    at-feed .feed .kept .1 .1 .1 .0 ∙ turn .loop .inv .4
 
 same-length-11 : tie.Need-same-length-11 Inv-loop μ-loop
-same-length-11 c = c .before .before .before .before .before .before .before .before .before .before .before .before .before .before .before .before .before .before .before .before .feed .kept .1 .1 .1 .1 .0 ∙ c .before .before .before .before .before .before .before .before .before .before .before .before .before .before .before .before .before .before .before .before .before .before .before .before .before .before .before .before .before .before .before .before .before .before .before .before .before .before .loop .inv .5
+same-length-11 c =
+    let at-feed = to-feed (c .before .before .before) in
+    let turn = to-at-loop (to-joined1 at-feed .before .before .before .before) in
+    at-feed .feed .kept .1 .1 .1 .1 .0 ∙ turn .loop .inv .5
 
 same-length-12 : tie.Need-same-length-12 Inv-loop μ-loop
-same-length-12 c = c .before .before .before .before .before .before .before .before .before .before .before .before .before .before .before .before .before .before .before .before .feed .kept .1 .1 .1 .1 .1 .0 ∙ c .before .before .before .before .before .before .before .before .before .before .before .before .before .before .before .before .before .before .before .before .before .before .before .before .before .before .before .before .before .before .before .before .before .before .before .before .before .before .loop .inv .6
+same-length-12 c =
+    let at-feed = to-feed (c .before .before .before) in
+    let turn = to-at-loop (to-joined1 at-feed .before .before .before .before) in
+    at-feed .feed .kept .1 .1 .1 .1 .1 .0 ∙ turn .loop .inv .6
 
 same-length-13 : tie.Need-same-length-13 Inv-loop μ-loop
-same-length-13 c = c .before .before .before .before .before .before .before .before .before .before .before .before .before .before .before .before .before .before .before .before .feed .kept .1 .1 .1 .1 .1 .1 .0 ∙ c .before .before .before .before .before .before .before .before .before .before .before .before .before .before .before .before .before .before .before .before .before .before .before .before .before .before .before .before .before .before .before .before .before .before .before .before .before .before .loop .inv .7
+same-length-13 c =
+    let at-feed = to-feed (c .before .before .before) in
+    let turn = to-at-loop (to-joined1 at-feed .before .before .before .before) in
+    at-feed .feed .kept .1 .1 .1 .1 .1 .1 .0 ∙ turn .loop .inv .7
 
 same-length-14 : tie.Need-same-length-14 Inv-loop μ-loop
-same-length-14 c = c .before .before .before .before .before .before .before .before .before .before .before .before .before .before .before .before .before .before .before .before .feed .kept .1 .1 .1 .1 .1 .1 .1 .0 ∙ c .before .before .before .before .before .before .before .before .before .before .before .before .before .before .before .before .before .before .before .before .before .before .before .before .before .before .before .before .before .before .before .before .before .before .before .before .before .before .loop .inv .8
+same-length-14 c =
+    let at-feed = to-feed (c .before .before .before) in
+    let turn = to-at-loop (to-joined1 at-feed .before .before .before .before) in
+    at-feed .feed .kept .1 .1 .1 .1 .1 .1 .1 .0 ∙ turn .loop .inv .8
 
 same-length-15 : tie.Need-same-length-15 Inv-loop μ-loop
-same-length-15 c = c .before .before .before .before .before .before .before .before .before .before .before .before .before .before .before .before .before .before .before .before .feed .kept .1 .1 .1 .1 .1 .1 .1 .1 .0 ∙ c .before .before .before .before .before .before .before .before .before .before .before .before .before .before .before .before .before .before .before .before .before .before .before .before .before .before .before .before .before .before .before .before .before .before .before .before .before .before .loop .inv .9
+same-length-15 c =
+    let at-feed = to-feed (c .before .before .before) in
+    let turn = to-at-loop (to-joined1 at-feed .before .before .before .before) in
+    at-feed .feed .kept .1 .1 .1 .1 .1 .1 .1 .1 .0 ∙ turn .loop .inv .9
 
 same-length-16 : tie.Need-same-length-16 Inv-loop μ-loop
-same-length-16 c = c .before .before .before .before .before .before .before .before .before .before .before .before .before .before .before .before .before .before .before .before .feed .kept .1 .1 .1 .1 .1 .1 .1 .1 .1 .0 ∙ c .before .before .before .before .before .before .before .before .before .before .before .before .before .before .before .before .before .before .before .before .before .before .before .before .before .before .before .before .before .before .before .before .before .before .before .before .before .before .loop .inv .10
+same-length-16 c =
+    let at-feed = to-feed (c .before .before .before) in
+    let turn = to-at-loop (to-joined1 at-feed .before .before .before .before) in
+    at-feed .feed .kept .1 .1 .1 .1 .1 .1 .1 .1 .1 .0 ∙ turn .loop .inv .10
 
 returns-2 : tie.Need-returns-2 Inv-loop μ-loop
 returns-2 c = search needs
 
 loop-less : tie.Need-loop-less Inv-loop μ-loop
-loop-less c = omega (arith, c .before .before .before .before .before .before .before .before .before .before .before .before .before .before .before .before .before .before .before .before .before .before .before .before .before .before .before .before .before .before .before .before .before .before .before .loop-test .taken)
+loop-less c =
+    let in-loop = to-joined1 (to-feed (c .before)) .before .before .before .before in
+    omega (arith, in-loop .loop-test .taken)
 
 loop-again : tie.Need-loop-again Inv-loop μ-loop
-loop-again c = (
-  search needs,
-  search needs,
-  c .before .before .before .before .before .before .before .before .before .before .before .before .before .before .before .before .before .before .before .before .before .before .before .before .before .before .before .before .before .before .before .before .before .read .kept .1 .0 ∙ c .before .before .before .before .before .before .before .before .before .before .before .before .before .before .before .before .before .before .before .before .before .before .before .before .before .before .before .before .before .before .before .before .before .before .before .before .loop .inv .2,
-  c .before .before .before .before .before .before .before .before .before .before .before .before .before .before .before .before .before .before .feed .kept .1 .0 ∙ c .before .before .before .before .before .before .before .before .before .before .before .before .before .before .before .before .before .before .before .before .before .before .before .before .before .before .before .before .before .before .before .before .before .before .before .before .loop .inv .3,
-  c .before .before .before .before .before .before .before .before .before .before .before .before .before .before .before .before .before .before .feed .kept .1 .1 .1 .0 ∙ c .before .before .before .before .before .before .before .before .before .before .before .before .before .before .before .before .before .before .before .before .before .before .before .before .before .before .before .before .before .before .before .before .before .before .before .before .loop .inv .4,
-  c .before .before .before .before .before .before .before .before .before .before .before .before .before .before .before .before .before .before .feed .kept .1 .1 .1 .1 .0 ∙ c .before .before .before .before .before .before .before .before .before .before .before .before .before .before .before .before .before .before .before .before .before .before .before .before .before .before .before .before .before .before .before .before .before .before .before .before .loop .inv .5,
-  c .before .before .before .before .before .before .before .before .before .before .before .before .before .before .before .before .before .before .feed .kept .1 .1 .1 .1 .1 .0 ∙ c .before .before .before .before .before .before .before .before .before .before .before .before .before .before .before .before .before .before .before .before .before .before .before .before .before .before .before .before .before .before .before .before .before .before .before .before .loop .inv .6,
-  c .before .before .before .before .before .before .before .before .before .before .before .before .before .before .before .before .before .before .feed .kept .1 .1 .1 .1 .1 .1 .0 ∙ c .before .before .before .before .before .before .before .before .before .before .before .before .before .before .before .before .before .before .before .before .before .before .before .before .before .before .before .before .before .before .before .before .before .before .before .before .loop .inv .7,
-  c .before .before .before .before .before .before .before .before .before .before .before .before .before .before .before .before .before .before .feed .kept .1 .1 .1 .1 .1 .1 .1 .0 ∙ c .before .before .before .before .before .before .before .before .before .before .before .before .before .before .before .before .before .before .before .before .before .before .before .before .before .before .before .before .before .before .before .before .before .before .before .before .loop .inv .8,
-  c .before .before .before .before .before .before .before .before .before .before .before .before .before .before .before .before .before .before .feed .kept .1 .1 .1 .1 .1 .1 .1 .1 .0 ∙ c .before .before .before .before .before .before .before .before .before .before .before .before .before .before .before .before .before .before .before .before .before .before .before .before .before .before .before .before .before .before .before .before .before .before .before .before .loop .inv .9,
-  c .before .before .before .before .before .before .before .before .before .before .before .before .before .before .before .before .before .before .feed .kept .1 .1 .1 .1 .1 .1 .1 .1 .1 .0 ∙ c .before .before .before .before .before .before .before .before .before .before .before .before .before .before .before .before .before .before .before .before .before .before .before .before .before .before .before .before .before .before .before .before .before .before .before .before .loop .inv .10,
-)
+loop-again c =
+    let at-feed = to-feed (c .before) in
+    let at-read = to-joined1 at-feed .before .before in
+    let turn = at-read .before .before .before in (
+      search needs,
+      search needs,
+      at-read .read .kept .1 .0 ∙ turn .loop .inv .2,
+      at-feed .feed .kept .1 .0 ∙ turn .loop .inv .3,
+      at-feed .feed .kept .1 .1 .1 .0 ∙ turn .loop .inv .4,
+      at-feed .feed .kept .1 .1 .1 .1 .0 ∙ turn .loop .inv .5,
+      at-feed .feed .kept .1 .1 .1 .1 .1 .0 ∙ turn .loop .inv .6,
+      at-feed .feed .kept .1 .1 .1 .1 .1 .1 .0 ∙ turn .loop .inv .7,
+      at-feed .feed .kept .1 .1 .1 .1 .1 .1 .1 .0 ∙ turn .loop .inv .8,
+      at-feed .feed .kept .1 .1 .1 .1 .1 .1 .1 .1 .0 ∙ turn .loop .inv .9,
+      at-feed .feed .kept .1 .1 .1 .1 .1 .1 .1 .1 .1 .0 ∙ turn .loop .inv .10,
+    )
 
 same-length-17 : tie.Need-same-length-17 Inv-loop μ-loop
 same-length-17 c = search needs

@@ -7,10 +7,13 @@ use Rattle.stack.proofs.format.Statement.{statement}
 use Rattle.stack.proofs.format.Tie as tie
 
 abbrev Inv-loop : tie.InvT-loop
-Inv-loop heads nexts₀ prevs₀ marks₀ n before₀ i₀ nexts prevs marks before i = Filling n nexts₀ prevs₀ marks₀ i before nexts prevs marks
+Inv-loop tops heads nexts₀ prevs₀ marks₀ n before₀ i₀ nexts prevs marks before i = Filling n nexts₀ prevs₀ marks₀ i before nexts prevs marks
 
 abbrev μ-loop : tie.MeasureT-loop
-μ-loop heads nexts₀ prevs₀ marks₀ n before₀ i₀ nexts prevs marks before i = n - i
+μ-loop tops heads nexts₀ prevs₀ marks₀ n before₀ i₀ nexts prevs marks before i = n - i
+
+abbrev start : tie.After-loop Inv-loop μ-loop → tie.Start Inv-loop μ-loop
+start c = c .before .before .before .before
 
 loop-holds : tie.Need-loop-holds Inv-loop μ-loop
 loop-holds c = fill-none _ _ _ _
@@ -46,13 +49,13 @@ loop-again : tie.Need-loop-again Inv-loop μ-loop
 loop-again c = fill-turn _ _ _ _ _ _ _ _ _ (c .loop-test .taken) (c .before .loop .inv)
 
 cast-nexts : tie.Need-cast-nexts Inv-loop μ-loop
-cast-nexts c = omega (arith, fill-last _ _ _ _ _ _ _ _ _ (c .before .loop .inv) (c .before .before .before .pre .0) (c .loop-test .left))
+cast-nexts c = omega (arith, fill-last _ _ _ _ _ _ _ _ _ (c .before .loop .inv) (start c .pre .0) (c .loop-test .left))
 
 mul-nexts-2 : tie.Need-mul-nexts-2 Inv-loop μ-loop
-mul-nexts-2 c = omega (arith, fill-last _ _ _ _ _ _ _ _ _ (c .before .loop .inv) (c .before .before .before .pre .0) (c .loop-test .left))
+mul-nexts-2 c = omega (arith, fill-last _ _ _ _ _ _ _ _ _ (c .before .loop .inv) (start c .pre .0) (c .loop-test .left))
 
 slice-write-nexts-2 : tie.Need-slice-write-nexts-2 Inv-loop μ-loop
-slice-write-nexts-2 c = omega (arith, fill-last _ _ _ _ _ _ _ _ _ (c .before .loop .inv) (c .before .before .before .pre .0) (c .loop-test .left))
+slice-write-nexts-2 c = omega (arith, fill-last _ _ _ _ _ _ _ _ _ (c .before .loop .inv) (start c .pre .0) (c .loop-test .left))
 
 same-length : tie.Need-same-length Inv-loop μ-loop
 same-length c = search needs
@@ -64,7 +67,7 @@ same-length-3 : tie.Need-same-length-3 Inv-loop μ-loop
 same-length-3 c = search needs
 
 returns : tie.Need-returns Inv-loop μ-loop
-returns c = fill-done _ _ _ _ _ _ _ _ _ (c .before .loop .inv) (c .before .before .before .pre .0) (c .loop-test .left)
+returns c = fill-done _ _ _ _ _ _ _ _ _ (c .before .loop .inv) (start c .pre .0) (c .loop-test .left)
 
 pub format-spec : {M : Type 1} → statement M
 format-spec =

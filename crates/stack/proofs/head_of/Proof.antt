@@ -23,17 +23,32 @@ returns : tie.Need-returns
 unfolding headOf
 returns c = simp (lt-ltb _ _ (c .before .if1 .taken))
 
+element-copy-out-result : tie.Need-element-copy-out-result
+element-copy-out-result c = search needs
+
 returns-2 : tie.Need-returns-2
 unfolding headOf
-returns-2 c = simp (le-ltb _ _ (c .before .if1 .left), eq-eqb _ _ (c .if2 .taken))
+returns-2 c = simp (le-ltb _ _ (c .before .before .if1 .left), eq-eqb _ _ (c .before .if2 .taken))
+
+element-copy-out-result-2 : tie.Need-element-copy-out-result-2
+element-copy-out-result-2 c = search needs
 
 returns-3 : tie.Need-returns-3
 unfolding headOf
 returns-3 c =
-    let e : c .before .before .args .p ≡ 385 = omega (arith, c .if2 .left) in
-    simp (le-ltb _ _ (c .before .if1 .left), ne-eqb _ _ (c .if2 .left), eq-eqb _ _ e)
+    let e : c .before .before .before .args .p ≡ 385 = omega (arith, c .before .if2 .left) in
+    simp (le-ltb _ _ (c .before .before .if1 .left), ne-eqb _ _ (c .before .if2 .left), eq-eqb _ _ e)
 
 pub head-of-spec : {M : Type 1} → statement M
 head-of-spec =
     tie.close
-    (tie.spec mul-result mul-result-2 index-1-result index-2-result returns returns-2 returns-3)
+    (tie.spec
+    mul-result
+    mul-result-2
+    index-1-result
+    index-2-result
+    returns
+    element-copy-out-result
+    returns-2
+    element-copy-out-result-2
+    returns-3)

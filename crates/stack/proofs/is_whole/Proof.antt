@@ -1,19 +1,33 @@
--- `is_whole` meets its contract: what the walk of the places finds from here is what it finds from the start (`judge-go`, and a law for each way out).
+-- `is_whole` meets its contract: what the walk of the places finds from here is what it finds from the start (`judge-go`, and a law for each
+-- way out).
 use borrow.Author.Needs.{needs}
 use mathlib.Core.Path.{_≡_, refl, sym, _∙_}
 use Prim.Native.Nat.{_≤_, _-_}
 use native.Mathlib.Omega.{arith}
+use Rattle.links.specs.Links.{at}
 use Rattle.stack.specs.Words.{words}
 use Rattle.stack.specs.Judge.{from, judge-go, judge-wrong, judge-end}
 use Rattle.stack.proofs.is_whole.Statement.{statement}
 use Rattle.stack.proofs.is_whole.Tie as tie
 
 abbrev Inv-loop : tie.InvT-loop
-Inv-loop stacks heads nexts prevs marks n left₀ p₀ left p =
-    (p ≤ 386) × (from (words stacks heads nexts prevs marks) p left ≡ from (words stacks heads nexts prevs marks) 0 (stacks .n))
+Inv-loop tops heads nexts prevs marks n left₀ p₀ left p =
+    (p ≤ 386) × (from (words tops heads nexts prevs marks) p left ≡ from (words tops heads nexts prevs marks) 0 (at tops 0))
 
 abbrev μ-loop : tie.MeasureT-loop
-μ-loop stacks heads nexts prevs marks n left₀ p₀ left p = 386 - p
+μ-loop tops heads nexts prevs marks n left₀ p₀ left p = 386 - p
+
+abbrev turn : tie.After-walk-list Inv-loop μ-loop → tie.In-loop Inv-loop μ-loop
+turn c = c .before .before
+
+abbrev wrong : tie.After-enum-told Inv-loop μ-loop → tie.After-walk-list Inv-loop μ-loop
+wrong c = c .before .before
+
+abbrev go : tie.After-known-told Inv-loop μ-loop → tie.After-walk-list Inv-loop μ-loop
+go c = c .before .before .before
+
+element-copy-out-n : tie.Need-element-copy-out-n Inv-loop μ-loop
+element-copy-out-n c = search needs
 
 loop-holds : tie.Need-loop-holds Inv-loop μ-loop
 loop-holds c = (omega arith, refl)
@@ -31,7 +45,10 @@ enum-told : tie.Need-enum-told Inv-loop μ-loop
 enum-told c = search needs
 
 returns : tie.Need-returns Inv-loop μ-loop
-returns c = judge-wrong _ _ _ _ _ (c .before .before .before .before .loop-test .taken) (c .before .before .before .head-of .ensures) (c .before .before .walk-list .ensures) (c .enum-told .given .1) (c .before .before .before .before .before .loop .inv .1)
+returns c =
+    let w = wrong c in
+    let t = turn w in
+    judge-wrong _ _ _ _ _ (t .loop-test .taken) (w .before .head-of .ensures) (w .walk-list .ensures) (c .enum-told .given .1) (t .before .loop .inv .1)
 
 add-p : tie.Need-add-p Inv-loop μ-loop
 add-p c = search needs
@@ -40,7 +57,11 @@ loop-less : tie.Need-loop-less Inv-loop μ-loop
 loop-less c = search needs
 
 loop-again : tie.Need-loop-again Inv-loop μ-loop
-loop-again c = (omega arith, sym (judge-go _ _ _ _ _ (c .before .before .before .before .before .loop-test .taken) (c .before .before .before .before .head-of .ensures) (c .before .before .before .walk-list .ensures) _ (c .before .l .given .1)) ∙ c .before .before .before .before .before .before .loop .inv .1)
+loop-again c =
+    let w = go c in
+    let t = turn w in
+    let e = judge-go _ _ _ _ _ (t .loop-test .taken) (w .before .head-of .ensures) (w .walk-list .ensures) _ (c .before .l .given .1) in
+    (omega arith, sym e ∙ t .before .loop .inv .1)
 
 count-loose-requires : tie.Need-count-loose-requires Inv-loop μ-loop
 count-loose-requires c κs = search needs
@@ -54,6 +75,7 @@ is-whole-spec =
     (tie.spec
     Inv-loop
     μ-loop
+    element-copy-out-n
     loop-holds
     head-of-requires
     walk-list-requires

@@ -4,6 +4,21 @@ use Rattle.stack.specs.Words.{pop-none, pop-some, pop-asks}
 use Rattle.stack.proofs.pop.Statement.{statement}
 use Rattle.stack.proofs.pop.Tie as tie
 
+abbrev start : tie.After-head-of → tie.Start
+start c =
+    let a = c .before .before .before .before in
+    a .before .before
+
+abbrev some : tie.After-remove-arg5 → tie.Else1
+some c =
+    let a = c .before .before .before .before in
+    a .before
+
+abbrev left : tie.After-slice-known6 → tie.After-remove
+left c =
+    let a = c .before .before .before .before in
+    a .before .before
+
 head-of-requires : tie.Need-head-of-requires
 head-of-requires c κs = search needs
 
@@ -11,7 +26,9 @@ returns : tie.Need-returns
 returns c = (c .before .head-of .ensures, pop-none _ _ _ (c .before .head-of .ensures) (c .if1 .taken))
 
 remove-requires : tie.Need-remove-requires
-remove-requires c κs = pop-asks _ _ _ (c .before .before .before .before .before .head-of .ensures) (c .before .before .before .before .before .before .before .before .before .before .pre) (c .before .before .before .before .if1 .left)
+remove-requires c κs =
+    let s = some c in
+    pop-asks _ _ _ (s .before .head-of .ensures) (start (s .before) .pre) (s .if1 .left)
 
 same-length : tie.Need-same-length
 same-length c = search needs
@@ -23,7 +40,9 @@ same-length-3 : tie.Need-same-length-3
 same-length-3 c = search needs
 
 returns-2 : tie.Need-returns-2
-returns-2 c = (c .before .before .before .before .before .before .before .before .before .before .before .before .head-of .ensures, pop-some _ _ _ (c .before .before .before .before .before .before .before .before .before .before .before .before .head-of .ensures) (c .before .before .before .before .before .before .before .before .before .before .before .if1 .left) (c .before .before .before .before .before .before .remove .ensures))
+returns-2 c =
+    let s = some (left c .before) in
+    (s .before .head-of .ensures, pop-some _ _ _ (s .before .head-of .ensures) (s .if1 .left) (left c .remove .ensures))
 
 pub pop-spec : {M : Type 1} → statement M
 pop-spec =

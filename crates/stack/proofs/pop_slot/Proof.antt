@@ -6,6 +6,17 @@ use Rattle.stack.specs.Words.{pop-none, pop-slot-is}
 use Rattle.stack.proofs.pop_slot.Statement.{statement}
 use Rattle.stack.proofs.pop_slot.Tie as tie
 
+abbrev start : tie.After-h → tie.Start
+start c = c .before .before .before .before
+
+abbrev some : tie.After-cut-arg3 → tie.Else1
+some c = c .before .before .before
+
+abbrev left : tie.After-slice-known6 → tie.After-cut
+left c =
+    let a = c .before .before .before .before in
+    a .before .before
+
 mul-h : tie.Need-mul-h
 mul-h c = search needs
 
@@ -19,10 +30,12 @@ index-2-h : tie.Need-index-2-h
 index-2-h c = search needs
 
 returns : tie.Need-returns
-returns c = (refl, λ st. pop-none _ _ _ (slot-head _ _ (c .before .before .before .before .before .pre .level) (c .before .before .before .before .before .pre .slot) st _) (c .if1 .taken))
+returns c =
+    let s = start (c .before) in
+    (refl, λ st. pop-none _ _ _ (slot-head _ _ (s .pre .level) (s .pre .slot) st _) (c .if1 .taken))
 
 cut-requires : tie.Need-cut-requires
-cut-requires c κs = c .before .before .before .before .before .before .before .before .pre .linked (c .before .before .before .if1 .left)
+cut-requires c κs = start (some c .before) .pre .linked (some c .if1 .left)
 
 mul-heads : tie.Need-mul-heads
 mul-heads c = search needs
@@ -46,7 +59,11 @@ same-length-3 : tie.Need-same-length-3
 same-length-3 c = search needs
 
 returns-2 : tie.Need-returns-2
-returns-2 c = (refl, pop-slot-is _ _ (c .before .before .before .before .before .before .before .before .before .before .before .before .before .before .before .pre .level) (c .before .before .before .before .before .before .before .before .before .before .before .before .before .before .before .pre .slot) _ _ _ _ refl (c .before .before .before .before .before .before .before .before .before .before .if1 .left) (c .before .before .before .before .before .before .before .before .before .before .before .before .before .before .before .pre .marked (c .before .before .before .before .before .before .before .before .before .before .if1 .left)) (c .before .before .before .before .before .before .cut .ensures .0) refl (c .before .before .before .before .before .before .cut .ensures .1))
+returns-2 c =
+    let k = left c in
+    let there = some (k .before) .if1 .left in
+    let pre = start (some (k .before) .before) .pre in
+    (refl, pop-slot-is _ _ (pre .level) (pre .slot) _ _ _ _ refl there (pre .marked there) (k .cut .ensures .0) refl (k .cut .ensures .1))
 
 pub pop-slot-spec : {M : Type 1} → statement M
 pop-slot-spec =

@@ -5,6 +5,16 @@ use Rattle.stack.specs.Words.{push-slot-is}
 use Rattle.stack.proofs.push_slot.Statement.{statement}
 use Rattle.stack.proofs.push_slot.Tie as tie
 
+abbrev start : tie.After-slot-place → tie.Start
+start c =
+    let a = c .before .before .before .before in
+    a .before .before .before .before
+
+abbrev joined : tie.After-slice-known6 → tie.After-join
+joined c =
+    let a = c .before .before .before .before in
+    a .before .before
+
 mul-h : tie.Need-mul-h
 mul-h c = search needs
 
@@ -45,7 +55,10 @@ same-length-3 : tie.Need-same-length-3
 same-length-3 c = search needs
 
 returns : tie.Need-returns
-returns c = push-slot-is _ _ (c .before .before .before .before .before .before .before .before .before .before .before .before .before .before .before .pre .0) (c .before .before .before .before .before .before .before .before .before .before .before .before .before .before .before .pre .1) _ _ _ _ (c .before .before .before .before .before .before .before .slot-place .ensures) refl (c .before .before .before .before .before .before .join .ensures)
+returns c =
+    let j = joined c in
+    let s = start (j .before) in
+    push-slot-is _ _ (s .pre .0) (s .pre .1) _ _ _ _ (j .before .slot-place .ensures) refl (j .join .ensures)
 
 pub push-slot-spec : {M : Type 1} → statement M
 push-slot-spec =

@@ -4,6 +4,15 @@ use Rattle.stack.specs.Words.{remove-is}
 use Rattle.stack.proofs.remove.Statement.{statement}
 use Rattle.stack.proofs.remove.Tie as tie
 
+abbrev looked : tie.After-cut → tie.After-head-of
+looked c = c .before .before .before .before
+
+abbrev cut : tie.After-set-head → tie.After-cut
+cut c =
+    let a = c .before .before .before .before in
+    let b = a .before .before .before .before in
+    b .before
+
 mul-p : tie.Need-mul-p
 mul-p c = search needs
 
@@ -29,7 +38,9 @@ same-length-3 : tie.Need-same-length-3
 same-length-3 c = search needs
 
 returns : tie.Need-returns
-returns c = remove-is _ _ _ _ (c .before .before .before .before .before .before .before .before .before .before .before .before .head-of .ensures) (c .before .before .before .before .before .before .before .before .cut .ensures .0) (c .set-head .ensures .0) (c .set-head .ensures .1) (c .before .before .before .before .before .before .before .before .cut .ensures .1)
+returns c =
+    let k = cut c in
+    remove-is _ _ _ _ (looked k .head-of .ensures) (k .cut .ensures .0) (c .set-head .ensures .0) (c .set-head .ensures .1) (k .cut .ensures .1)
 
 pub remove-spec : {M : Type 1} → statement M
 remove-spec =

@@ -5,6 +5,78 @@ use Rattle.delay_queue.specs.Back.{back-same, by-call}
 use Rattle.step.proofs.step.Statement.{statement}
 use Rattle.step.proofs.step.Tie as tie
 
+abbrev to-format : tie.After-slice-known12 → tie.After-format
+to-format c =
+    let a = c .before .before .before .before in
+    let b = a .before .before .before .before in
+    b .before .before .before .before
+
+abbrev to-call : tie.After-format → tie.After-call
+to-call c =
+    let a = c .before .before .before .before in
+    a .before .before .before .before
+
+abbrev to-insert : tie.After-slice-known17 → tie.After-insert
+to-insert c =
+    let a = c .before .before .before .before in
+    let b = a .before .before .before .before in
+    b .before .before
+
+abbrev to-call2 : tie.After-insert → tie.After-call2
+to-call2 c =
+    let a = c .before .before .before .before in
+    a .before .before .before .before
+
+abbrev to-reset : tie.After-slice-known21 → tie.After-reset
+to-reset c =
+    let a = c .before .before .before .before in
+    a .before .before .before .before
+
+abbrev to-call3 : tie.After-reset → tie.After-call3
+to-call3 c =
+    let a = c .before .before .before .before in
+    a .before .before .before .before
+
+abbrev to-remove : tie.After-slice-known25 → tie.After-remove
+to-remove c =
+    let a = c .before .before .before .before in
+    a .before .before .before .before
+
+abbrev to-call4 : tie.After-remove → tie.After-call4
+to-call4 c =
+    let a = c .before .before .before .before in
+    a .before .before .before .before
+
+abbrev to-poll : tie.After-slice-known29 → tie.After-poll
+to-poll c =
+    let a = c .before .before .before .before in
+    a .before .before .before .before
+
+abbrev to-call5 : tie.After-poll → tie.After-call5
+to-call5 c =
+    let a = c .before .before .before .before in
+    a .before .before .before .before
+
+abbrev to-enum-told : tie.After-unchanged → tie.After-enum-told
+to-enum-told c =
+    let a = c .before .before .before .before in
+    a .before .before .before .before
+
+abbrev to-enum-told2 : tie.After-unchanged2 → tie.After-enum-told2
+to-enum-told2 c =
+    let a = c .before .before .before .before in
+    a .before .before .before .before
+
+abbrev to-clear : tie.After-slice-known33 → tie.After-clear
+to-clear c =
+    let a = c .before .before .before .before in
+    a .before .before .before .before
+
+abbrev to-enum-told3 : tie.After-clear → tie.After-enum-told3
+to-enum-told3 c =
+    let a = c .before .before .before .before in
+    a .before .before .before
+
 enum-known-call : tie.Need-enum-known-call
 enum-known-call c = search needs
 
@@ -78,7 +150,9 @@ same-length-6 : tie.Need-same-length-6
 same-length-6 c = search needs
 
 returns : tie.Need-returns
-returns c = by-call _ _ _ (c .before .before .before .before .before .before .before .before .before .before .before .before .before .before .before .before .before .before .before .before .call .given .1) (c .before .before .before .before .before .before .before .before .before .before .before .before .format .ensures)
+returns c =
+    let at-format = to-format c in
+    by-call _ _ _ (to-call at-format .call .given .1) (at-format .format .ensures)
 
 same-length-7 : tie.Need-same-length-7
 same-length-7 c = search needs
@@ -99,7 +173,9 @@ same-length-12 : tie.Need-same-length-12
 same-length-12 c = search needs
 
 returns-2 : tie.Need-returns-2
-returns-2 c = by-call _ _ _ (c .before .before .before .before .before .before .before .before .before .before .before .before .before .before .before .before .before .before .call2 .given .1) (c .before .before .before .before .before .before .before .before .before .before .insert .ensures)
+returns-2 c =
+    let at-insert = to-insert c in
+    by-call _ _ _ (to-call2 at-insert .call2 .given .1) (at-insert .insert .ensures)
 
 same-length-13 : tie.Need-same-length-13
 same-length-13 c = search needs
@@ -120,7 +196,9 @@ same-length-18 : tie.Need-same-length-18
 same-length-18 c = search needs
 
 returns-3 : tie.Need-returns-3
-returns-3 c = by-call _ _ _ (c .before .before .before .before .before .before .before .before .before .before .before .before .before .before .before .before .call3 .given .1) (c .before .before .before .before .before .before .before .before .reset .ensures)
+returns-3 c =
+    let at-reset = to-reset c in
+    by-call _ _ _ (to-call3 at-reset .call3 .given .1) (at-reset .reset .ensures)
 
 same-length-19 : tie.Need-same-length-19
 same-length-19 c = search needs
@@ -141,7 +219,9 @@ same-length-24 : tie.Need-same-length-24
 same-length-24 c = search needs
 
 returns-4 : tie.Need-returns-4
-returns-4 c = by-call _ _ _ (c .before .before .before .before .before .before .before .before .before .before .before .before .before .before .before .before .call4 .given .1) (c .before .before .before .before .before .before .before .before .remove .ensures)
+returns-4 c =
+    let at-remove = to-remove c in
+    by-call _ _ _ (to-call4 at-remove .call4 .given .1) (at-remove .remove .ensures)
 
 same-length-25 : tie.Need-same-length-25
 same-length-25 c = search needs
@@ -162,7 +242,9 @@ same-length-30 : tie.Need-same-length-30
 same-length-30 c = search needs
 
 returns-5 : tie.Need-returns-5
-returns-5 c = by-call _ _ _ (c .before .before .before .before .before .before .before .before .before .before .before .before .before .before .before .before .call5 .given .1) (c .before .before .before .before .before .before .before .before .poll .ensures)
+returns-5 c =
+    let at-poll = to-poll c in
+    by-call _ _ _ (to-call5 at-poll .call5 .given .1) (at-poll .poll .ensures)
 
 same-length-31 : tie.Need-same-length-31
 same-length-31 c = search needs
@@ -183,7 +265,8 @@ same-length-36 : tie.Need-same-length-36
 same-length-36 c = search needs
 
 returns-6 : tie.Need-returns-6
-returns-6 c = by-call _ _ _ (c .before .before .before .before .before .before .before .before .enum-told .given .1) (back-same _ _ _ _ _ _ (c .unchanged .ensures) (WakeClaim _) (c .before .next-wake .ensures))
+returns-6 c =
+    by-call _ _ _ (to-enum-told c .enum-told .given .1) (back-same _ _ _ _ _ _ (c .unchanged .ensures) (WakeClaim _) (c .before .next-wake .ensures))
 
 same-length-37 : tie.Need-same-length-37
 same-length-37 c = search needs
@@ -204,7 +287,9 @@ same-length-42 : tie.Need-same-length-42
 same-length-42 c = search needs
 
 returns-7 : tie.Need-returns-7
-returns-7 c = by-call _ _ _ (c .before .before .before .before .before .before .before .before .enum-told2 .given .1) (back-same _ _ _ _ _ _ (c .unchanged2 .ensures) (LengthClaim _) (c .before .length .ensures))
+returns-7 c =
+    by-call _ _ _ (to-enum-told2 c .enum-told2 .given .1)
+    (back-same _ _ _ _ _ _ (c .unchanged2 .ensures) (LengthClaim _) (c .before .length .ensures))
 
 same-length-43 : tie.Need-same-length-43
 same-length-43 c = search needs
@@ -225,7 +310,9 @@ same-length-48 : tie.Need-same-length-48
 same-length-48 c = search needs
 
 returns-8 : tie.Need-returns-8
-returns-8 c = by-call _ _ _ (c .before .before .before .before .before .before .before .before .before .before .before .before .before .before .before .enum-told3 .given .1) (c .before .before .before .before .before .before .before .before .clear .ensures)
+returns-8 c =
+    let at-clear = to-clear c in
+    by-call _ _ _ (to-enum-told3 at-clear .enum-told3 .given .1) (at-clear .clear .ensures)
 
 pub step-spec : {M : Type 1} → statement M
 step-spec =

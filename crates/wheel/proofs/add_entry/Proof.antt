@@ -1,18 +1,40 @@
 -- `add_entry` meets its contract: one list and one flag change (`add-law`).
 use borrow.Author.Needs.{needs}
-use mathlib.Core.Bool.{true≢false}
 use Rattle.wheel.specs.Words.{add-slot, add-push, add-law}
 use Rattle.wheel.proofs.add_entry.Statement.{statement}
 use Rattle.wheel.proofs.add_entry.Tie as tie
+
+abbrev start : tie.After-slot-for → tie.Start
+start c = c .before .before .before .before
+
+abbrev slotted : tie.After-push-slot-arg4 → tie.After-slot-for
+slotted c = c .before .before .before .before
+
+abbrev pushed : tie.After-set-arg → tie.After-push-slot
+pushed c =
+    let a = c .before .before .before .before in
+    a .before .before .before
 
 slot-for-requires : tie.Need-slot-for-requires
 slot-for-requires c κs = search needs
 
 push-slot-requires : tie.Need-push-slot-requires
-push-slot-requires c κs = add-push (c .before .before .before .before .before .before .before .before .pre) _ _ (c .before .before .before .before .slot-for .ensures)
+push-slot-requires c κs = add-push (start (slotted c) .pre) _ _ (slotted c .slot-for .ensures)
 
-with-flag-requires : tie.Need-with-flag-requires
-with-flag-requires c κs = (add-slot (c .before .before .before .before .before .before .before .before .before .before .before .before .before .before .before .before .pre) _ _ (c .before .before .before .before .before .before .before .before .before .before .before .before .slot-for .ensures) .0, add-slot (c .before .before .before .before .before .before .before .before .before .before .before .before .before .before .before .before .pre) _ _ (c .before .before .before .before .before .before .before .before .before .before .before .before .slot-for .ensures) .1, λ z. absurd (true≢false z))
+mul-set : tie.Need-mul-set
+mul-set c = search needs
+
+element-copy-out-set : tie.Need-element-copy-out-set
+element-copy-out-set c = search needs
+
+set-requires : tie.Need-set-requires
+set-requires c κs = let s = slotted (pushed c .before) in add-slot (start s .pre) _ _ (s .slot-for .ensures) .1
+
+mul-rows : tie.Need-mul-rows
+mul-rows c = search needs
+
+element-write-rows : tie.Need-element-write-rows
+element-write-rows c = search needs
 
 same-length : tie.Need-same-length
 same-length c = search needs
@@ -24,7 +46,10 @@ same-length-3 : tie.Need-same-length-3
 same-length-3 c = search needs
 
 returns : tie.Need-returns
-returns c = add-law (c .before .before .before .before .before .before .before .before .before .before .before .before .before .before .before .before .before .pre) _ _ (c .before .before .before .before .before .before .before .before .before .before .before .before .before .slot-for .ensures) (c .before .before .before .before .before .before .before .before .push-slot .ensures _) (c .with-flag .ensures)
+returns c =
+    let p = pushed (c .before) in
+    let s = slotted (p .before) in
+    add-law (start s .pre) _ _ (s .slot-for .ensures) (p .push-slot .ensures _) (c .set .ensures)
 
 pub add-entry-spec : {M : Type 1} → statement M
 add-entry-spec =
@@ -32,7 +57,11 @@ add-entry-spec =
     (tie.spec
     slot-for-requires
     push-slot-requires
-    with-flag-requires
+    mul-set
+    element-copy-out-set
+    set-requires
+    mul-rows
+    element-write-rows
     same-length
     same-length-2
     same-length-3

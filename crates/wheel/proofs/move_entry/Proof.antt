@@ -5,6 +5,27 @@ use Rattle.wheel.specs.Turns.{moved-none, move-deadline, move-adds, move
 use Rattle.wheel.proofs.move_entry.Statement.{statement}
 use Rattle.wheel.proofs.move_entry.Tie as tie
 
+abbrev start : tie.After-pop-entry-arg5 → tie.Start
+start c =
+    let a = c .before .before .before .before in
+    let b = a .before .before .before .before in
+    b .before
+
+abbrev popped : tie.After-slice-known6 → tie.After-pop-entry
+popped c =
+    let a = c .before .before .before .before in
+    a .before .before
+
+abbrev some : tie.After-add-entry-arg5 → tie.Else1
+some c =
+    let a = c .before .before .before .before in
+    a .before .before
+
+abbrev added : tie.After-slice-known9 → tie.After-add-entry
+added c =
+    let a = c .before .before .before .before in
+    a .before .before
+
 pop-entry-requires : tie.Need-pop-entry-requires
 pop-entry-requires c κs = search needs
 
@@ -18,7 +39,7 @@ same-length-3 : tie.Need-same-length-3
 same-length-3 c = search needs
 
 returns : tie.Need-returns
-returns c = moved-none (c .before .before .before .before .before .before .before .before .before .before .before .before .before .before .before .before .before .pre) (c .before .before .before .before .before .before .before .before .pop-entry .ensures) (c .if1 .taken)
+returns c = let p = popped (c .before) in moved-none (start (p .before) .pre) (p .pop-entry .ensures) (c .if1 .taken)
 
 cast-when : tie.Need-cast-when
 cast-when c = search needs
@@ -27,13 +48,19 @@ mul-when : tie.Need-mul-when
 mul-when c = search needs
 
 shared-slice-read-when : tie.Need-shared-slice-read-when
-shared-slice-read-when c = move-deadline (c .before .before .before .before .before .before .before .before .before .before .before .before .before .before .before .before .before .before .pre) (c .before .before .before .before .before .before .before .before .before .pop-entry .ensures) (c .before .if1 .left)
+shared-slice-read-when c =
+    let e = c .before in
+    let p = popped (e .before) in
+    move-deadline (start (p .before) .pre) (p .pop-entry .ensures) (e .if1 .left)
 
 sub-add-entry : tie.Need-sub-add-entry
 sub-add-entry c = search needs
 
 add-entry-requires : tie.Need-add-entry-requires
-add-entry-requires c κs = move-adds (c .before .before .before .before .before .before .before .before .before .before .before .before .before .before .before .before .before .before .before .before .before .before .pre) (c .before .before .before .before .before .before .before .before .before .before .before .before .before .pop-entry .ensures) (c .before .before .before .before .before .if1 .left)
+add-entry-requires c κs =
+    let e = some c in
+    let p = popped (e .before) in
+    move-adds (start (p .before) .pre) (p .pop-entry .ensures) (e .if1 .left)
 
 same-length-4 : tie.Need-same-length-4
 same-length-4 c = search needs
@@ -45,7 +72,11 @@ same-length-6 : tie.Need-same-length-6
 same-length-6 c = search needs
 
 returns-2 : tie.Need-returns-2
-returns-2 c = moved-some (c .before .before .before .before .before .before .before .before .before .before .before .before .before .before .before .before .before .before .before .before .before .before .before .before .before .before .before .before .before .pre) (c .before .before .before .before .before .before .before .before .before .before .before .before .before .before .before .before .before .before .before .before .pop-entry .ensures) (c .before .before .before .before .before .before .before .before .before .before .before .before .if1 .left) _ refl (c .before .before .before .before .before .before .add-entry .ensures)
+returns-2 c =
+    let a = added c in
+    let e = some (a .before) in
+    let p = popped (e .before) in
+    moved-some (start (p .before) .pre) (p .pop-entry .ensures) (e .if1 .left) _ refl (a .add-entry .ensures)
 
 pub move-entry-spec : {M : Type 1} → statement M
 move-entry-spec =

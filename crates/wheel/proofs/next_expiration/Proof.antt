@@ -10,10 +10,16 @@ use Rattle.wheel.proofs.next_expiration.Statement.{statement}
 use Rattle.wheel.proofs.next_expiration.Tie as tie
 
 abbrev Inv-loop : tie.InvT-loop
-Inv-loop elapsed occupied level₀ level = (level ≤ 6) × ((j : ℕ) → j < level → at occupied j ≡ 0)
+Inv-loop elapsed rows level₀ level = (level ≤ 6) × ((j : ℕ) → j < level → at rows j ≡ 0)
 
 abbrev μ-loop : tie.MeasureT-loop
-μ-loop elapsed occupied level₀ level = 6 - level
+μ-loop elapsed rows level₀ level = 6 - level
+
+abbrev turn : tie.After-row Inv-loop μ-loop → tie.At-loop Inv-loop μ-loop
+turn c = c .before .before
+
+abbrev row-of : tie.After-slot-start Inv-loop μ-loop → tie.After-row Inv-loop μ-loop
+row-of c = c .before .before .before .before
 
 loop-holds : tie.Need-loop-holds Inv-loop μ-loop
 loop-holds c = (omega arith, λ j h. absurd (omega arith))
@@ -21,8 +27,8 @@ loop-holds c = (omega arith, λ j h. absurd (omega arith))
 mul-row : tie.Need-mul-row Inv-loop μ-loop
 mul-row c = search needs
 
-array-read-row : tie.Need-array-read-row Inv-loop μ-loop
-array-read-row c = search needs
+element-copy-out-row : tie.Need-element-copy-out-row Inv-loop μ-loop
+element-copy-out-row c = search needs
 
 now-slot-requires : tie.Need-now-slot-requires Inv-loop μ-loop
 now-slot-requires c κs = search needs
@@ -34,7 +40,9 @@ slot-start-requires : tie.Need-slot-start-requires Inv-loop μ-loop
 slot-start-requires c κs = (omega arith, omega (arith, c .first-from .ensures .is))
 
 returns : tie.Need-returns Inv-loop μ-loop
-returns c = λ L R. next-found R _ _ _ _ _ (omega arith) (c .before .before .before .before .before .loop .inv .1) (c .before .before .now-slot .ensures) (c .before .first-from .ensures) (c .slot-start .ensures)
+returns c =
+    let empty = turn (row-of c) .loop .inv .1 in
+    λ L R. next-found R _ _ _ _ _ (omega arith) empty (c .before .before .now-slot .ensures) (c .before .first-from .ensures) (c .slot-start .ensures)
 
 add-level : tie.Need-add-level Inv-loop μ-loop
 add-level c = search needs
@@ -43,7 +51,7 @@ loop-less : tie.Need-loop-less Inv-loop μ-loop
 loop-less c = search needs
 
 loop-again : tie.Need-loop-again Inv-loop μ-loop
-loop-again c = (omega arith, below-more _ _ (c .before .before .loop .inv .1) (c .if1 .left))
+loop-again c = (omega arith, below-more _ _ (turn (c .before) .loop .inv .1) (c .if1 .left))
 
 returns-2 : tie.Need-returns-2 Inv-loop μ-loop
 returns-2 c = λ L R. none-found R (λ j h. c .before .loop .inv .1 j (omega arith))
@@ -56,7 +64,7 @@ next-expiration-spec =
     μ-loop
     loop-holds
     mul-row
-    array-read-row
+    element-copy-out-row
     now-slot-requires
     first-from-requires
     slot-start-requires

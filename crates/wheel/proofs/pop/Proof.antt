@@ -5,8 +5,18 @@ use Rattle.wheel.specs.Words.{pops-aside}
 use Rattle.wheel.proofs.pop.Statement.{statement}
 use Rattle.wheel.proofs.pop.Tie as tie
 
+abbrev start : tie.After-pop-arg5 → tie.Start
+start c =
+    let a = c .before .before .before .before in
+    a .before .before .before .before
+
+abbrev popped : tie.After-slice-known6 → tie.After-pop
+popped c =
+    let a = c .before .before .before .before in
+    a .before .before
+
 pop-requires : tie.Need-pop-requires
-pop-requires c κs = can-pop (c .before .before .before .before .before .before .before .before .pre .0 .stack) _ (c .before .before .before .before .before .before .before .before .pre .2)
+pop-requires c κs = can-pop (start c .pre .0 .stack) _ (start c .pre .2)
 
 same-length : tie.Need-same-length
 same-length c = search needs
@@ -18,7 +28,10 @@ same-length-3 : tie.Need-same-length-3
 same-length-3 c = search needs
 
 returns : tie.Need-returns
-returns c = pops-aside (c .before .before .before .before .before .before .before .before .before .before .before .before .before .before .before .before .pre .0) _ _ (c .before .before .before .before .before .before .before .pop .ensures .0) (c .before .before .before .before .before .before .before .pop .ensures .1) (c .before .before .before .before .before .before .before .before .before .before .before .before .before .before .before .before .pre .1)
+returns c =
+    let p = popped c in
+    let pre = start (p .before) .pre in
+    pops-aside (pre .0) _ _ (p .pop .ensures .0) (p .pop .ensures .1) (pre .1)
 
 pub pop-spec : {M : Type 1} → statement M
 pop-spec = tie.close (tie.spec pop-requires same-length same-length-2 same-length-3 returns)

@@ -1,13 +1,24 @@
--- `pop_entry` meets its contract: nobody was there (`popped-none`), more are left (`popped-more`), or it was the last (`popped-last`).
+-- `pop_entry` meets its contract: nobody was there (`slot-none`), more are left (`slot-more`), or it was the last (`slot-last`).
 use borrow.Author.Needs.{needs}
-use mathlib.Core.Path.{refl, sym, _∙_}
-use Rattle.stack.specs.Heads.{slot-head}
-use Rattle.wheel.specs.Words.{pop-asks, popped-none, popped-more, popped-flag, popped-last}
+use Rattle.wheel.specs.Words.{pop-asks, slot-none, slot-more, slot-flag, slot-last}
 use Rattle.wheel.proofs.pop_entry.Statement.{statement}
 use Rattle.wheel.proofs.pop_entry.Tie as tie
 
+abbrev start : tie.After-pop-slot-arg4 → tie.Start
+start c =
+    let a = c .before .before .before .before in
+    a .before .before .before
+
+abbrev popped : tie.After-slice-known6 → tie.After-pop-slot
+popped c =
+    let a = c .before .before .before .before in
+    a .before .before
+
+abbrev some : tie.Else2 → tie.Else1
+some c = c .before .before
+
 pop-slot-requires : tie.Need-pop-slot-requires
-pop-slot-requires c κs = pop-asks (c .before .before .before .before .before .before .before .pre)
+pop-slot-requires c κs = pop-asks (start c .pre)
 
 same-length : tie.Need-same-length
 same-length c = search needs
@@ -19,7 +30,9 @@ same-length-3 : tie.Need-same-length-3
 same-length-3 c = search needs
 
 returns : tie.Need-returns
-returns c = popped-none (c .before .before .before .before .before .before .before .before .before .before .before .before .before .before .before .pre .whole) _ _ (c .before .before .before .before .before .before .before .pop-slot .ensures .0 ∙ slot-head _ _ (c .before .before .before .before .before .before .before .before .before .before .before .before .before .before .before .pre .level) (c .before .before .before .before .before .before .before .before .before .before .before .before .before .before .before .pre .slot) _ _) (c .before .before .before .before .before .before .before .pop-slot .ensures .1 _) (c .if1 .taken)
+returns c =
+    let p = popped (c .before) in
+    slot-none (start (p .before) .pre) (p .pop-slot .ensures .0) (p .pop-slot .ensures .1 _) (c .if1 .taken)
 
 mul-if2 : tie.Need-mul-if2
 mul-if2 c = search needs
@@ -43,10 +56,29 @@ same-length-6 : tie.Need-same-length-6
 same-length-6 c = search needs
 
 returns-2 : tie.Need-returns-2
-returns-2 c = popped-more (c .before .before .before .before .before .before .before .before .before .before .before .before .before .before .before .before .before .pre .whole) _ _ (c .before .before .before .before .before .before .before .before .before .pop-slot .ensures .0 ∙ slot-head _ _ (c .before .before .before .before .before .before .before .before .before .before .before .before .before .before .before .before .before .pre .level) (c .before .before .before .before .before .before .before .before .before .before .before .before .before .before .before .before .before .pre .slot) _ _) (c .before .before .before .before .before .before .before .before .before .pop-slot .ensures .1 _) (c .before .before .if1 .left) (λ z. c .if2 .taken (slot-head _ _ (c .before .before .before .before .before .before .before .before .before .before .before .before .before .before .before .before .before .pre .level) (c .before .before .before .before .before .before .before .before .before .before .before .before .before .before .before .before .before .pre .slot) _ _ ∙ z))
+returns-2 c =
+    let e = c .before .before in
+    let p = popped (e .before) in
+    slot-more (start (p .before) .pre) (p .pop-slot .ensures .0) (p .pop-slot .ensures .1 _) (e .if1 .left) (c .if2 .taken)
 
-with-flag-requires : tie.Need-with-flag-requires
-with-flag-requires c κs = (c .before .before .before .before .before .before .before .before .before .before .before .before .before .before .before .before .before .before .pre .level, c .before .before .before .before .before .before .before .before .before .before .before .before .before .before .before .before .before .before .pre .slot, λ _. popped-flag (c .before .before .before .before .before .before .before .before .before .before .before .before .before .before .before .before .before .before .pre .whole) _ _ (c .before .before .before .before .before .before .before .before .before .before .pop-slot .ensures .0 ∙ slot-head _ _ (c .before .before .before .before .before .before .before .before .before .before .before .before .before .before .before .before .before .before .pre .level) (c .before .before .before .before .before .before .before .before .before .before .before .before .before .before .before .before .before .before .pre .slot) _ _) (c .before .before .before .before .before .before .before .before .before .before .pop-slot .ensures .1 _) (c .before .before .before .if1 .left) _ _ (c .before .before .before .before .before .before .before .before .before .before .before .before .before .before .before .before .before .before .pre .level) (c .before .before .before .before .before .before .before .before .before .before .before .before .before .before .before .before .before .before .pre .slot) refl)
+mul-clear : tie.Need-mul-clear
+mul-clear c = search needs
+
+element-copy-out-clear : tie.Need-element-copy-out-clear
+element-copy-out-clear c = search needs
+
+clear-requires : tie.Need-clear-requires
+clear-requires c κs =
+    let e = some (c .before) in
+    let p = popped (e .before) in
+    let pre = start (p .before) .pre in
+    (pre .slot, slot-flag pre (p .pop-slot .ensures .0) (p .pop-slot .ensures .1 _) (e .if1 .left))
+
+mul-rows : tie.Need-mul-rows
+mul-rows c = search needs
+
+element-write-rows : tie.Need-element-write-rows
+element-write-rows c = search needs
 
 same-length-7 : tie.Need-same-length-7
 same-length-7 c = search needs
@@ -58,7 +90,11 @@ same-length-9 : tie.Need-same-length-9
 same-length-9 c = search needs
 
 returns-3 : tie.Need-returns-3
-returns-3 c = popped-last (c .before .before .before .before .before .before .before .before .before .before .before .before .before .before .before .before .before .before .before .pre .whole) _ _ (c .before .before .before .before .before .before .before .before .before .before .before .pop-slot .ensures .0 ∙ slot-head _ _ (c .before .before .before .before .before .before .before .before .before .before .before .before .before .before .before .before .before .before .before .pre .level) (c .before .before .before .before .before .before .before .before .before .before .before .before .before .before .before .before .before .before .before .pre .slot) _ _) (c .before .before .before .before .before .before .before .before .before .before .before .pop-slot .ensures .1 _) (c .before .before .before .before .if1 .left) _ _ (c .before .before .before .before .before .before .before .before .before .before .before .before .before .before .before .before .before .before .before .pre .level) (c .before .before .before .before .before .before .before .before .before .before .before .before .before .before .before .before .before .before .before .pre .slot) refl (sym (slot-head _ _ (c .before .before .before .before .before .before .before .before .before .before .before .before .before .before .before .before .before .before .before .pre .level) (c .before .before .before .before .before .before .before .before .before .before .before .before .before .before .before .before .before .before .before .pre .slot) _ _) ∙ c .before .before .if2 .left) (c .with-flag .ensures)
+returns-3 c =
+    let l = c .before .before in
+    let e = some l in
+    let p = popped (e .before) in
+    slot-last (start (p .before) .pre) (p .pop-slot .ensures .0) (p .pop-slot .ensures .1 _) (e .if1 .left) (l .if2 .left) (c .clear .ensures)
 
 pub pop-entry-spec : {M : Type 1} → statement M
 pop-entry-spec =
@@ -77,7 +113,11 @@ pop-entry-spec =
     same-length-5
     same-length-6
     returns-2
-    with-flag-requires
+    mul-clear
+    element-copy-out-clear
+    clear-requires
+    mul-rows
+    element-write-rows
     same-length-7
     same-length-8
     same-length-9

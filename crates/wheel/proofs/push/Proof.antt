@@ -4,8 +4,18 @@ use Rattle.wheel.specs.Words.{push-asks, push-aside}
 use Rattle.wheel.proofs.push.Statement.{statement}
 use Rattle.wheel.proofs.push.Tie as tie
 
+abbrev start : tie.After-push-arg5 → tie.Start
+start c =
+    let a = c .before .before .before .before in
+    a .before .before .before .before
+
+abbrev pushed : tie.After-slice-known6 → tie.After-push
+pushed c =
+    let a = c .before .before .before .before in
+    a .before .before
+
 push-requires : tie.Need-push-requires
-push-requires c κs = push-asks (c .before .before .before .before .before .before .before .before .pre)
+push-requires c κs = push-asks (start c .pre)
 
 same-length : tie.Need-same-length
 same-length c = search needs
@@ -17,7 +27,7 @@ same-length-3 : tie.Need-same-length-3
 same-length-3 c = search needs
 
 returns : tie.Need-returns
-returns c = push-aside (c .before .before .before .before .before .before .before .before .before .before .before .before .before .before .before .pre) (c .before .before .before .before .before .before .push .ensures)
+returns c = push-aside (start (pushed c .before) .pre) (pushed c .push .ensures)
 
 pub push-spec : {M : Type 1} → statement M
 push-spec = tie.close (tie.spec push-requires same-length same-length-2 same-length-3 returns)

@@ -1,10 +1,23 @@
 -- `remove` meets its contract: the list is no slot (`leaves-aside`), more are left (`leaves-more`), or it was the last (`leaves-last`).
 use borrow.Author.Needs.{needs}
-use mathlib.Core.Path.{sym, _∙_}
 use native.Mathlib.Omega.{arith}
 use Rattle.wheel.specs.Words.{leave-asks, leaves-aside, leaves-more, leaves-flag, leaves-last}
 use Rattle.wheel.proofs.remove.Statement.{statement}
 use Rattle.wheel.proofs.remove.Tie as tie
+
+abbrev start : tie.After-remove-arg5 → tie.Start
+start c =
+    let a = c .before .before .before .before in
+    let b = a .before .before .before .before in
+    b .before
+
+abbrev left : tie.After-slice-known7 → tie.After-remove
+left c =
+    let a = c .before .before .before .before in
+    a .before .before
+
+abbrev slot : tie.Else2 → tie.Else1
+slot c = c .before .before
 
 mul-place : tie.Need-mul-place
 mul-place c = search needs
@@ -13,7 +26,7 @@ slice-read-place : tie.Need-slice-read-place
 slice-read-place c = search needs
 
 remove-requires : tie.Need-remove-requires
-remove-requires c κs = leave-asks (c .before .before .before .before .before .before .before .before .before .pre)
+remove-requires c κs = leave-asks (start c .pre)
 
 same-length : tie.Need-same-length
 same-length c = search needs
@@ -25,10 +38,25 @@ same-length-3 : tie.Need-same-length-3
 same-length-3 c = search needs
 
 returns : tie.Need-returns
-returns c = leaves-aside (c .before .before .before .before .before .before .before .before .before .before .before .before .before .before .before .before .before .pre) (c .before .before .before .before .before .before .before .remove .ensures) (c .if1 .taken)
+returns c = let l = left (c .before) in leaves-aside (start (l .before) .pre) (l .remove .ensures) (c .if1 .taken)
 
-head-of-requires : tie.Need-head-of-requires
-head-of-requires c κs = search needs
+cast-level : tie.Need-cast-level
+cast-level c = search needs
+
+cast-slot : tie.Need-cast-slot
+cast-slot c = search needs
+
+mul-if2 : tie.Need-mul-if2
+mul-if2 c = search needs
+
+mul-if2-2 : tie.Need-mul-if2-2
+mul-if2-2 c = search needs
+
+index-1-if2 : tie.Need-index-1-if2
+index-1-if2 c = search needs
+
+index-2-if2 : tie.Need-index-2-if2
+index-2-if2 c = search needs
 
 same-length-4 : tie.Need-same-length-4
 same-length-4 c = search needs
@@ -40,16 +68,28 @@ same-length-6 : tie.Need-same-length-6
 same-length-6 c = search needs
 
 returns-2 : tie.Need-returns-2
-returns-2 c = leaves-more (c .before .before .before .before .before .before .before .before .before .before .before .before .before .before .before .before .before .before .before .before .pre) (c .before .before .before .before .before .before .before .before .before .before .remove .ensures) (λ z. c .if2 .taken (c .before .head-of .ensures ∙ z))
+returns-2 c =
+    let s = c .before .before in
+    let l = left (s .before) in
+    leaves-more (start (l .before) .pre) (l .remove .ensures) (s .if1 .left) (c .if2 .taken)
 
-cast-level : tie.Need-cast-level
-cast-level c = search needs
+mul-clear : tie.Need-mul-clear
+mul-clear c = search needs
 
-cast-slot : tie.Need-cast-slot
-cast-slot c = search needs
+element-copy-out-clear : tie.Need-element-copy-out-clear
+element-copy-out-clear c = search needs
 
-with-flag-requires : tie.Need-with-flag-requires
-with-flag-requires c κs = (omega (arith, c .before .before .before .before .if1 .left), omega arith, λ _. leaves-flag (c .before .before .before .before .before .before .before .before .before .before .before .before .before .before .before .before .before .before .before .before .before .pre) (c .before .before .before .before .before .before .before .before .before .before .before .remove .ensures) (c .before .before .before .before .if1 .left))
+clear-requires : tie.Need-clear-requires
+clear-requires c κs =
+    let s = slot (c .before) in
+    let l = left (s .before) in
+    (omega arith, leaves-flag (start (l .before) .pre) (l .remove .ensures) (s .if1 .left))
+
+mul-rows : tie.Need-mul-rows
+mul-rows c = search needs
+
+element-write-rows : tie.Need-element-write-rows
+element-write-rows c = search needs
 
 same-length-7 : tie.Need-same-length-7
 same-length-7 c = search needs
@@ -61,7 +101,11 @@ same-length-9 : tie.Need-same-length-9
 same-length-9 c = search needs
 
 returns-3 : tie.Need-returns-3
-returns-3 c = leaves-last (c .before .before .before .before .before .before .before .before .before .before .before .before .before .before .before .before .before .before .before .before .before .before .pre) (c .before .before .before .before .before .before .before .before .before .before .before .before .remove .ensures) (c .before .before .before .before .before .if1 .left) (sym (c .before .before .before .head-of .ensures) ∙ c .before .before .if2 .left) (c .with-flag .ensures)
+returns-3 c =
+    let n = c .before .before in
+    let s = slot n in
+    let l = left (s .before) in
+    leaves-last (start (l .before) .pre) (l .remove .ensures) (s .if1 .left) (n .if2 .left) (c .clear .ensures)
 
 pub remove-spec : {M : Type 1} → statement M
 remove-spec =
@@ -74,14 +118,21 @@ remove-spec =
     same-length-2
     same-length-3
     returns
-    head-of-requires
+    cast-level
+    cast-slot
+    mul-if2
+    mul-if2-2
+    index-1-if2
+    index-2-if2
     same-length-4
     same-length-5
     same-length-6
     returns-2
-    cast-level
-    cast-slot
-    with-flag-requires
+    mul-clear
+    element-copy-out-clear
+    clear-requires
+    mul-rows
+    element-write-rows
     same-length-7
     same-length-8
     same-length-9

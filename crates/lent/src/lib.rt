@@ -1,0 +1,1 @@
+// What contracts say of a parameter that is lent: see specs/.

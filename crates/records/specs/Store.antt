@@ -1,0 +1,19 @@
+-- The words of a store as the public calls have them: the wheel and the heads by value, handed in and handed back, the slices lent.
+use mathlib.Core.List.{List}
+use Prim.Native.Nat.{ℕ}
+use Rattle.lent.specs.Lent.{Turned, old, new}
+use Rattle.stack.specs.Words.{stacksOf}
+use Rattle.wheel.specs.declared.Wheel.{Wheel}
+use Rattle.records.specs.Words.{QueueWords, words}
+
+module _ (state : Wheel) (heads : List (List ℕ)) (values deadlines nexts prevs turns marks : Turned (List ℕ)) where
+  -- at the call, and at the return
+  abbrev pub before : QueueWords
+  before = words state heads (old values) (old deadlines) (old nexts) (old prevs) (old turns) (old marks)
+
+  abbrev pub after : QueueWords
+  after = words state heads (new values) (new deadlines) (new nexts) (new prevs) (new turns) (new marks)
+
+-- the parts put together again
+abbrev pub wheelOf : ℕ → List ℕ → List ℕ → Wheel
+wheelOf e occ tops = record { elapsed = e; occupied = occ; stacks = stacksOf tops }
