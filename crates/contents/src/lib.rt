@@ -105,17 +105,11 @@ fn slots(out: &mut [u8], pen: Pen, state: Wheel, heads: &[[u16; 64]; 6], nexts: 
     let tops = [n, stacks.expired, stacks.free];
     let mut p = pen;
     let mut place = 0u16;
-    while place < stack::EXPIRED {
+    while place < stack::SLOTS {
         let h = stack::head_of(&tops, heads, place);
-        p = slot(
-            out,
-            p,
-            nexts,
-            n,
-            (place / 64) as u64,
-            (place % 64) as u64,
-            h,
-        );
+        let level = stack::level_of(place);
+        let s = stack::slot_of(place);
+        p = slot(out, p, nexts, n, level as u64, s as u64, h);
         place += 1;
     }
     p

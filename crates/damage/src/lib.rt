@@ -7,6 +7,7 @@ use wheel::Wheel;
 ghost use mathlib.Core.Path.{_≡_};
 ghost use Prim.Native.Nat.{_-_, _≤_, _<_};
 ghost use lib.ListN.{length};
+ghost use Rattle.stack.specs.Places.{slots};
 
 // Where each part begins in the row. Of the 1,025 words of a slice the row has the first 12; the store's 9 records need 9.
 pub const VALUES: usize = 0;
@@ -32,6 +33,8 @@ pub const FREE: usize = 75;
 pub const OCCUPIED: usize = 76;
 
 pub const HEADS: usize = 82;
+
+pub const SLOTS: usize = stack::SLOTS as usize;
 
 // One number for the words of the slices that the row does not have: 0 while they are as they were made.
 const REST: usize = 466;
@@ -149,7 +152,7 @@ fn state_in(image: &Image) -> Wheel {
 fn heads_in(image: &Image) -> [[u16; 64]; 6] {
     let mut heads = [[0u16; 64]; 6];
     let mut i: usize = 0;
-    while i < 384 {
+    while i < SLOTS {
         put_head(&mut heads, i, narrow(image[HEADS + i]));
         i += 1;
     }
@@ -157,7 +160,7 @@ fn heads_in(image: &Image) -> [[u16; 64]; 6] {
 }
 
 fn put_head(heads: &mut [[u16; 64]; 6], i: usize, x: u16)
-    requires { ⌜ i < 384 ⌝ }
+    requires { ⌜ i < slots ⌝ }
 {
     let k = i / 64;
     let s = i % 64;
@@ -203,7 +206,7 @@ fn note_state(image: &mut Image, state: Wheel) {
 
 fn note_heads(image: &mut Image, heads: &[[u16; 64]; 6]) {
     let mut i: usize = 0;
-    while i < 384 {
+    while i < SLOTS {
         let k = i / 64;
         let s = i % 64;
         image[HEADS + i] = wide(heads[k][s]);

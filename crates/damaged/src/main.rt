@@ -83,18 +83,18 @@ fn turns(image: &Image) {
 fn marks(image: &Image) {
     // a pending one: another slot, the expired stack, free, nobody
     show(image, MARKS + 1, 42);
-    show(image, MARKS + 1, 384);
-    show(image, MARKS + 2, 385);
+    show(image, MARKS + 1, stack::EXPIRED as u64);
+    show(image, MARKS + 2, stack::FREE as u64);
     show(image, MARKS + 4, NOBODY);
     // the slot of the same number at another level; an expired one as free
     show(image, MARKS + 5, 257);
-    show(image, MARKS + 6, 385);
+    show(image, MARKS + 6, stack::FREE as u64);
     // a free one: expired, nobody
-    show(image, MARKS + 8, 384);
+    show(image, MARKS + 8, stack::EXPIRED as u64);
     show(image, MARKS + 8, NOBODY);
     // a retired one: free, no place at all
-    show(image, MARKS, 385);
-    show(image, MARKS, 386);
+    show(image, MARKS, stack::FREE as u64);
+    show(image, MARKS, stack::FREE as u64 + 1);
     show_each(image, MARKS, 9);
 }
 
@@ -137,7 +137,7 @@ fn rows(image: &Image) {
     show(image, HEADS + 42, 1);
     show(image, HEADS + 202, 7);
     show(image, HEADS + 383, 0);
-    show_each(image, HEADS, 384);
+    show_each(image, HEADS, damage::SLOTS);
 }
 
 // Changes that leave the store sound.

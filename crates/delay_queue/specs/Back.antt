@@ -65,7 +65,7 @@ pub wake-done : {s : QueueWords} {a : Answer} → Sound s → ((v : View) → v 
 wake-done {s} S f = record { done = f (view s) refl (S .whole .rows) }
 
 pub marks-long : {s : QueueWords} → Sound s → count s ≤ length (s .wheel .stack .links .marks)
-marks-long S = stack.deep (S .whole .stack) .marks
+marks-long S = stack.room (S .whole .stack) .marks
 
 pub length-done : {s : QueueWords} {n : ℕ} → Sound s → n ≡ pendingIn (markOf s) (count s) → LengthOn s (A.Length n)
 length-done S e = record { done = ap len (e ∙ pending-is S) }

@@ -1,12 +1,11 @@
--- What every call answers and leaves, for any input at all, in document 01's words. `Sound`, the view and what happens to one record stand in `records`
--- (specs/Words.antt, View.antt, Records.antt), `Refused` and what a call does on a sound store in `queue` (specs/Calls.antt, Steps.antt, Told.antt).
+-- What every call answers and leaves, for any input at all, in document 01's words. `Fits`, `Sound`, the view and what happens to one record stand in
+-- `records` (specs/Slices.antt, Words.antt, View.antt, Records.antt), `Refused` and what a call does on a sound store in `queue` (specs/Calls.antt, Steps.antt, Told.antt).
 use mathlib.Core.Path.{_≡_}
 use mathlib.Core.Bool.{cond}
 use mathlib.Core.List.{[]}
-use Prim.Native.Nat.{ℕ, _^_, _≤_, _<_}
+use Prim.Native.Nat.{ℕ, _^_, _<_}
 use lib.Dec.{ltb}
 use Rattle.links.specs.Lists.{change}
-use Rattle.links.specs.Laws.{Kept, LinksKept}
 use Rattle.stack.specs.Places.{free}
 use Rattle.stack.specs.Format.{range}
 use Rattle.queue.specs.Told.{told, ok}
@@ -14,16 +13,11 @@ use Rattle.records.specs.View.{View, viewOf}
 use Rattle.queue.specs.declared.Answer.{Answer}
 use Rattle.delay_queue.specs.declared.Call.{Call}
 use Rattle.delay_queue.specs.declared.Call.the-variants as C
-use Rattle.records.specs.Words.{QueueWords, Room, Sound, limit, view}
+use Rattle.records.specs.Slices.{Fits}
+use Rattle.records.specs.Words.{QueueWords, slices, Sound, PastKept, view}
 use Rattle.queue.specs.Calls.{Refused, InsertOn, ResetOn, RemoveOn, PollOn, WakeOn, LengthOn, ClearOn}
 
 -- ---- format
-
--- number 1 is not given: "N from 1 to 1,024", and no lent slice is too short for N
-pub record Fits (s : QueueWords) (n : ℕ) : Type 0 where
-  pub some : 0 < n
-  pub few : n ≤ limit
-  pub room : Room n (s .values) (s .deadlines) (s .wheel .stack .links .nexts) (s .wheel .stack .links .prevs) (s .turns) (s .wheel .stack .links .marks)
 
 -- number 8 is not given: "a first turn (1 to 2^48-1)"
 pub record InRange (turn : ℕ) : Type 0 where
@@ -39,13 +33,6 @@ first n x f i = cond (ltb i n) x (f i)
 abbrev pub fresh : ℕ → ℕ → View → View
 fresh n turn v = viewOf n 0 (change (λ p. []) free (range n 0)) (first n 0 (v .value)) (first n 0 (v .deadline)) (first n turn (v .turn))
 
--- "Words of a slice past what N records need are never changed by any call": those, and all lengths
-pub record PastKept (n : ℕ) (s s′ : QueueWords) : Type 0 where
-  pub links : LinksKept n (s .wheel .stack .links) (s′ .wheel .stack .links)
-  pub values : Kept n (s .values) (s′ .values)
-  pub deadlines : Kept n (s .deadlines) (s′ .deadlines)
-  pub turns : Kept n (s .turns) (s′ .turns)
-
 pub record Formatted (s : QueueWords) (n turn : ℕ) (a : Answer) (s′ : QueueWords) : Type 0 where
   pub told : told a ≡ ok
   pub sound : Sound s′
@@ -54,9 +41,9 @@ pub record Formatted (s : QueueWords) (n turn : ℕ) (a : Answer) (s′ : QueueW
 
 -- "format 1, 8"
 pub record FormatClaim (s : QueueWords) (n turn : ℕ) (a : Answer) (s′ : QueueWords) : Type 0 where
-  pub short : (Fits s n → ⊥) → Refused 1 s a s′
-  pub outside : Fits s n → (InRange turn → ⊥) → Refused 8 s a s′
-  pub done : Fits s n → InRange turn → Formatted s n turn a s′
+  pub short : (Fits (slices s) n → ⊥) → Refused 1 s a s′
+  pub outside : Fits (slices s) n → (InRange turn → ⊥) → Refused 8 s a s′
+  pub done : Fits (slices s) n → InRange turn → Formatted s n turn a s′
 
 -- ---- the other calls
 

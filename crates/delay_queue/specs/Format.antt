@@ -9,8 +9,8 @@ use lib.ListN.{length, set, replicate, getD-replicate, length-set}
 use borrow.Author.Tests.{lt-ltb, le-ltb}
 use Rattle.row.specs.RowLaws.{row-none}
 use Rattle.links.specs.Lists.{Mem, nobody, change, change-other}
-use Rattle.lent.specs.Lent.{Turned, old, new as left}
-use Rattle.links.specs.Links.{at, links, Deep}
+use Rattle.lent.specs.Lent.{Turned, new as left}
+use Rattle.links.specs.Links.{at}
 use Rattle.stack.specs.Places.{slotPlace, expired, free}
 use Rattle.stack.specs.Words.{StackWords}
 use Rattle.stack.specs.Format.{over, over-step, over-at, over-kept, length-over, range, formatted, format-kept, format-whole, format-lists}
@@ -22,8 +22,9 @@ use Rattle.queue.specs.declared.Answer.{Answer}
 use Rattle.queue.specs.declared.Answer.the-variants as A
 use Rattle.queue.specs.Told.{told}
 use Rattle.records.specs.View.{view-eq}
-use Rattle.records.specs.Words.{QueueWords, queueWords, words, parts, limit, Room, Sound}
-use Rattle.delay_queue.specs.Claims.{Fits, InRange, first, Formatted, FormatClaim}
+use Rattle.records.specs.Slices.{Slices, slicesOf, Fits, before as given}
+use Rattle.records.specs.Words.{QueueWords, queueWords, words, parts, slices, Sound}
+use Rattle.delay_queue.specs.Claims.{InRange, first, Formatted, FormatClaim}
 use Rattle.delay_queue.specs.Back.{Goes}
 
 -- ---- the number
@@ -34,9 +35,6 @@ pub record FormatNo (fits range : Type 0) (r : ℕ) : Type 0 where
   pub outside : fits → (range → ⊥) → r ≡ 8
   pub near : fits → range → r ≡ 0
   pub taken : r ≡ 0 → fits × range
-
-abbrev pub FitsIn : ℕ → List ℕ → List ℕ → List ℕ → List ℕ → List ℕ → List ℕ → Type 0
-FitsIn n vs ds ns ps ts ms = (0 < n) × (n ≤ limit) × Room n vs ds ns ps ts ms
 
 module _ {fits range : Type 0} where
   pub no-one : (fits → ⊥) → FormatNo fits range 1
@@ -83,20 +81,20 @@ module _ (n x : ℕ) (l : List ℕ) where
 -- ---- the store
 
 -- the words that format makes
-pub record Makes (n turn : ℕ) (vs ds ns ps ts ms : List ℕ) (s′ : QueueWords) : Type 0 where
-  pub wheel : s′ .wheel ≡ wheelWords 0 (replicate 6 0) (formatted n ns ps ms)
-  pub values : s′ .values ≡ over n (λ i. 0) vs
-  pub deadlines : s′ .deadlines ≡ over n (λ i. 0) ds
-  pub turns : s′ .turns ≡ over n (λ i. turn) ts
+pub record Makes (n turn : ℕ) (l : Slices) (s′ : QueueWords) : Type 0 where
+  pub wheel : s′ .wheel ≡ wheelWords 0 (replicate 6 0) (formatted n (l .links .nexts) (l .links .prevs) (l .links .marks))
+  pub values : s′ .values ≡ over n (λ i. 0) (l .values)
+  pub deadlines : s′ .deadlines ≡ over n (λ i. 0) (l .deadlines)
+  pub turns : s′ .turns ≡ over n (λ i. turn) (l .turns)
 
 -- of the words that `make` is lent
 module _ (n turn : ℕ) (tops : Turned (List ℕ)) (heads : Turned (List (List ℕ))) (values deadlines nexts prevs turns marks : Turned (List ℕ)) where
   abbrev pub MakesOf : Type 0
   MakesOf =
-      Makes n turn (old values) (old deadlines) (old nexts) (old prevs) (old turns) (old marks)
+      Makes n turn (given values deadlines nexts prevs turns marks)
       (parts 0 (replicate 6 0) (left tops) (left heads) (left values) (left deadlines) (left nexts) (left prevs) (left turns) (left marks))
 
-module _ {n turn : ℕ} {s : QueueWords} (F : Fits s n) (T : InRange turn) where
+module _ (s : QueueWords) {n turn : ℕ} (F : Fits (slices s) n) (T : InRange turn) where
   abbrev made : StackWords
   made = formatted n (s .wheel .stack .links .nexts) (s .wheel .stack .links .prevs) (s .wheel .stack .links .marks)
 
@@ -106,14 +104,11 @@ module _ {n turn : ℕ} {s : QueueWords} (F : Fits s n) (T : InRange turn) where
   small : n ≤ nobody
   small = omega arith
 
-  deep : Deep n (s .wheel .stack .links)
-  deep = record { nexts = F .room .nexts; prevs = F .room .prevs; marks = F .room .marks }
-
   whole : stack.Whole made
-  whole = format-whole n _ _ _ (F .some) small deep
+  whole = format-whole n _ _ _ (F .some) small (F .room .links)
 
   is : stack.lists made ≡ change (λ p. []) free (range n 0)
-  is = format-lists n _ _ _ (F .some) small deep
+  is = format-lists n _ _ _ (F .some) small (F .room .links)
 
   -- no slot and no expired stack has a member
   empty : (p : ℕ) → p < free → stack.lists made p ≡ []
@@ -129,12 +124,15 @@ module _ {n turn : ℕ} {s : QueueWords} (F : Fits s n) (T : InRange turn) where
   new-sound : Sound new
   new-sound =
       record {
-        some = rw sized (F .some);
-        few = rw sized (F .few);
-        roomy = record {
-          values = omega (arith, sized, length-over n (λ i. 0) (s .values));
-          deadlines = omega (arith, sized, length-over n (λ i. 0) (s .deadlines));
-          turns = omega (arith, sized, length-over n (λ i. turn) (s .turns));
+        fits = record {
+          some = rw sized (F .some);
+          few = rw sized (F .few);
+          room = record {
+            values = omega (arith, sized, length-over n (λ i. 0) (s .values));
+            deadlines = omega (arith, sized, length-over n (λ i. 0) (s .deadlines));
+            links = stack.room whole;
+            turns = omega (arith, sized, length-over n (λ i. turn) (s .turns));
+          };
         };
         whole = record {
           stack = whole;
@@ -149,11 +147,7 @@ module _ {n turn : ℕ} {s : QueueWords} (F : Fits s n) (T : InRange turn) where
         rule = record { wheel = λ p x h m. absurd (nobody-in p x (omega arith) m); stack = λ x m. absurd (nobody-in expired x (omega arith) m) };
       }
 
-  abbrev Made : QueueWords → Type 0
-  Made s′ =
-      Makes n turn (s .values) (s .deadlines) (s .wheel .stack .links .nexts) (s .wheel .stack .links .prevs) (s .turns) (s .wheel .stack .links .marks) s′
-
-  pub formats : {s′ : QueueWords} → Made s′ → {a : Answer} → a ≡ A.Done → Formatted s n turn a s′
+  pub formats : {s′ : QueueWords} → Makes n turn (slices s) s′ → {a : Answer} → a ≡ A.Done → Formatted s n turn a s′
   formats {s′} M {a} e =
       let q : s′ ≡ new = λ i. queueWords (M .wheel i) (M .values i) (M .deadlines i) (M .turns i) in
       rw q (record {
@@ -161,7 +155,7 @@ module _ {n turn : ℕ} {s : QueueWords} (F : Fits s n) (T : InRange turn) where
         sound = new-sound;
         view = view-eq sized refl is (over-first n 0 (s .values) (F .room .values)) (over-first n 0 (s .deadlines) (F .room .deadlines)) (over-first n turn (s .turns) (F .room .turns));
         kept = record {
-          links = format-kept n _ _ _ (F .some) small deep;
+          links = format-kept n _ _ _ (F .some) small (F .room .links);
           values = over-kept n n (λ i. 0) (s .values) (omega arith);
           deadlines = over-kept n n (λ i. 0) (s .deadlines) (omega arith);
           turns = over-kept n n (λ i. turn) (s .turns) (omega arith);
@@ -171,31 +165,23 @@ module _ {n turn : ℕ} {s : QueueWords} (F : Fits s n) (T : InRange turn) where
 -- ---- the call
 
 module _ (s : QueueWords) (n turn : ℕ) where
-  abbrev In : Type 0
-  In = FitsIn n (s .values) (s .deadlines) (s .wheel .stack .links .nexts) (s .wheel .stack .links .prevs) (s .turns) (s .wheel .stack .links .marks)
-
-  fits-in : Fits s n → In
-  fits-in F = (F .some, F .few, F .room)
-
-  in-fits : In → Fits s n
-  in-fits I = record { some = I .0; few = I .1; room = I .2 }
-
-  format-no : {r : ℕ} {a : Answer} {s′ : QueueWords} → FormatNo In (InRange turn) r → r ≢ 0 → a ≡ A.No r → s′ ≡ s → FormatClaim s n turn a s′
+  format-no : {r : ℕ} {a : Answer} {s′ : QueueWords} → FormatNo (Fits (slices s) n) (InRange turn) r → r ≢ 0 → a ≡ A.No r → s′ ≡ s
+      → FormatClaim s n turn a s′
   format-no {r} N d e q =
       record {
-        short = λ f. record { told = ap told (e ∙ ap A.No (N .short (λ I. f (in-fits I)))); same = q };
-        outside = λ F f. record { told = ap told (e ∙ ap A.No (N .outside (fits-in F) f)); same = q };
-        done = λ F T. absurd (d (N .near (fits-in F) T));
+        short = λ f. record { told = ap told (e ∙ ap A.No (N .short f)); same = q };
+        outside = λ F f. record { told = ap told (e ∙ ap A.No (N .outside F f)); same = q };
+        done = λ F T. absurd (d (N .near F T));
       }
 
-  pub format-done : {r : ℕ} {a : Answer} {s′ : QueueWords} → FormatNo In (InRange turn) r → r ≡ 0
-      → Makes n turn (s .values) (s .deadlines) (s .wheel .stack .links .nexts) (s .wheel .stack .links .prevs) (s .turns) (s .wheel .stack .links .marks) s′ → a ≡ A.Done
-      → FormatClaim s n turn a s′
+  pub format-done : {r : ℕ} {a : Answer} {s′ : QueueWords} → FormatNo (Fits (slices s) n) (InRange turn) r → r ≡ 0
+      → Makes n turn (slices s) s′ → a ≡ A.Done → FormatClaim s n turn a s′
   format-done N z M e =
       let t = N .taken z in
-      record { short = λ f. absurd (f (in-fits (t .0))); outside = λ F f. absurd (f (t .1)); done = λ F T. formats F T M e }
+      record { short = λ f. absurd (f (t .0)); outside = λ F f. absurd (f (t .1)); done = λ F T. formats s F T M e }
 
-pub format-refused : (vs ds ns ps ts ms : List ℕ) {n turn r : ℕ} {a : Answer} {w w′ : Wheel} {hh hh′ : List (List ℕ)} → FormatNo (FitsIn n vs ds ns ps ts ms) (InRange turn) r
-    → r ≢ 0 → Goes a w′ hh′ (A.No r) w hh → FormatClaim (words w hh vs ds ns ps ts ms) n turn a (words w′ hh′ vs ds ns ps ts ms)
+pub format-refused : (vs ds ns ps ts ms : List ℕ) {n turn r : ℕ} {a : Answer} {w w′ : Wheel} {hh hh′ : List (List ℕ)}
+    → FormatNo (Fits (slicesOf vs ds ns ps ts ms) n) (InRange turn) r → r ≢ 0 → Goes a w′ hh′ (A.No r) w hh
+    → FormatClaim (words w hh vs ds ns ps ts ms) n turn a (words w′ hh′ vs ds ns ps ts ms)
 format-refused vs ds ns ps ts ms {n} {turn} {w = w} {hh = hh} N d G =
     format-no (words w hh vs ds ns ps ts ms) n turn N d (G .0) (λ i. words (G .1 i) (G .2 i) vs ds ns ps ts ms)

@@ -7,10 +7,11 @@ ghost use Prim.Native.Nat.{_≤_, _<_};
 ghost use lib.ListN.{length};
 ghost use Rattle.stack.specs.Format.{over};
 ghost use Rattle.lent.specs.Lent.{old, new};
+ghost use Rattle.records.specs.Slices.{Fits, lent, before as slices};
 ghost use Rattle.records.specs.Store.{before, after, wheelOf};
 ghost use Rattle.delay_queue.specs.Claims.{InRange, FormatClaim, InsertClaim, ResetClaim, RemoveClaim};
 ghost use Rattle.delay_queue.specs.Claims.{PollClaim, WakeClaim, LengthClaim, ClearClaim};
-ghost use Rattle.delay_queue.specs.Format.{FormatNo, FitsIn, MakesOf};
+ghost use Rattle.delay_queue.specs.Format.{FormatNo, MakesOf};
 
 // A call, with its arguments in document 01's order.
 pub enum Call {
@@ -125,8 +126,7 @@ fn format_no(
     turn: u64,
 ) -> u64
     ensures { λ r. ⌜
-        FormatNo (FitsIn n (old values) (old deadlines) (old nexts) (old prevs) (old turns) (old marks))
-        (InRange turn) r ⌝ }
+        FormatNo (Fits (slices values deadlines nexts prevs turns marks) n) (InRange turn) r ⌝ }
 {
     if n == 0 {
         return 1;
@@ -159,7 +159,7 @@ fn make(
     n: u16,
     turn: u64,
 )
-    requires { ⌜ FitsIn n (now values) (now deadlines) (now nexts) (now prevs) (now turns) (now marks) ⌝ }
+    requires { ⌜ Fits (lent values deadlines nexts prevs turns marks) n ⌝ }
     ensures { λ _. ⌜ MakesOf n turn tops heads values deadlines nexts prevs turns marks ⌝ }
 {
     stack::format(tops, heads, nexts, prevs, marks, n);

@@ -40,10 +40,13 @@ fn mix(sum: u64, x: u64) -> u64 {
 fn told(sum: u64, answer: Answer) -> u64 {
     match answer {
         Answer::Done => sum,
-        Answer::Key(key) => mix(sum, key % 65536),
+        Answer::Key(key) => mix(sum, records::number_of(key) as u64),
         Answer::Gone(value, deadline) => mix(mix(sum, value), deadline),
         Answer::Out(key, value, deadline, moves, drains) => {
-            mix(mix(mix(sum, key % 65536), value), deadline)
+            mix(
+                mix(mix(sum, records::number_of(key) as u64), value),
+                deadline,
+            )
         }
         Answer::Nothing(moves, drains) => mix(sum, 7),
         Answer::Wake(time) => mix(sum, time),

@@ -24,7 +24,8 @@ use Rattle.wheel.specs.Rows.{flags}
 use Rattle.wheel.specs.Words.{headAt, lists as listsIn}
 use Rattle.wheel.specs.Between.{place-level, place-slot}
 use Rattle.records.specs.Records.{lastTurn}
-use Rattle.records.specs.Words.{QueueWords, count, elapsed, markOf, limit, Room, Sound}
+use Rattle.records.specs.Slices.{Fits}
+use Rattle.records.specs.Words.{QueueWords, count, elapsed, markOf, slices, Sound}
 
 -- b tells whether P holds
 pub record Tells (P : Type 0) (b : Bool) : Type 0 where
@@ -141,9 +142,7 @@ record-next ds ts ms R r = below-more _ _ R r
 -- ---- the judgement
 
 pub record Judged (s : QueueWords) : Type 0 where
-  pub some : 0 < count s
-  pub few : count s ≤ limit
-  pub room : Room (count s) (s .values) (s .deadlines) (s .wheel .stack .links .nexts) (s .wheel .stack .links .prevs) (s .turns) (s .wheel .stack .links .marks)
+  pub fits : Fits (slices s) (count s)
   pub lists : judged (s .wheel .stack) ≡ true
   pub rows : RowsAgree (s .wheel .occupied) (s .wheel .stack .heads)
   pub records : RecordsAgree (elapsed s) (count s) (s .deadlines) (s .turns) (s .wheel .stack .links .marks)
@@ -162,18 +161,8 @@ module _ {s : QueueWords} where
   pub sound-judged : Sound s → Judged s
   sound-judged S =
       let W = S .whole .stack in
-      let D = stack.deep W in
       record {
-        some = S .some;
-        few = S .few;
-        room = record {
-          values = S .roomy .values;
-          deadlines = S .roomy .deadlines;
-          nexts = D .nexts;
-          prevs = D .prevs;
-          turns = S .roomy .turns;
-          marks = D .marks;
-        };
+        fits = S .fits;
         lists = stack.whole-judged W;
         rows = record {
           six = S .whole .rows .six;
@@ -193,11 +182,9 @@ module _ {s : QueueWords} where
   pub judged-sound : Shape (s .wheel .stack .heads) → Judged s → Sound s
   judged-sound H J =
       let W : stack.Whole (s .wheel .stack)
-      = stack.judged-whole (omega arith) H (record { nexts = J .room .nexts; prevs = J .room .prevs; marks = J .room .marks }) (J .lists) in
+      = stack.judged-whole (omega arith) H (J .fits .room .links) (J .lists) in
       record {
-        some = J .some;
-        few = J .few;
-        roomy = record { values = J .room .values; deadlines = J .room .deadlines; turns = J .room .turns };
+        fits = J .fits;
         whole = record {
           stack = W;
           rows = record {

@@ -5,7 +5,8 @@ ghost use Prim.Native.Nat.{_≤_, _<_};
 ghost use lib.ListN.{length};
 ghost use Rattle.row.specs.Row.{rowOf};
 ghost use Rattle.lent.specs.Lent.{old};
-ghost use Rattle.records.specs.Words.{Room, Sound};
+ghost use Rattle.records.specs.Slices.{Room, before as slices};
+ghost use Rattle.records.specs.Words.{Sound};
 ghost use Rattle.records.specs.Store.{before};
 ghost use Rattle.wheel.specs.Wheel.{OnWheel};
 ghost use Rattle.judge.specs.Judge.{Tells, held, RowsAgree, RecordAgrees, RecordsAgree};
@@ -20,7 +21,7 @@ pub fn has_room(
     turns: &[u64],
     marks: &[u16],
 ) -> bool
-    ensures { λ r. ⌜ Tells (Room n (old values) (old deadlines) (old nexts) (old prevs) (old turns) (old marks)) r ⌝ }
+    ensures { λ r. ⌜ Tells (Room n (slices values deadlines nexts prevs turns marks)) r ⌝ }
 {
     let k = n as usize;
     if values.len() < k {
@@ -71,9 +72,9 @@ fn rows_agree(occupied: [u64; 6], heads: &[[u16; 64]; 6]) -> bool
     true
 }
 
-// Whether a timer with the deadline belongs in the slot p.
-fn is_place(elapsed: u64, when: u64, p: u16) -> bool
-    ensures { λ r. ⌜ Tells (OnWheel p elapsed when) r ⌝ }
+// Whether a timer with the deadline belongs in the slot `place`.
+fn is_place(elapsed: u64, when: u64, place: u16) -> bool
+    ensures { λ r. ⌜ Tells (OnWheel place elapsed when) r ⌝ }
 {
     if when < elapsed {
         return false;
@@ -83,7 +84,7 @@ fn is_place(elapsed: u64, when: u64, p: u16) -> bool
     }
     let level = times::level_for(elapsed, when);
     let slot = times::slot_for(when, level);
-    p == stack::slot_place(level, slot)
+    place == stack::slot_place(level, slot)
 }
 
 // Whether the turn is in range, and the deadline obeys the rule of the place that the mark tells.
@@ -96,7 +97,7 @@ fn record_agrees(elapsed: u64, when: u64, turn: u64, mark: u16) -> bool
     if records::LAST_TURN < turn {
         return false;
     }
-    if mark < stack::EXPIRED {
+    if stack::is_slot(mark) {
         return is_place(elapsed, when, mark);
     }
     if mark == stack::EXPIRED {

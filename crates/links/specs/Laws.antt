@@ -16,7 +16,7 @@ use Rattle.links.specs.Insert.{fam-push}
 use Rattle.links.specs.Remove.{fam-unlink}
 use Rattle.links.specs.Walk.{lists, fam-lists}
 use Rattle.links.specs.Judge.{judge, judge-sound, judge-complete}
-use Rattle.links.specs.Links.{Links, at, net, setN, joined, cutOut, headAfter, Deep, Inside, CanJoin, CanCut}
+use Rattle.links.specs.Links.{Links, at, net, setN, joined, cutOut, headAfter, Room, Inside, CanJoin, CanCut}
 
 -- the lists that a walk reads, of n records
 abbrev pub listsOf : ℕ → (ℕ → ℕ) → Links → ℕ → List ℕ
@@ -24,7 +24,7 @@ listsOf n hd s = lists (net hd s) n
 
 -- n records are there, and heads, links and marks hold the lists of P places
 pub record Whole (P n : ℕ) (hd : ℕ → ℕ) (s : Links) : Type 0 where
-  pub deep : Deep n s
+  pub room : Room n s
   pub fam : Fam P n (net hd s) (listsOf n hd s)
 
 -- the words of n records may differ; all others, and the length, are as they were
@@ -81,16 +81,16 @@ links-trans A B =
       marks = kept-trans (A .marks) (B .marks);
     }
 
-pub deep-kept : {n : ℕ} {s t : Links} → Deep n s → LinksKept n s t → Deep n t
-deep-kept Z K = omega arith
+pub room-kept : {n : ℕ} {s t : Links} → Room n s → LinksKept n s t → Room n t
+room-kept Z K = omega arith
 
 -- ---- from a family to the words that hold it
 
-changed : {P n : ℕ} {hd : ℕ → ℕ} {s : Links} {p : ℕ} {l : List ℕ} {hd′ : ℕ → ℕ} {t : Links} → Deep n s → LinksKept n s t
+changed : {P n : ℕ} {hd : ℕ → ℕ} {s : Links} {p : ℕ} {l : List ℕ} {hd′ : ℕ → ℕ} {t : Links} → Room n s → LinksKept n s t
     → Fam P n (net hd′ t) (change (listsOf n hd s) p l) → Changes P n hd s p l hd′ t
 changed Z K F =
     let e = fam-lists F in
-    record { whole = record { deep = deep-kept Z K; fam = rw e F }; lists = e; kept = K }
+    record { whole = record { room = room-kept Z K; fam = rw e F }; lists = e; kept = K }
 
 -- ---- the laws
 
@@ -126,7 +126,7 @@ module _ {P n : ℕ} {hd : ℕ → ℕ} {s : Links} (W : Whole P n hd s) where
   unfolding joined
   join-law p i hp hi lo H =
       let C = can-join p i hi in
-      changed (W .deep) (join-kept p i hi)
+      changed (W .room) (join-kept p i hi)
       (fam-push (W .fam) p i
       (record {
         head = H;
@@ -184,7 +184,7 @@ module _ {P n : ℕ} {hd : ℕ → ℕ} {s : Links} (W : Whole P n hd s) where
         let ps = setN (s .prevs) (at (s .nexts) i) (at (s .prevs) i) in
         let kn = kept-setN n (s .nexts) (at (s .prevs) i) (at (s .nexts) i) before-below in
         let kp = kept-setN n (s .prevs) (at (s .nexts) i) (at (s .prevs) i) after-below in
-        changed (W .deep) cut-kept
+        changed (W .room) cut-kept
         (fam-unlink (W .fam) i
         (record {
           head = H;
@@ -200,7 +200,7 @@ module _ {P n : ℕ} {hd : ℕ → ℕ} {s : Links} (W : Whole P n hd s) where
 
 -- ---- the mark of one that was cut out
 
-pub mark-cut : {n : ℕ} {s : Links} → Deep n s → (i : ℕ) → i < n → Upd (at (s .marks)) i nobody (at (cutOut s i .marks))
+pub mark-cut : {n : ℕ} {s : Links} → Room n s → (i : ℕ) → i < n → Upd (at (s .marks)) i nobody (at (cutOut s i .marks))
 unfolding cutOut
 mark-cut {n} {s} Z i hi = upd-set (s .marks) i nobody (omega arith)
 
@@ -209,6 +209,6 @@ mark-cut {n} {s} Z i hi = upd-set (s .marks) i nobody (omega arith)
 pub whole-judge : {P n : ℕ} {hd : ℕ → ℕ} {s : Links} → Whole P n hd s → judge (net hd s) P n ≡ true
 whole-judge {P} {n} {hd} {s} W = judge-complete (net hd s) n (W .fam .small) (W .fam)
 
-pub judge-whole : {P n : ℕ} {hd : ℕ → ℕ} {s : Links} → P ≤ nobody → n ≤ nobody → ((p : ℕ) → P ≤ p → hd p ≡ nobody) → Deep n s
+pub judge-whole : {P n : ℕ} {hd : ℕ → ℕ} {s : Links} → P ≤ nobody → n ≤ nobody → ((p : ℕ) → P ≤ p → hd p ≡ nobody) → Room n s
     → judge (net hd s) P n ≡ true → Whole P n hd s
-judge-whole {P} {n} {hd} {s} few small past Z e = record { deep = Z; fam = judge-sound (net hd s) n small P few past e }
+judge-whole {P} {n} {hd} {s} few small past Z e = record { room = Z; fam = judge-sound (net hd s) n small P few past e }

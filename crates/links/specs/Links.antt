@@ -66,7 +66,7 @@ unfoldable pub headAfter : Links → ℕ → ℕ → ℕ
 headAfter s i h = cond (eqb i h) (at (s .nexts) i) h
 
 -- n records are there
-pub record Deep (n : ℕ) (s : Links) : Type 0 where
+pub record Room (n : ℕ) (s : Links) : Type 0 where
   pub nexts : n ≤ length (s .nexts)
   pub prevs : n ≤ length (s .prevs)
   pub marks : n ≤ length (s .marks)

@@ -2,7 +2,7 @@
 ghost use mathlib.Core.Path.{_≡_};
 ghost use Rattle.lent.specs.Lent.{old, new};
 ghost use Rattle.links.specs.Links.{lent, before, after, setN, joined, cutOut, headAfter};
-ghost use Rattle.links.specs.Links.{Deep, Inside, CanJoin, CanCut};
+ghost use Rattle.links.specs.Links.{Room, Inside, CanJoin, CanCut};
 ghost use Rattle.links.specs.Judge.{walkOf, bare, looseOf};
 
 // The record number that means nobody.
@@ -24,69 +24,77 @@ fn put(l: &mut [u16], k: u16, v: u16)
     }
 }
 
-// The loose record i comes in front of h, the head of p. The caller makes i the head.
-pub fn join(nexts: &mut [u16], prevs: &mut [u16], marks: &mut [u16], p: u16, i: u16, h: u16)
-    requires { ⌜ CanJoin (lent nexts prevs marks) i h ⌝ }
-    ensures { λ _. ⌜ after nexts prevs marks ≡ joined (before nexts prevs marks) p i h ⌝ }
+// The loose record `item` comes in front of `head`, the first of `place`. The caller makes it the head.
+pub fn join(
+    nexts: &mut [u16],
+    prevs: &mut [u16],
+    marks: &mut [u16],
+    place: u16,
+    item: u16,
+    head: u16,
+)
+    requires { ⌜ CanJoin (lent nexts prevs marks) item head ⌝ }
+    ensures { λ _. ⌜ after nexts prevs marks ≡ joined (before nexts prevs marks) place item head ⌝ }
 {
-    nexts[i as usize] = h;
-    prevs[i as usize] = NOBODY;
-    put(prevs, h, i);
-    marks[i as usize] = p;
+    nexts[item as usize] = head;
+    prevs[item as usize] = NOBODY;
+    put(prevs, head, item);
+    marks[item as usize] = place;
 }
 
-// The record i leaves its list, whose head is h, and is loose. The head that the list has then: the caller keeps it.
-pub fn cut(nexts: &mut [u16], prevs: &mut [u16], marks: &mut [u16], i: u16, h: u16) -> u16
-    requires { ⌜ CanCut (lent nexts prevs marks) i ⌝ }
-    ensures { λ r. ⌜ r ≡ headAfter (before nexts prevs marks) i h ⌝ }
-    ensures { λ _. ⌜ after nexts prevs marks ≡ cutOut (before nexts prevs marks) i ⌝ }
+// The record `item` leaves its list, whose first is `head`, and is loose. The head that the list has then: the caller keeps it.
+pub fn cut(nexts: &mut [u16], prevs: &mut [u16], marks: &mut [u16], item: u16, head: u16) -> u16
+    requires { ⌜ CanCut (lent nexts prevs marks) item ⌝ }
+    ensures { λ r. ⌜ r ≡ headAfter (before nexts prevs marks) item head ⌝ }
+    ensures { λ _. ⌜ after nexts prevs marks ≡ cutOut (before nexts prevs marks) item ⌝ }
 {
-    let before = prevs[i as usize];
-    let after = nexts[i as usize];
+    let before = prevs[item as usize];
+    let after = nexts[item as usize];
     put(nexts, before, after);
     put(prevs, after, before);
-    nexts[i as usize] = NOBODY;
-    prevs[i as usize] = NOBODY;
-    marks[i as usize] = NOBODY;
-    if i == h {
+    nexts[item as usize] = NOBODY;
+    prevs[item as usize] = NOBODY;
+    marks[item as usize] = NOBODY;
+    if item == head {
         return after;
     }
-    h
+    head
 }
 
-// Walks the list of p from its head h on: each member is one of n records, has the mark p and the one before it for its back link.
+// Walks the list of `place` from its head on: each member is one of n records, has the mark of the place and the one before it for its
+// back link.
 pub fn walk_list(
     nexts: &[u16],
     prevs: &[u16],
     marks: &[u16],
     n: u16,
-    p: u16,
-    h: u16,
+    place: u16,
+    head: u16,
     room: u16,
 ) -> Walk
-    requires { ⌜ Deep n (lent nexts prevs marks) ⌝ }
-    ensures { λ r. ⌜ r ≡ walkOf (before nexts prevs marks) n p room h ⌝ }
+    requires { ⌜ Room n (lent nexts prevs marks) ⌝ }
+    ensures { λ r. ⌜ r ≡ walkOf (before nexts prevs marks) n place room head ⌝ }
 {
     let mut left = room;
     let mut prev = NOBODY;
-    let mut i = h;
-    while i != NOBODY {
-        let k = i as usize;
+    let mut item = head;
+    while item != NOBODY {
+        let k = item as usize;
         if left == 0 {
             return Walk::Wrong;
         }
-        if n <= i {
+        if n <= item {
             return Walk::Wrong;
         }
-        if marks[k] != p {
+        if marks[k] != place {
             return Walk::Wrong;
         }
         if prevs[k] != prev {
             return Walk::Wrong;
         }
         left -= 1;
-        prev = i;
-        i = nexts[k];
+        prev = item;
+        item = nexts[k];
     }
     Walk::Left(left)
 }
@@ -106,7 +114,7 @@ fn is_loose(next: u16, prev: u16, mark: u16) -> bool
 
 // How many of n records are loose.
 pub fn count_loose(nexts: &[u16], prevs: &[u16], marks: &[u16], n: u16) -> u16
-    requires { ⌜ Deep n (lent nexts prevs marks) ⌝ }
+    requires { ⌜ Room n (lent nexts prevs marks) ⌝ }
     ensures { λ r. ⌜ r ≡ looseOf (before nexts prevs marks) n ⌝ }
 {
     let mut count = 0u16;

@@ -2,7 +2,7 @@
 use mathlib.Core.Logic.{by-cases, Dec·and}
 use mathlib.Core.Bool.{true, Bool-discrete}
 use mathlib.Core.List.{List, []}
-use Prim.Native.Nat.{ℕ, zero, suc, _^_, _<_}
+use Prim.Native.Nat.{ℕ, zero, suc, _^_, _<_, _≤_}
 use native.Mathlib.Decide.{ℕ-discrete, decLe, decLt, map-dec}
 use native.Mathlib.Omega.{arith}
 use lib.ListN.{length, getD}
@@ -13,9 +13,10 @@ use Rattle.stack.specs.Places.{slots, expired}
 use Rattle.stack.specs.Heads.{Shape}
 use Rattle.stack.specs.Words.{judged}
 use Rattle.wheel.specs.Wheel.{placeFor, OnWheel}
-use Rattle.records.specs.Words.{QueueWords, Room, count, elapsed, markOf, limit, Sound}
+use Rattle.records.specs.Words.{QueueWords, count, elapsed, markOf, Sound, slices}
 use Rattle.judge.specs.Judge.{held, RowsAgree, RecordAgrees, Judged, sound-judged, judged-sound}
-use Rattle.delay_queue.specs.Claims.{Fits, InRange}
+use Rattle.delay_queue.specs.Claims.{InRange}
+use Rattle.records.specs.Slices.{Slices, Room, limit, Fits}
 
 -- ---- soundness, and what format asks
 
@@ -35,17 +36,24 @@ below-dec {P} d (suc n) =
     (λ x i h. by-cases (ℕ-discrete i n) (λ e. rw e (x .0)) (λ e. x .1 i (omega arith)))
     (λ f. (f n (omega arith), λ i h. f i (omega arith)))
 
-room-dec : (n : ℕ) (vs ds ns ps ts ms : List ℕ) → Dec (Room n vs ds ns ps ts ms)
-room-dec n vs ds ns ps ts ms =
+room-dec : (n : ℕ) (l : Slices) → Dec (Room n l)
+room-dec n l =
+    let long : (k : List ℕ) → Dec (n ≤ length k) = λ k. decLe n (length k) in
     by-dec
-    (Dec·and (Dec·and (decLe n (length vs)) (decLe n (length ds)))
-    (Dec·and (Dec·and (decLe n (length ns)) (decLe n (length ps))) (Dec·and (decLe n (length ts)) (decLe n (length ms)))))
-    (λ x. record { values = x .0 .0; deadlines = x .0 .1; nexts = x .1 .0 .0; prevs = x .1 .0 .1; turns = x .1 .1 .0; marks = x .1 .1 .1 })
-    (λ R. ((R .values, R .deadlines), ((R .nexts, R .prevs), (R .turns, R .marks))))
+    (Dec·and (Dec·and (long (l .values)) (long (l .deadlines)))
+    (Dec·and (Dec·and (long (l .links .nexts)) (long (l .links .prevs))) (Dec·and (long (l .turns)) (long (l .links .marks)))))
+    (λ x.
+    record {
+      values = x .0 .0;
+      deadlines = x .0 .1;
+      links = record { nexts = x .1 .0 .0; prevs = x .1 .0 .1; marks = x .1 .1 .1 };
+      turns = x .1 .1 .0;
+    })
+    (λ R. ((R .values, R .deadlines), ((R .links .nexts, R .links .prevs), (R .turns, R .links .marks))))
 
-pub fits-dec : (s : QueueWords) (n : ℕ) → Dec (Fits s n)
+pub fits-dec : (s : QueueWords) (n : ℕ) → Dec (Fits (slices s) n)
 fits-dec s n =
-    by-dec (Dec·and (Dec·and (decLt 0 n) (decLe n limit)) (room-dec n _ _ _ _ _ _))
+    by-dec (Dec·and (Dec·and (decLt 0 n) (decLe n limit)) (room-dec n (slices s)))
     (λ x. record { some = x .0 .0; few = x .0 .1; room = x .1 })
     (λ F. ((F .some, F .few), F .room))
 
@@ -81,12 +89,12 @@ agrees-dec e w t m =
 judged-dec : (s : QueueWords) → Dec (Judged s)
 judged-dec s =
     by-dec
-    (Dec·and (Dec·and (Dec·and (decLt 0 (count s)) (decLe (count s) limit)) (room-dec (count s) _ _ _ _ _ _))
+    (Dec·and (fits-dec s (count s))
     (Dec·and (Bool-discrete (judged (s .wheel .stack)) true)
     (Dec·and (rows-dec (s .wheel .occupied) (s .wheel .stack .heads))
     (below-dec (λ i. agrees-dec (elapsed s) (at (s .deadlines) i) (at (s .turns) i) (markOf s i)) (count s)))))
-    (λ x. record { some = x .0 .0 .0; few = x .0 .0 .1; room = x .0 .1; lists = x .1 .0; rows = x .1 .1 .0; records = x .1 .1 .1 })
-    (λ J. (((J .some, J .few), J .room), (J .lists, (J .rows, J .records))))
+    (λ x. record { fits = x .0; lists = x .1 .0; rows = x .1 .1 .0; records = x .1 .1 .1 })
+    (λ J. (J .fits, (J .lists, (J .rows, J .records))))
 
 pub sound-dec : (s : QueueWords) → Dec (Sound s)
 sound-dec s =

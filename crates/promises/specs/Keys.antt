@@ -11,7 +11,7 @@ use Rattle.queue.specs.declared.Answer.the-variants as A
 use Rattle.queue.specs.Told.{Told, told}
 use Rattle.queue.specs.Told as T
 use Rattle.records.specs.View.{View}
-use Rattle.records.specs.Records.{lastTurn, Names, left}
+use Rattle.records.specs.Records.{lastTurn, Names, left, numberIn, turnIn, packed}
 use Rattle.records.specs.Words.{QueueWords, view, Sound, upd-same}
 use Rattle.queue.specs.Calls.{Refused}
 use Rattle.delay_queue.specs.declared.Call.{Call}
@@ -97,20 +97,20 @@ module _ {s t u : QueueWords} {l : List Asked} {k : ℕ} (S : Sound s) where
     -- "No key is given twice until the next format": no call of the run answers it again
     pub no-key-twice : All (λ x. told (x .answer) ≢ T.key k) l
     no-key-twice =
-        run-all (λ x. told (x .answer) ≢ T.key k) (λ v. Given v k) (k % 65536) (λ v w. given-onward) (λ z Z G x w D. given-kept Z D G) after-insert given r f
+        run-all (λ x. told (x .answer) ≢ T.key k) (λ v. Given v k) (numberIn k) (λ v w. given-onward) (λ z Z G x w D. given-kept Z D G) after-insert given r f
 
     -- nor does an insert after it
     pub no-key-after : {x w : ℕ} {b : Answer} {z : QueueWords} → CallClaim (C.Insert x w) u b z → told b ≢ T.key k
     no-key-after {x} {w} {b} {z} B =
         let U = run-sound after-insert r in
-        given-kept U (call-steps (C.Insert x w) u b z U B) (given-onward (run-onward after-insert r f (k % 65536)) given)
+        given-kept U (call-steps (C.Insert x w) u b z U B) (given-onward (run-onward after-insert r f (numberIn k)) given)
 
   module _ (c : Call) (a : Answer) (A : CallClaim c s a t) (L : Leaves s k (told a) c) (r : Runs t l u) (f : NoFormat l) where
     after-leave : Sound t
     after-leave = step-sound c s a t A S
 
     spent : Spent (view u) k
-    spent = spent-onward (run-onward after-leave r f (k % 65536)) (left-spent S c a t L A)
+    spent = spent-onward (run-onward after-leave r f (numberIn k)) (left-spent S c a t L A)
 
     -- a key that has left, by a poll, a remove or a clear, is refused with 6 for good: whatever was called in between, until the next format
     pub left-is-dead : Refuses u k
@@ -131,7 +131,7 @@ module _ {s t u : QueueWords} {l : List Asked} {k : ℕ} (S : Sound s) where
     -- and its timer is handed out no more: by no call of the run
     pub dead-never-out : All (λ x. Out k (told (x .answer)) → ⊥) l
     dead-never-out =
-        run-all (λ x. Out k (told (x .answer)) → ⊥) (λ v. Spent v k) (k % 65536) (λ v w. spent-onward) (λ z Z P x w D o. spent-kept Z D P (o .4))
+        run-all (λ x. Out k (told (x .answer)) → ⊥) (λ v. Spent v k) (numberIn k) (λ v w. spent-onward) (λ z Z P x w D o. spent-kept Z D P (o .4))
         after-leave (left-spent S c a t L A) r f
 
     -- nor by one after it
@@ -151,8 +151,8 @@ module _ {s t u : QueueWords} {l : List Asked} {a : Answer} {now k : ℕ} (S : S
 -- ---- such runs there are
 
 -- "has its turn raised by one and is taken next"
-taken-next : {u : View} {k : ℕ} {x : Told} {w : View} → Steps u (C.Remove k) x w → {v d : ℕ} → x ≡ T.gone v d → k / 65536 ≢ lastTurn
-    → (l : List ℕ) × (w .lists free ≡ k % 65536 ∷ l) × (w .turn (k % 65536) ≡ k / 65536 + 1)
+taken-next : {u : View} {k : ℕ} {x : Told} {w : View} → Steps u (C.Remove k) x w → {v d : ℕ} → x ≡ T.gone v d → turnIn k ≢ lastTurn
+    → (l : List ℕ) × (w .lists free ≡ numberIn k ∷ l) × (w .turn (numberIn k) ≡ turnIn k + 1)
 unfolding left put
 taken-next refuses z d = let y : _≡_ {A = ℕ} 0 1 = cc in absurd (omega arith)
 taken-next {u} {k} (removes {r = i} {p = p} N) z d =
@@ -178,7 +178,7 @@ dead-shown =
     let h = taken-next (call-steps (C.Remove 65536) (I .0) (A.Gone 7 70) (m .1) (I .2) R) refl (omega arith) in
     let j = insert-met (m .1) 8 0 in
     let g : told (j .0) ≡ T.key 131072
-    = j .2 .good S .done 0 (h .0) (h .1) (λ z. absurd (omega arith)) .told ∙ ap (λ c. T.key (c * 65536 + 0)) (h .2) in
+    = j .2 .good S .done 0 (h .0) (h .1) (λ z. absurd (omega arith)) .told ∙ ap (λ c. T.key (packed c 0)) (h .2) in
     let J : CallClaim (C.Insert 8 0) (m .1) (A.Key 131072) (j .1)
     = subst (λ a. CallClaim (C.Insert 8 0) (m .1) a (j .1)) (told-one (j .0) (A.Key 131072) g) (j .2) in
     let n = remove-met (j .1) 65536 in

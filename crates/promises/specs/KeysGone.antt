@@ -19,7 +19,7 @@ use Rattle.queue.specs.declared.Answer.{Answer}
 use Rattle.queue.specs.Told.{Told}
 use Rattle.queue.specs.Told as T
 use Rattle.records.specs.View.{View, withElapsed, withLists}
-use Rattle.records.specs.Records.{lastTurn, keyOf, At, Names, left, freed}
+use Rattle.records.specs.Records.{lastTurn, keyOf, At, Names, left, freed, numberIn, turnIn}
 use Rattle.queue.specs.Steps.{QueuePolls, popped, handed, nothing}
 use Rattle.records.specs.Words.{QueueWords, count, view, Sound, upd-same}
 use Rattle.queue.specs.PollLaws.{clear-done}
@@ -45,10 +45,10 @@ pub record SpentAt (v : View) (c r : ℕ) : Type 0 where
 
 -- the same of a key: "turn in 48 bits, record number in 16"
 abbrev pub Given : View → ℕ → Type 0
-Given v k = GivenAt v (k / 65536) (k % 65536)
+Given v k = GivenAt v (turnIn k) (numberIn k)
 
 abbrev pub Spent : View → ℕ → Type 0
-Spent v k = SpentAt v (k / 65536) (k % 65536)
+Spent v k = SpentAt v (turnIn k) (numberIn k)
 
 module _ {v w : View} {c r : ℕ} (O : Onward v w r) where
   same-turn : c ≤ v .turn r → w .turn r ≡ c → (v .turn r ≡ c) × (w .turn r ≡ v .turn r)
@@ -165,8 +165,8 @@ module _ {s : QueueWords} (S : Sound s) where
   pub clear-spent : {k i p : ℕ} → Names (view s) k i p → {a : Answer} {t : QueueWords} → ClearClaim s a t → Spent (view t) k
   clear-spent {k} N {a} {t} A =
       record {
-        given = given-onward (does-onward S (call-steps C.Clear s a t S A) refl (k % 65536)) (names-given S N);
-        gone = λ e p b. clear-empty A (k % 65536) p b;
+        given = given-onward (does-onward S (call-steps C.Clear s a t S A) refl (numberIn k)) (names-given S N);
+        gone = λ e p b. clear-empty A (numberIn k) p b;
       }
 
 -- ---- what a call does not answer
@@ -181,8 +181,8 @@ module _ {s : QueueWords} (S : Sound s) {k : ℕ} where
   insert-new G (inserts {r = i} e) z =
       let h = stack.member-below (S .whole .stack) free i (rw e (inl refl)) in
       let q : k ≡ keyOf (view s) i = cc in
-      let number : i ≡ k % 65536 = omega arith in
-      let turn : view s .turn i ≡ k / 65536 = omega arith in
+      let number : i ≡ numberIn k = omega arith in
+      let turn : view s .turn i ≡ turnIn k = omega arith in
       (rw (← number) at (G .taken)) turn (rw e (inl refl))
 
   module _ {c : Call} {x : Told} {w : View} (D : Steps (view s) c x w) where

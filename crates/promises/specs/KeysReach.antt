@@ -14,7 +14,7 @@ use Rattle.queue.specs.declared.Answer.{Answer}
 use Rattle.queue.specs.Told.{Told, told}
 use Rattle.queue.specs.Told as T
 use Rattle.records.specs.View.{View, withValue, upd}
-use Rattle.records.specs.Records.{keyOf, At, Names, taken, left, target, placed}
+use Rattle.records.specs.Records.{keyOf, At, Names, taken, left, target, placed, numberIn, turnIn}
 use Rattle.queue.specs.CallLaws.{names-one}
 use Rattle.queue.specs.Steps.{QueuePolls}
 use Rattle.records.specs.Words.{QueueWords, elapsed, view, Sound, upd-same}
@@ -44,7 +44,7 @@ Spares k x = (Aims k (x .call) → accepted x ≡ false) × (Out k (told (x .ans
 -- ---- one call
 
 -- the record of k, placed
-placed-reaches : (u : View) (i when : ℕ) {k : ℕ} → i ≡ k % 65536 → i < u .n → u .turn i ≡ k / 65536
+placed-reaches : (u : View) (i when : ℕ) {k : ℕ} → i ≡ numberIn k → i < u .n → u .turn i ≡ turnIn k
     → Reaches (placed i when u) k (u .value i) (max when (u .elapsed))
 unfolding placed
 placed-reaches u i when number below turn =
@@ -71,8 +71,8 @@ module _ {s : QueueWords} (S : Sound s) where
       let h = stack.member-below (S .whole .stack) free i (rw e (inl refl)) in
       let q : k ≡ keyOf (view s) i = cc in
       let u = withValue (upd (view s .value) i value) (taken l (view s)) in
-      let number : i ≡ k % 65536 = omega arith in
-      let turn : view s .turn i ≡ k / 65536 = omega arith in
+      let number : i ≡ numberIn k = omega arith in
+      let turn : view s .turn i ≡ turnIn k = omega arith in
       subst (λ x. Reaches (placed i when u) k x (max when (elapsed s))) (upd-same (view s .value) i value) (placed-reaches u i when number h turn)
 
   reset-does : {k when : ℕ} {x : Told} {w : View} → Steps (view s) (C.Reset k when) x w → x ≡ T.ok → {y d : ℕ} → Reaches (view s) k y d

@@ -14,7 +14,7 @@ use Rattle.times.specs.Times.{floor, startAt}
 use Rattle.times.specs.Quotients.{floor-le, floor-zero}
 use Rattle.links.specs.Lists.{Mem}
 use Rattle.links.specs.Count.{cnt}
-use Rattle.stack.specs.Places.{slotPlace, slots, expired, free}
+use Rattle.stack.specs.Places.{slotPlace, slots, expired, free, levelAt}
 use Rattle.stack.specs.Laws as stack
 use Rattle.wheel.specs.Wheel.{Lists, FirstSlot, EmptyWheel, Polls, idle, early, out, drain}
 use Rattle.wheel.specs.Between.{Between, rule-between, place-level}
@@ -46,9 +46,9 @@ pub record WakesAt (v : View) (w : ℕ) : Type 0 where
   pub item : ℕ
   pub place : ℕ
   pub waits : OnSlot v item place
-  pub rounded : w ≡ floor (place / 64) (v .deadline item)
+  pub rounded : w ≡ floor (levelAt place) (v .deadline item)
   pub exact : place < 64 → w ≡ v .deadline item
-  pub least : (x p : ℕ) → OnSlot v x p → ((y q : ℕ) → OnSlot v y q → v .deadline x ≤ v .deadline y) → w ≡ floor (p / 64) (v .deadline x)
+  pub least : (x p : ℕ) → OnSlot v x p → ((y q : ℕ) → OnSlot v y q → v .deadline x ≤ v .deadline y) → w ≡ floor (levelAt p) (v .deadline x)
 
 first-wakes : {v : View} → Between (v .deadline) (v .elapsed) (v .lists) → {k s : ℕ} → FirstSlot (v .elapsed) (v .lists) k s
     → WakesAt v (startAt (v .elapsed) k s)
@@ -60,7 +60,7 @@ first-wakes {v} B {k} {s} F =
     let h = F .head in
     record {
       not-past = start-late B F;
-      in-time = λ x p o. le-trans (next-not-before B F p x (o .slot) (o .member)) (floor-le (p / 64) (v .deadline x));
+      in-time = λ x p o. le-trans (next-not-before B F p x (o .slot) (o .member)) (floor-le (levelAt p) (v .deadline x));
       item = h;
       place = here;
       waits = record { slot = here-below B F; member = first-in B F };
@@ -72,10 +72,10 @@ first-wakes {v} B {k} {s} F =
           (λ d.
           let a : v .deadline x ≤ v .deadline h = f h here (record { slot = here-below B F; member = first-in B F }) in
           let b = next-before B F p x (o .slot) (o .member) h (first-in B F) d in
-          absurd (omega (arith, floor-le (p / 64) (v .deadline x))));
+          absurd (omega (arith, floor-le (levelAt p) (v .deadline x))));
     }
   where
-    zero-level : {p k : ℕ} → p < 64 → p / 64 ≡ k → k ≡ 0
+    zero-level : {p k : ℕ} → p < 64 → levelAt p ≡ k → k ≡ 0
     zero-level l e = omega arith
 
 -- an answer `wake w` or `wake -`

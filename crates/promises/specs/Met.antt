@@ -12,7 +12,7 @@ use Rattle.times.specs.Times.{maxDuration, block, levelOf, slotOf, startAt}
 use Rattle.times.specs.Quotients.{slot-lt}
 use Rattle.links.specs.Lists.{nobody}
 use Rattle.links.specs.Links.{at}
-use Rattle.stack.specs.Places.{slotPlace, slots, expired, free}
+use Rattle.stack.specs.Places.{slotPlace, slots, expired, free, levelAt, slotAt}
 use Rattle.stack.specs.Heads.{slotHead}
 use Rattle.stack.specs.Format.{over, formatted}
 use Rattle.stack.specs.Words.{headAt as headIn, pop, remove}
@@ -64,7 +64,7 @@ format-met s n turn =
       record {
         short = λ f. absurd (f F);
         outside = λ G f. absurd (f T);
-        done = λ G I. formats G I (record { wheel = refl; values = refl; deadlines = refl; turns = refl }) refl;
+        done = λ G I. formats s G I (record { wheel = refl; values = refl; deadlines = refl; turns = refl }) refl;
       },
     ))
     (λ f. (A.No 8, s, record { short = λ g. absurd (g F); outside = λ G g. refuse 8 s; done = λ G T. absurd (f T) })))
@@ -99,9 +99,11 @@ leave-met : {t : WheelWords} {i : ℕ} → CanLeave t i → (u : WheelWords) × 
 leave-met {t} {i} C =
     by-cases (decLt (markIn t i) slots)
     (λ h.
-    by-cases (ℕ-discrete (slotHead (remove (t .stack) i .heads) (markIn t i / 64) (markIn t i % 64)) nobody)
-    (λ z. (_, leaves-last C refl h z refl))
-    (λ z. (_, leaves-more C refl h z)))
+    let k : ℕ = levelAt (markIn t i) in
+    let j : ℕ = slotAt (markIn t i) in
+    by-cases (ℕ-discrete (slotHead (remove (t .stack) i .heads) k j) nobody)
+    (λ z. (_, leaves-last C refl k j (omega arith) (omega arith) (omega arith) z refl))
+    (λ z. (_, leaves-more C refl k j (omega arith) (omega arith) (omega arith) z)))
     (λ h. (_, leaves-aside C refl (omega arith)))
 
 free-met : {t : WheelWords} {ts : List ℕ} {i : ℕ} → CanFree t ts i → (u : WheelWords) × (ts′ : List ℕ) × LeavesTo t ts i u ts′
@@ -194,22 +196,22 @@ module _ (e : ℕ) (L : Lists) where
 
   -- when a slot is looked at
   turnOf : ℕ → ℕ
-  turnOf q = (q % 64 + 64 - slotOf e (q / 64)) % 64
+  turnOf q = (slotAt q + 64 - slotOf e (levelAt q)) % 64
 
   turn-lt : (q : ℕ) → turnOf q < 64
   unfolding turnOf
   turn-lt q = omega arith
 
-  look-slot : (q : ℕ) → look (64 * (q / 64) + turnOf q) ≡ L q
+  look-slot : (q : ℕ) → look (64 * (levelAt q) + turnOf q) ≡ L q
   unfolding turnOf
   look-slot q =
-      let z : slotPlace (q / 64) ((slotOf e (q / 64) + turnOf q) % 64) ≡ q = omega (arith, slot-lt e (q / 64)) in
-      look-at (q / 64) (turnOf q) (turn-lt q) ∙ ap L z
+      let z : slotPlace (levelAt q) ((slotOf e (levelAt q) + turnOf q) % 64) ≡ q = omega (arith, slot-lt e (levelAt q)) in
+      look-at (levelAt q) (turnOf q) (turn-lt q) ∙ ap L z
 
   next-met : EmptyWheel L ⊎ ((k : ℕ) × (s : ℕ) × FirstSlot e L k s)
   next-met =
       ⊎-elim
-      (λ E. inl (λ q h. sym (look-slot q) ∙ E (64 * (q / 64) + turnOf q) (omega (arith, turn-lt q))))
+      (λ E. inl (λ q h. sym (look-slot q) ∙ E (64 * (levelAt q) + turnOf q) (omega (arith, turn-lt q))))
       (λ F. inr (found F))
       (first-of look slots)
     where
@@ -222,7 +224,7 @@ module _ (e : ℕ) (L : Lists) where
             (slotOf e k + j) % 64,
             record {
               within = omega arith;
-              lowest = λ q h. sym (look-slot q) ∙ F .before (64 * (q / 64) + turnOf q) (omega (arith, turn-lt q));
+              lowest = λ q h. sym (look-slot q) ∙ F .before (64 * (levelAt q) + turnOf q) (omega (arith, turn-lt q));
               steps = j;
               near = omega arith;
               is = refl;
@@ -342,7 +344,7 @@ module _ {t₀ : WheelWords} {ds : List ℕ} {now : ℕ} (C : CanPoll t₀ ds no
 
 -- the record that was found is freed
 out-met : {s : QueueWords} → Sound s → {i : ℕ} → LooseAt s i → (moves drains : ℕ) → Met (HandsOut s i moves drains)
-out-met S o moves drains = let F = free-met (out-frees S o) in (A.Out _ _ _ _ _, _, out-done S o moves drains (F .2))
+out-met S o moves drains = let F = free-met (out-frees S o) in (A.Out _ _ _ _ _, _, out-done S o moves drains (F .2) refl)
 
 poll-on : {s : QueueWords} → Sound s → (time : ℕ) → Met (PollOn s time)
 poll-on {s} S time =

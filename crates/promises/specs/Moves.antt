@@ -8,7 +8,7 @@ use native.Mathlib.Decide.{ℕ-discrete, decLt}
 use native.Mathlib.Omega.{arith}
 use borrow.Author.Tests.{eq-eqb, ne-eqb}
 use Rattle.links.specs.Lists.{without, change, change-same, change-other}
-use Rattle.stack.specs.Places.{slots, free, put}
+use Rattle.stack.specs.Places.{slots, free, put, levelAt}
 use Rattle.stack.specs.Format.{range}
 use Rattle.wheel.specs.Wheel.{Lists}
 use Rattle.wheel.specs.Sums.{sumOf, total, total-ext, total-more}
@@ -74,21 +74,21 @@ placed-heights r when v =
     let p = target (v .elapsed) (max when (v .elapsed)) in
     let L = v .lists in
     by-cases (decLt p slots)
-    (λ h. omega (arith, total-more (λ q x. q / 64) slots L p r h))
+    (λ h. omega (arith, total-more (λ q x. levelAt q) slots L p r h))
     (λ h.
-    omega (arith, total-ext (λ q x. q / 64) slots (change L p (put p r (L p))) L (λ q k. change-other L p (put p r (L p)) q (omega (arith, h, k)))))
+    omega (arith, total-ext (λ q x. levelAt q) slots (change L p (put p r (L p))) L (λ q k. change-other L p (put p r (L p)) q (omega (arith, h, k)))))
 
 taken-heights : (l : List ℕ) (v : View) → heights (taken l v .lists) ≡ heights (v .lists)
 unfolding heights
-taken-heights l v = total-ext (λ q x. q / 64) slots (change (v .lists) free l) (v .lists) (λ q k. change-other (v .lists) free l q (omega arith))
+taken-heights l v = total-ext (λ q x. levelAt q) slots (change (v .lists) free l) (v .lists) (λ q k. change-other (v .lists) free l q (omega arith))
 
 left-heights : (p r : ℕ) (v : View) → heights (left p r v .lists) ≤ heights (v .lists)
 unfolding heights
-left-heights p r v = left-total (λ q x. q / 64) slots p r v
+left-heights p r v = left-total (λ q x. levelAt q) slots p r v
 
 freed-heights : (r : ℕ) (v : View) → heights (freed r v .lists) ≡ heights (v .lists)
 unfolding heights
-freed-heights r v = freed-total (λ q x. q / 64) slots r v (omega arith)
+freed-heights r v = freed-total (λ q x. levelAt q) slots r v (omega arith)
 
 clears-heights : {v u : View} {k : ℕ} → Clears v k u → heights (u .lists) ≤ heights (v .lists)
 clears-heights begun = omega arith
@@ -98,8 +98,8 @@ clears-heights (gave {k} {p} {u} r a) = omega (arith, freed-heights k (left p k 
 fresh-heights : (l : List ℕ) → heights (change (λ p. []) free l) ≡ 0
 unfolding heights
 fresh-heights l =
-    total-ext (λ q x. q / 64) slots (change (λ p. []) free l) (λ p. []) (λ q k. change-other (λ p. []) free l q (omega arith))
-    ∙ total-none (λ q x. q / 64) slots
+    total-ext (λ q x. levelAt q) slots (change (λ p. []) free l) (λ p. []) (λ q k. change-other (λ p. []) free l q (omega arith))
+    ∙ total-none (λ q x. levelAt q) slots
 
 formatted-heights : {s : QueueWords} {n turn : ℕ} {a : Answer} {t : QueueWords} → Formatted s n turn a t → heights (view t .lists) ≡ 0
 formatted-heights {n = n} F = ap (λ v. heights (v .lists)) (F .view) ∙ fresh-heights (range n 0)

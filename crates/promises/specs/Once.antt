@@ -1,5 +1,5 @@
 -- Each claim allows one answer and one final content: "no second answer could satisfy it", for every input, refused calls too.
-use mathlib.Core.Path.{_≡_, refl, sym, ap, _∙_}
+use mathlib.Core.Path.{_≡_, refl, sym, ap, _∙_, subst}
 use mathlib.Core.Logic.{by-cases}
 use mathlib.Core.List.{List, [], _∷_, nil≢cons}
 use mathlib.Core.Option.{none, Option·some-ne-none}
@@ -18,13 +18,14 @@ use Rattle.queue.specs.Told as T
 use Rattle.records.specs.View.{View}
 use Rattle.records.specs.Records.{At, freed, left}
 use Rattle.queue.specs.Steps.{QueuePolls, popped, handed, nothing, Wakes, sleeps, starts, Clears, begun, kept, gave}
-use Rattle.records.specs.Words.{QueueWords, words, count, elapsed, view, Sound, AllKept, view-fixed}
-use Rattle.records.specs.Laws.{mark-at}
+use Rattle.records.specs.Words.{QueueWords, words, count, elapsed, view, Sound, view-fixed, PastKept}
+use Rattle.records.specs.Laws.{mark-at, left-size, placed-size, freed-size}
 use Rattle.queue.specs.Calls.{Refused, Answered, InsertOn, ResetOn, RemoveOn, PollOn, ClearOn}
 use Rattle.records.specs.Cases.{by-deadline, by-key}
 use Rattle.promises.specs.Decided.{sound-dec, fits-dec, range-dec}
 use Rattle.promises.specs.Met.{clear-one}
-use Rattle.delay_queue.specs.Claims.{PastKept, Formatted, FormatClaim, Judging, InsertClaim, ResetClaim, RemoveClaim, PollClaim, WakeClaim, LengthClaim, ClearClaim}
+use Rattle.delay_queue.specs.Claims.{Formatted, FormatClaim, Judging, InsertClaim, ResetClaim, RemoveClaim, PollClaim, WakeClaim, LengthClaim, ClearClaim}
+use Rattle.queue.specs.PollLaws.{polls-size, clears-size}
 
 -- ---- an answer is what it tells: `told` loses nothing
 
@@ -106,26 +107,15 @@ past-from A B =
       turns = kept-from (A .turns) (B .turns);
     }
 
-past-all : {n : ℕ} {s t : QueueWords} → n ≡ count s → count t ≡ count s → PastKept n s t → AllKept s t
-past-all e c P =
-    record {
-      links = record { size = c; links = rw e at (P .links) };
-      values = rw e at (P .values);
-      deadlines = rw e at (P .deadlines);
-      turns = rw e at (P .turns);
-    }
+-- the view and the words past N leave no choice
+kept-once : {n : ℕ} {s t u : QueueWords} → Sound t → Sound u → view u ≡ view t → count t ≡ n → PastKept n s t → PastKept n s u → u ≡ t
+kept-once {t = t} {u = u} S U e n A B = view-fixed S U e (subst (λ m. PastKept m t u) (sym n) (past-from A B))
 
-pub all-past : {s t : QueueWords} → AllKept s t → PastKept (count s) s t
-all-past K = record { links = K .links .links; values = K .values; deadlines = K .deadlines; turns = K .turns }
-
-all-from : {s t u : QueueWords} → AllKept s t → AllKept s u → AllKept t u
-all-from A B = past-all (sym (A .links .size)) (B .links .size ∙ sym (A .links .size)) (past-from (all-past A) (all-past B))
-
--- the answer, the view and the words past N leave no choice
-answered-once : {s t t′ : QueueWords} {a a′ : Answer} {x : Told} {v : View} → Answered s a x v t → Answered s a′ x v t′ → Same a t a′ t′
-answered-once {a = a} {a′ = a′} A B = (
+-- and so with the answer
+answered-once : {s t t′ : QueueWords} {a a′ : Answer} {x : Told} {v : View} → v .n ≡ count s → Answered s a x v t → Answered s a′ x v t′ → Same a t a′ t′
+answered-once {t = t} {t′ = t′} {a = a} {a′ = a′} n A B = (
   told-one a a′ (A .told ∙ sym (B .told)),
-  view-fixed (B .sound) (A .sound) (A .view ∙ sym (B .view)) (all-from (B .kept) (A .kept)),
+  kept-once (B .sound) (A .sound) (A .view ∙ sym (B .view)) (ap (λ v. v .n) (B .view) ∙ n) (B .kept) (A .kept),
 )
 
 judging-once : {s t t′ : QueueWords} {a a′ : Answer} {On On′ : Type 0} → Judging s a t On → Judging s a′ t′ On′ → (Sound s → On → On′ → Same a t a′ t′)
@@ -145,7 +135,7 @@ module _ {s t t′ : QueueWords} {a a′ : Answer} where
             by-deadline (elapsed s) when
             (λ f. one-refusal (C .far r l e f) (D .far r l e f))
             (λ f. one-refusal (C .other r l e f) (D .other r l e f))
-            (λ f. answered-once (C .done r l e f) (D .done r l e f))
+            (λ f. answered-once (placed-size r when _) (C .done r l e f) (D .done r l e f))
 
     pub insert-once : InsertClaim s value when a t → InsertClaim s value when a′ t′ → (a ≡ a′) × (t ≡ t′)
     insert-once C D = judging-once C D (λ S. insert-on)
@@ -158,7 +148,7 @@ module _ {s t t′ : QueueWords} {a a′ : Answer} where
         by-deadline (elapsed s) when
         (λ f. one-refusal (C .far r p N f) (D .far r p N f))
         (λ f. one-refusal (C .other r p N f) (D .other r p N f))
-        (λ f. answered-once (C .done r p N f) (D .done r p N f)))
+        (λ f. answered-once (placed-size r when _ ∙ left-size p r (view s)) (C .done r p N f) (D .done r p N f)))
         (λ f. one-refusal (C .dead f) (D .dead f))
 
     pub reset-once : ResetClaim s key when a t → ResetClaim s key when a′ t′ → (a ≡ a′) × (t ≡ t′)
@@ -166,7 +156,7 @@ module _ {s t t′ : QueueWords} {a a′ : Answer} where
 
   module _ {key : ℕ} where
     remove-on : Sound s → RemoveOn s key a t → RemoveOn s key a′ t′ → Same a t a′ t′
-    remove-on S C D = by-key S key (λ r p N. answered-once (C .done r p N) (D .done r p N)) (λ f. one-refusal (C .dead f) (D .dead f))
+    remove-on S C D = by-key S key (λ r p N. answered-once (freed-size r _ ∙ left-size p r (view s)) (C .done r p N) (D .done r p N)) (λ f. one-refusal (C .dead f) (D .dead f))
 
     pub remove-once : RemoveClaim s key a t → RemoveClaim s key a′ t′ → (a ≡ a′) × (t ≡ t′)
     remove-once C D = judging-once C D remove-on
@@ -204,7 +194,7 @@ module _ {s t t′ : QueueWords} {a a′ : Answer} where
         let c = C .done g in
         let d = D .done g in
         let q = queue-polls-one (c .1) (d .1) in
-        (told-one a a′ (q .0), view-fixed (d .0) (c .0) (q .1) (all-from (d .2) (c .2))))
+        (told-one a a′ (q .0), kept-once (d .0) (c .0) (q .1) (polls-size (d .1)) (d .2) (c .2)))
 
     pub poll-once : PollClaim s time a t → PollClaim s time a′ t′ → (a ≡ a′) × (t ≡ t′)
     poll-once C D = judging-once C D (λ S. poll-on)
@@ -232,10 +222,8 @@ module _ {s : QueueWords} {a a′ : Answer} where
 
 formatted-once : {s t t′ : QueueWords} {a a′ : Answer} {n turn : ℕ} → Formatted s n turn a t → Formatted s n turn a′ t′ → Same a t a′ t′
 formatted-once {s} {t} {t′} {a} {a′} {n} A B =
-    let c : count t ≡ n = ap (λ v. v .n) (A .view) in
     let d : count t′ ≡ n = ap (λ v. v .n) (B .view) in
-    let k : AllKept t′ t = past-all (sym d) (c ∙ sym d) (past-from (B .kept) (A .kept)) in
-    (told-one a a′ (A .told ∙ sym (B .told)), view-fixed (B .sound) (A .sound) (A .view ∙ sym (B .view)) k)
+    (told-one a a′ (A .told ∙ sym (B .told)), kept-once (B .sound) (A .sound) (A .view ∙ sym (B .view)) d (B .kept) (A .kept))
 
 pub format-once : {s t t′ : QueueWords} {n turn : ℕ} {a a′ : Answer} → FormatClaim s n turn a t → FormatClaim s n turn a′ t′ → (a ≡ a′) × (t ≡ t′)
 format-once {s} {n = n} {turn = turn} C D =
@@ -265,7 +253,7 @@ reached S (gave {k} {p} {u} r a) h =
       store = o .0;
       sound = G .sound;
       view = G .view ∙ ap (λ w. freed k (left p k w)) (R .view);
-      size = G .kept .links .size ∙ R .size;
+      size = G .size ∙ R .size;
     }
 
 clears-one : {s : QueueWords} → Sound s → {k : ℕ} {u w : View} → Clears (view s) k u → Clears (view s) k w → k ≤ count s → u ≡ w
@@ -285,7 +273,7 @@ module _ {s t t′ : QueueWords} {a a′ : Answer} where
   clear-on : Sound s → ClearOn s a t → ClearOn s a′ t′ → Same a t a′ t′
   clear-on S C D =
       let e : C .cleared ≡ D .cleared = clears-one S (C .clears) (D .clears) (omega arith) in
-      answered-once (rw e at (C .done)) (D .done)
+      answered-once (clears-size (D .clears)) (rw e at (C .done)) (D .done)
 
   pub clear-once : ClearClaim s a t → ClearClaim s a′ t′ → (a ≡ a′) × (t ≡ t′)
   clear-once C D = judging-once C D clear-on

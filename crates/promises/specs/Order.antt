@@ -12,7 +12,7 @@ use borrow.Author.Tests.{eqb-true, eq-eqb, ne-eqb}
 use Rattle.times.specs.Times.{slotOf}
 use Rattle.times.specs.Quotients.{slot-lt}
 use Rattle.links.specs.Lists.{Mem, change, change-same, change-other}
-use Rattle.stack.specs.Places.{slotPlace, slots, expired, put}
+use Rattle.stack.specs.Places.{slotPlace, slots, expired, put, levelAt}
 use Rattle.stack.specs.Laws as stack
 use Rattle.wheel.specs.Wheel.{Lists, FirstSlot, arrive, Drains, drained, moved, Polls, out, drain}
 use Rattle.wheel.specs.Between.{Between, rule-between, place-level}
@@ -129,12 +129,12 @@ record Ordered (d : ℕ → ℕ) (L : Lists) (x : ℕ) (N : Lists) : Type 0 wher
   member : Mem x (L place)
   slot : ℕ
   low : slot < 64
-  order : turned (place / 64) (ofDeadline d (d x) (L place)) ≡ x ∷ ofDeadline d (d x) (N slot)
+  order : turned (levelAt place) (ofDeadline d (d x) (L place)) ≡ x ∷ ofDeadline d (d x) (N slot)
 
 -- a drain, and what the rest of the poll does
 drained-order : {d : ℕ → ℕ} {e : ℕ} {L : Lists} → Between d e L → {k s : ℕ} → FirstSlot e L (suc k) s → {m : ℕ} {M : Lists}
     → Drains d k (slotPlace (suc k) s) L m M → {x : ℕ} {N : Lists} → Ordered d M x N → Ordered d L x N
-drained-order {d} {e} {L} B {k} {s} F {m} {M} D {x} {N} O = by (ℕ-discrete (O .place / 64) k)
+drained-order {d} {e} {L} B {k} {s} F {m} {M} D {x} {N} O = by (ℕ-discrete (levelAt (O .place)) k)
   where
     level : slotPlace (suc k) s / 64 ≡ suc k
     level = place-level (suc k) s (slot-below B F)
@@ -148,7 +148,7 @@ drained-order {d} {e} {L} B {k} {s} F {m} {M} D {x} {N} O = by (ℕ-discrete (O 
     is : M (O .place) ≡ reverseAux (keep (goesTo d k (O .place)) (L (slotPlace (suc k) s))) (L (O .place))
     is = drains-order d k (slotPlace (suc k) s) level (here-below B F) D (O .place) not-here
 
-    by : Dec (O .place / 64 ≡ k) → Ordered d L x N
+    by : Dec (levelAt (O .place) ≡ k) → Ordered d L x N
     by (yes z) =
         let f = goesTo d k (O .place) in
         let w : ℕ → Bool = λ y. eqb (d y) (d x) in
@@ -174,7 +174,7 @@ drained-order {d} {e} {L} B {k} {s} F {m} {M} D {x} {N} O = by (ℕ-discrete (O 
         let nobody : (y : ℕ) → f y ≡ false
         = λ y.
         ne-eqb (slotPlace k (slotOf (d y) k)) (O .place)
-        (λ g. z (ap (λ q. q / 64) (sym g) ∙ place-level k (slotOf (d y) k) (slot-lt (d y) k))) in
+        (λ g. z (ap (λ q. levelAt q) (sym g) ∙ place-level k (slotOf (d y) k) (slot-lt (d y) k))) in
         let e₁ : M (O .place) ≡ L (O .place) = is ∙ ap (λ a. reverseAux a (L (O .place))) (keep-none f l nobody) in
         record {
           place = O .place;
@@ -188,7 +188,7 @@ drained-order {d} {e} {L} B {k} {s} F {m} {M} D {x} {N} O = by (ℕ-discrete (O 
 polls-order : {d : ℕ → ℕ} {now e : ℕ} {L : Lists} {x m n c : ℕ} {N : Lists} → Between d e L → Polls d now e L (some x) m n c N → Ordered d L x N
 polls-order {d} B (out {e} {s} {x} {L} {l} F due is) =
     let p = slotPlace 0 s in
-    let low : p / 64 ≡ 0 = place-level 0 s (slot-below B F) in
+    let low : levelAt p ≡ 0 = place-level 0 s (slot-below B F) in
     record {
       place = p;
       below = here-below B F;
@@ -222,7 +222,7 @@ pub record PollOrder (v : View) (x : Told) (u : View) : Type 0 where
   pub head : (k w d m n r p : ℕ) → x ≡ T.out k w d m n → Names v k r p → p < 64 → (l : List ℕ) × (v .lists p ≡ r ∷ l) × (u .lists p ≡ l)
   -- what lay in any slot was the first of its equals there, their list reversed once for each level; the others lie at level 0 now, in that order
   pub equals : (k w d m n r p : ℕ) → x ≡ T.out k w d m n → Names v k r p → p < slots
-      → (q : ℕ) × (q < 64) × (turned (p / 64) (ofDeadline (v .deadline) d (v .lists p)) ≡ r ∷ ofDeadline (v .deadline) d (u .lists q))
+      → (q : ℕ) × (q < 64) × (turned (levelAt p) (ofDeadline (v .deadline) d (v .lists p)) ≡ r ∷ ofDeadline (v .deadline) d (u .lists q))
 
 module _ {s : QueueWords} (S : Sound s) where
   -- the key of a pending record names it, and it alone, in its place

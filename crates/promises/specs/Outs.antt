@@ -20,13 +20,13 @@ use Rattle.queue.specs.declared.Answer.{Answer}
 use Rattle.queue.specs.Told.{Told, told}
 use Rattle.queue.specs.Told as T
 use Rattle.records.specs.View.{View, withElapsed, withLists, withValue, upd}
-use Rattle.records.specs.Records.{keyOf, At, Names, taken, left, target, placed, freed}
+use Rattle.records.specs.Records.{keyOf, At, Names, taken, left, target, placed, freed, packed}
 use Rattle.queue.specs.PollLaws.{left-less}
 use Rattle.queue.specs.Steps.{QueuePolls, popped, handed, nothing}
-use Rattle.records.specs.Words.{QueueWords, view, Sound}
+use Rattle.records.specs.Words.{QueueWords, view, Sound, slices}
 use Rattle.delay_queue.specs.declared.Call.{Call}
 use Rattle.delay_queue.specs.declared.Call.the-variants as C
-use Rattle.delay_queue.specs.Claims.{Fits, InRange, CallClaim}
+use Rattle.delay_queue.specs.Claims.{InRange, CallClaim}
 use Rattle.promises.specs.Decided.{fits-dec, range-dec}
 use Rattle.promises.specs.Step.{step-sound}
 use Rattle.promises.specs.Runs.{Asked, Runs, rest, next, All, NoFormat}
@@ -36,6 +36,7 @@ use Rattle.promises.specs.KeysOne.{wheel-promise, waits-before}
 use Rattle.promises.specs.KeysGone.{moved-out, left-out, handed-out, clear-empty, spent-unnamed, out-spent}
 use Rattle.promises.specs.KeysStay.{Out, key-is}
 use Rattle.promises.specs.Keys.{no-key-twice}
+use Rattle.records.specs.Slices.{Fits}
 
 -- ---- what is said
 
@@ -145,7 +146,7 @@ module _ {s : QueueWords} (S : Sound s) where
       let b = was-placed i when u r p (N .pending) in
       let t : placed i when u .turn r ≡ view s .turn r = b .0 in
       ⊎-elim
-      (λ z. inl (ap T.key (ap (keyOf (view s)) (sym z) ∙ ap (λ c. c * 65536 + r) (sym t) ∙ sym (key-is N))))
+      (λ z. inl (ap T.key (ap (keyOf (view s)) (sym z) ∙ ap (λ c. packed c r) (sym t) ∙ sym (key-is N))))
       (λ a. inr (p, named-so N t (record { timed = a .timed; member = mem-left (view s .lists) free i l e p r (a .member) })))
       (b .1)
   does-was (resets {when = when} {r = i} {p = q} M) empty {k} {r} {p} N =
@@ -264,7 +265,7 @@ outs-fresh {s} {t} {n = n} {turn = turn} {a = a} {l = l} k A e r = by (fits-dec 
     refuses-not : {j : ℕ} → told a ≡ T.no j → ⊥
     refuses-not z = let y : _≡_ {A = ℕ} 0 1 = cc in omega arith
 
-    by : Dec (Fits s n) → Dec (InRange turn) → outs k l ≤ keys k l
+    by : Dec (Fits (slices s) n) → Dec (InRange turn) → outs k l ≤ keys k l
     by (no f) i = absurd (refuses-not (A .short f .told))
     by (yes x) (no f) = absurd (refuses-not (A .outside x f .told))
     by (yes x) (yes y) =

@@ -6,11 +6,11 @@ use mathlib.Core.List.{List, [], _∷_}
 use Prim.Native.Nat.{ℕ, _≤_}
 use native.Mathlib.Omega.{arith}
 use Rattle.links.specs.Laws.{Kept, kept-trans, links-trans}
-use Rattle.records.specs.Words.{QueueWords, count}
+use Rattle.records.specs.Words.{QueueWords, count, PastKept, past-refl, past-trans}
 use Rattle.delay_queue.specs.declared.Call.{Call}
 use Rattle.delay_queue.specs.declared.Call.the-variants as C
-use Rattle.delay_queue.specs.Claims.{PastKept, CallClaim}
-use Rattle.promises.specs.Step.{reach, past-refl}
+use Rattle.delay_queue.specs.Claims.{CallClaim}
+use Rattle.promises.specs.Step.{reach}
 use Rattle.promises.specs.Refused.{step-size}
 use Rattle.promises.specs.Runs.{Asked, Runs, rest, next, All, NoFormat, accepted, isFormat}
 
@@ -45,15 +45,6 @@ past-beyond h P =
       values = kept-beyond h (P .values);
       deadlines = kept-beyond h (P .deadlines);
       turns = kept-beyond h (P .turns);
-    }
-
-past-trans : {m : ℕ} {s t u : QueueWords} → PastKept m s t → PastKept m t u → PastKept m s u
-past-trans A B =
-    record {
-      links = links-trans (A .links) (B .links);
-      values = kept-trans (A .values) (B .values);
-      deadlines = kept-trans (A .deadlines) (B .deadlines);
-      turns = kept-trans (A .turns) (B .turns);
     }
 
 -- one call: what it leaves is no larger than m, and words past m are kept

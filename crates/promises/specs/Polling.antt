@@ -8,7 +8,7 @@ use native.Mathlib.Decide.{ℕ-discrete, decLt}
 use native.Mathlib.Omega.{arith}
 use borrow.Author.Tests.{eq-eqb, ne-eqb}
 use Rattle.links.specs.Lists.{Mem, Nodup, change, change-other}
-use Rattle.stack.specs.Places.{slots, expired, free, put}
+use Rattle.stack.specs.Places.{slots, expired, free, put, levelAt}
 use Rattle.stack.specs.Laws as stack
 use Rattle.wheel.specs.Wheel.{Lists, Rule, Polls}
 use Rattle.wheel.specs.Sums.{sumOf, total, total-ext, total-less, hits, mem-sum, lies-times, times-lies}
@@ -19,7 +19,7 @@ use Rattle.queue.specs.declared.Answer.{Answer}
 use Rattle.queue.specs.Told.{Told, told}
 use Rattle.queue.specs.Told as T
 use Rattle.records.specs.View.{View, withElapsed, withLists}
-use Rattle.records.specs.Records.{lastTurn, keyOf, At, Names, freed}
+use Rattle.records.specs.Records.{lastTurn, keyOf, At, Names, freed, numberIn}
 use Rattle.queue.specs.Steps.{QueuePolls, popped, handed, nothing, pending}
 use Rattle.records.specs.Words.{QueueWords, elapsed, view, Sound, upd-other}
 use Rattle.delay_queue.specs.Claims.{PollClaim}
@@ -222,7 +222,7 @@ module _ (v : View) (R : Rule (v .deadline) (v .elapsed) (v .lists)) {now : ℕ}
               let aside = ap (sumOf w) (Q .aside expired (omega arith)) in
               omega (arith, weigh-split w L, weigh-split w (v .lists), Q .kept w);
           clock = B .elapsed ∙ Q .clock;
-          counted = omega (arith, total-ext (λ p x. p / 64) slots (u .lists) L (λ p h. B .lists p (omega arith)));
+          counted = omega (arith, total-ext (λ p x. levelAt p) slots (u .lists) L (λ p h. B .lists p (omega arith)));
           few = Q .few;
           idle = Q .none;
           size = B .size;
@@ -249,7 +249,7 @@ module _ (v : View) (R : Rule (v .deadline) (v .elapsed) (v .lists)) {now : ℕ}
         clock = omega arith;
         counted =
             let same : (p : ℕ) → p < slots → M p ≡ v .lists p = λ p h. B .lists p (omega arith) ∙ change-other (v .lists) expired l p (omega (arith, h)) in
-            omega (arith, total-ext (λ p x. p / 64) slots M (v .lists) same);
+            omega (arith, total-ext (λ p x. levelAt p) slots M (v .lists) same);
         few = omega arith;
         idle = λ z. refl;
         size = B .size;
@@ -342,7 +342,7 @@ module _ {s : QueueWords} (S : Sound s) {now : ℕ} (not-back : elapsed s ≤ no
                   least = λ y h. omega (arith, f .2 y h);
                   gone = gone;
                   dead = λ j q N.
-                      let z : j ≡ r = N .number ∙ ap (λ x. x % 65536) a ∙ sym (key-of-names S (f .0 .1) .number) in
+                      let z : j ≡ r = N .number ∙ ap (λ x. numberIn x) a ∙ sym (key-of-names S (f .0 .1) .number) in
                       gone (q, rw z at (N .pending));
                   others = λ y h z.
                       let none : hits y r ≡ 0 = rw (ne-eqb r y (λ e. z (sym e))) in

@@ -13,27 +13,28 @@ use Rattle.queue.specs.declared.Answer.{Answer}
 use Rattle.queue.specs.Told.{Told, told}
 use Rattle.queue.specs.Told as T
 use Rattle.records.specs.View.{View}
-use Rattle.records.specs.Records.{At, Names, TooFar, OtherBlock, Near}
-use Rattle.records.specs.Words.{QueueWords, count, elapsed, markOf, view, Sound, all-refl}
+use Rattle.records.specs.Records.{At, Names, TooFar, OtherBlock, Near, numberIn, turnIn}
+use Rattle.records.specs.Words.{QueueWords, count, elapsed, markOf, view, Sound, past-refl, slices, PastKept}
 use Rattle.queue.specs.Calls.{Refused, Answered, InsertOn}
 use Rattle.records.specs.Code.{key-names}
-use Rattle.records.specs.Laws.{mark-at}
+use Rattle.records.specs.Laws.{mark-at, left-size, placed-size, freed-size}
 use Rattle.delay_queue.specs.declared.Call.{Call}
 use Rattle.delay_queue.specs.declared.Call.the-variants as C
-use Rattle.delay_queue.specs.Claims.{Fits, InRange, PastKept, FormatClaim, Judging, ResetClaim, PollClaim, CallClaim}
+use Rattle.delay_queue.specs.Claims.{InRange, FormatClaim, Judging, ResetClaim, PollClaim, CallClaim}
 use Rattle.records.specs.Cases.{by-deadline}
 use Rattle.promises.specs.Decided.{sound-dec, fits-dec, range-dec}
 use Rattle.promises.specs.Quiet.{expired-shown}
 use Rattle.promises.specs.Step.{isNo, reach, polls-says, wakes-says, refusal-same}
-use Rattle.promises.specs.Once.{all-past}
+use Rattle.records.specs.Slices.{Fits}
+use Rattle.queue.specs.PollLaws.{polls-size, clears-size}
 
 -- ---- the table
 
 -- 6: "remove, reset: record number N or above, record not pending, or turn differs"
 pub data NoSuchKey (v : View) (key : ℕ) : Type 0 where
-  beyond : v .n ≤ key % 65536 → NoSuchKey v key
-  absent : ((p : ℕ) → At v (key % 65536) p → ⊥) → NoSuchKey v key
-  stale : v .turn (key % 65536) ≢ key / 65536 → NoSuchKey v key
+  beyond : v .n ≤ numberIn key → NoSuchKey v key
+  absent : ((p : ℕ) → At v (numberIn key) p → ⊥) → NoSuchKey v key
+  stale : v .turn (numberIn key) ≢ turnIn key → NoSuchKey v key
 
 -- lines of the table in the order in which they are judged: a number, and what it is given for
 pub data Lines : Type 1 where
@@ -45,7 +46,7 @@ pub data Lines : Type 1 where
 -- 2: "slices too short or store not sound"; 3: "no record is free and unretired"
 -- 4: "deadline less elapsed is over 68,719,476,735"; 5: "as 4, but not over, and floor(w/2^36) differs from floor(e/2^36)"; 7: "now is below elapsed"
 abbrev pub linesOf : Call → QueueWords → Lines
-linesOf (C.Format n turn) s = line 1 (Fits s n → ⊥) (line 8 (InRange turn → ⊥) end)
+linesOf (C.Format n turn) s = line 1 (Fits (slices s) n → ⊥) (line 8 (InRange turn → ⊥) end)
 linesOf (C.Insert value when) s =
     line 2 (Sound s → ⊥) (line 3 (view s .lists free ≡ []) (line 4 (TooFar (elapsed s) when) (line 5 (OtherBlock (elapsed s) when) end)))
 linesOf (C.Reset key when) s =
@@ -91,12 +92,12 @@ first-listed (line j P l) k (inr x) = inr (first-listed l k (x .1))
 -- a key names a pending record, or is dead
 names-or-dead : {s : QueueWords} → Sound s → (key : ℕ) → NoSuchKey (view s) key ⊎ ((r : ℕ) × (p : ℕ) × Names (view s) key r p)
 names-or-dead {s} S key =
-    let i = key % 65536 in
+    let i = numberIn key in
     by-cases (decLt i (count s))
     (λ b.
     by-cases (decLt (markOf s i) free)
     (λ m.
-    by-cases (ℕ-discrete (at (s .turns) i) (key / 65536))
+    by-cases (ℕ-discrete (at (s .turns) i) (turnIn key))
     (λ t. inr (i, markOf s i, key-names S key (record { number = refl; below = b; pending = m; turn = t })))
     (λ d. inl (stale d)))
     (λ m. inl (absent (λ p a. m (omega (arith, mark-at S a))))))
@@ -123,8 +124,8 @@ module _ {n : ℕ} {s t : QueueWords} {a : Answer} where
   pass f (accepted g e c K) = accepted (λ k. ⊎-elim (λ x. f (x .1)) (λ x. g k (x .1))) e c K
 
 module _ {s t : QueueWords} {a : Answer} where
-  done-so : {x : Told} {v : View} → isNo x ≡ false → Answered s a x v t → Settled (count s) s a t end
-  done-so e A = accepted (λ k x. x) (ap isNo (A .told) ∙ e) (A .kept .links .size) (all-past (A .kept))
+  done-so : {x : Told} {v : View} → isNo x ≡ false → v .n ≡ count s → Answered s a x v t → Settled (count s) s a t end
+  done-so e n A = accepted (λ k x. x) (ap isNo (A .told) ∙ e) (ap (λ v. v .n) (A .view) ∙ n) (A .kept)
 
   -- "Every call but format judges this first"
   judged : {On : Type 0} {l : Lines} → Judging s a t On → (Sound s → On → Settled (count s) s a t l) → Settled (count s) s a t (line 2 (Sound s → ⊥) l)
@@ -164,7 +165,7 @@ module _ {s t : QueueWords} {a : Answer} where
       by : InsertOn s value when a t → (l : List ℕ) → view s .lists free ≡ l
           → Settled (count s) s a t (line 3 (view s .lists free ≡ []) (line 4 (TooFar (elapsed s) when) (line 5 (OtherBlock (elapsed s) when) end)))
       by I [] e = stop e (I .full e)
-      by I (r ∷ l) e = pass (some e) (by-when when (I .far r l e) (I .other r l e) (λ x. done-so refl (I .done r l e x)))
+      by I (r ∷ l) e = pass (some e) (by-when when (I .far r l e) (I .other r l e) (λ x. done-so refl (placed-size r when _) (I .done r l e x)))
 
   -- 6
   by-names : {l : Lines} → Sound s → (key : ℕ) → (((r p : ℕ) → Names (view s) key r p → ⊥) → Refused 6 s a t)
@@ -177,7 +178,7 @@ module _ {s t : QueueWords} {a : Answer} where
 
 -- next wake and length leave what they find
 looked : {s : QueueWords} {a : Answer} → isNo (told a) ≡ false → Settled (count s) s a s end
-looked {s} e = accepted (λ k x. x) e refl (all-past (all-refl s))
+looked {s} e = accepted (λ k x. x) e refl (past-refl (count s) s)
 
 looks : {s t : QueueWords} {a : Answer} {l : Lines} → t ≡ s → Settled (count s) s a s l → Settled (count s) s a t l
 looks {s} {t} {a} {l} e E = rw e E
@@ -186,16 +187,16 @@ settled : (c : Call) (s : QueueWords) (a : Answer) (t : QueueWords) → CallClai
 settled (C.Format n turn) s a t A = format-settled A
 settled (C.Insert value when) s a t A = insert-settled A
 settled (C.Reset key when) s a t A =
-    judged A (λ S R. by-names S key (R .dead) (λ r p N. by-when when (R .far r p N) (R .other r p N) (λ x. done-so refl (R .done r p N x))))
-settled (C.Remove key) s a t A = judged A (λ S R. by-names S key (R .dead) (λ r p N. done-so refl (R .done r p N)))
+    judged A (λ S R. by-names S key (R .dead) (λ r p N. by-when when (R .far r p N) (R .other r p N) (λ x. done-so refl (placed-size r when _ ∙ left-size p r (view s)) (R .done r p N x))))
+settled (C.Remove key) s a t A = judged A (λ S R. by-names S key (R .dead) (λ r p N. done-so refl (freed-size r _ ∙ left-size p r (view s)) (R .done r p N)))
 settled (C.Poll now) s a t A =
     judged A (λ S P.
     by-cases (decLt now (elapsed s))
     (λ h. stop h (P .back h))
-    (λ h. pass h (let d = P .done (omega arith) in accepted (λ k x. x) (polls-says (d .1)) (d .2 .links .size) (all-past (d .2)))))
+    (λ h. pass h (let d = P .done (omega arith) in accepted (λ k x. x) (polls-says (d .1)) (polls-size (d .1)) (d .2))))
 settled C.Wake s a t A = looks (A .1) (judged (A .0) (λ S W. looked (wakes-says (W .done))))
 settled C.Length s a t A = looks (A .1) (judged (A .0) (λ S W. looked (ap isNo (W .done))))
-settled C.Clear s a t A = judged A (λ S K. done-so refl (K .done))
+settled C.Clear s a t A = judged A (λ S K. done-so refl (clears-size (K .clears)) (K .done))
 
 -- ---- the promises
 

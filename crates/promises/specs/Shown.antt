@@ -7,7 +7,7 @@ use native.Mathlib.Decide.{ℕ-discrete}
 use native.Mathlib.Omega.{arith}
 use Rattle.times.specs.Times.{width, slotOf, levelBelow, levelOf}
 use Rattle.links.specs.Lists.{Mem, change, change-same, change-other}
-use Rattle.stack.specs.Places.{slots, free, put}
+use Rattle.stack.specs.Places.{slots, free, put, levelAt}
 use Rattle.stack.specs.Format.{over, formatted}
 use Rattle.stack.specs.Laws as stack
 use Rattle.wheel.specs.Wheel.{placeFor}
@@ -114,7 +114,7 @@ waiting-total u n h k =
 
 waiting-heights : heights (view waiting .lists) ≡ 1
 unfolding heights
-waiting-heights = waiting-total (λ p x. p / 64) slots (omega arith) (omega arith)
+waiting-heights = waiting-total (λ p x. levelAt p) slots (omega arith) (omega arith)
 
 waiting-pending : pending (view waiting) ≡ 1
 unfolding pending
@@ -127,8 +127,8 @@ module _ {s : QueueWords} (S : Sound s) (c : count s ≡ 1) {p now : ℕ} (b : A
   left-empty : {t : QueueWords} → Sound t → count t ≡ 1 → ((q : ℕ) → At (view t) 0 q → ⊥) → heights (view t .lists) ≡ 0
   unfolding heights
   left-empty {t} T e f =
-      total-ext (λ q x. q / 64) slots (view t .lists) (λ q. []) (λ q h. alone T e q (λ m. f q (record { timed = omega arith; member = m })))
-      ∙ total-none (λ q x. q / 64) slots
+      total-ext (λ q x. levelAt q) slots (view t .lists) (λ q. []) (λ q h. alone T e q (λ m. f q (record { timed = omega arith; member = m })))
+      ∙ total-none (λ q x. levelAt q) slots
 
   -- the only timer, due and at height 1, comes out with one move and one drain
   comes-out : heights (view s .lists) ≡ 1 → {a : Answer} {t : QueueWords} → PollClaim s now a t

@@ -19,16 +19,17 @@ use Rattle.queue.specs.Told.{Told, told}
 use Rattle.queue.specs.Told as T
 use Rattle.records.specs.View.{View}
 use Rattle.queue.specs.Steps.{QueuePolls, popped, handed, nothing, Wakes, sleeps, starts}
-use Rattle.records.specs.Words.{QueueWords, queueWords, words, count, elapsed, view, Sound, all-refl}
+use Rattle.records.specs.Words.{QueueWords, queueWords, words, count, elapsed, view, Sound, past-refl, slices, PastKept}
 use Rattle.queue.specs.Calls.{Refused, Answered, InsertOn, ResetOn, RemoveOn, PollOn}
 use Rattle.delay_queue.specs.declared.Call.{Call}
 use Rattle.delay_queue.specs.declared.Call.the-variants as C
-use Rattle.delay_queue.specs.Claims.{Fits, PastKept, Formatted, FormatClaim, Judging, InsertClaim, CallClaim}
+use Rattle.delay_queue.specs.Claims.{Formatted, FormatClaim, Judging, InsertClaim, CallClaim}
 use Rattle.records.specs.Cases.{by-deadline, by-key}
 use Rattle.promises.specs.Decided.{sound-dec, fits-dec, range-dec}
 use Rattle.delay_queue.specs.Format.{formats}
 use Rattle.promises.specs.Met.{Met, format-met, insert-met, reset-met, remove-met, poll-met, wake-met, length-met, clear-met}
-use Rattle.promises.specs.Once.{told-one, all-past, format-once, insert-once, reset-once, remove-once, poll-once, wake-once, length-once, clear-once}
+use Rattle.promises.specs.Once.{told-one, format-once, insert-once, reset-once, remove-once, poll-once, wake-once, length-once, clear-once}
+use Rattle.records.specs.Slices.{Fits}
 
 -- "For every input, each public call's claim determines its answer and the final content of everything lent, refused calls too."
 pub step-once : (c : Call) (s : QueueWords) (a a′ : Answer) (t t′ : QueueWords) → CallClaim c s a t → CallClaim c s a′ t′ → (a ≡ a′) × (t ≡ t′)
@@ -88,11 +89,11 @@ pub data Ends (n : ℕ) (s : QueueWords) (a : Answer) (t : QueueWords) : Type 0 
   accepted : Accepted n s a t → Ends n s a t
 
 answered : {s t : QueueWords} {a : Answer} {x : Told} {v : View} → isNo x ≡ false → Answered s a x v t → Ends (count s) s a t
-answered e A = accepted (record { says = ap isNo (A .told) ∙ e; sound = A .sound; kept = all-past (A .kept) })
+answered e A = accepted (record { says = ap isNo (A .told) ∙ e; sound = A .sound; kept = A .kept })
 
 -- next wake and length leave what they find
 looks : {s : QueueWords} {a : Answer} → Sound s → isNo (told a) ≡ false → Ends (count s) s a s
-looks {s} S e = accepted (record { says = e; sound = S; kept = all-past (all-refl s) })
+looks {s} S e = accepted (record { says = e; sound = S; kept = past-refl (count s) s })
 
 left-so : {s t : QueueWords} {a : Answer} → t ≡ s → Ends (count s) s a s → Ends (count s) s a t
 left-so {s} {t} {a} e E = rw e E
@@ -147,7 +148,7 @@ module _ {s t : QueueWords} {a : Answer} where
   poll-ends {time} P =
       by-cases (decLt time (elapsed s))
       (λ h. refused 7 (P .back h))
-      (λ h. let d = P .done (omega arith) in accepted (record { says = polls-says (d .1); sound = d .0; kept = all-past (d .2) }))
+      (λ h. let d = P .done (omega arith) in accepted (record { says = polls-says (d .1); sound = d .0; kept = d .2 }))
 
 pub step-ends : (c : Call) (s : QueueWords) (a : Answer) (t : QueueWords) → CallClaim c s a t → Ends (reach c s) s a t
 step-ends (C.Format n turn) s a t A = format-ends A
@@ -158,15 +159,6 @@ step-ends (C.Poll now) s a t A = judging-ends A (λ S. poll-ends)
 step-ends C.Wake s a t A = left-so (A .1) (judging-ends (A .0) (λ S W. looks S (wakes-says (W .done))))
 step-ends C.Length s a t A = left-so (A .1) (judging-ends (A .0) (λ S W. looks S (ap isNo (W .done))))
 step-ends C.Clear s a t A = judging-ends A (λ S K. answered refl (K .done))
-
-pub past-refl : (m : ℕ) (s : QueueWords) → PastKept m s s
-past-refl m s =
-    record {
-      links = links-refl m (s .wheel .stack .links);
-      values = kept-refl m (s .values);
-      deadlines = kept-refl m (s .deadlines);
-      turns = kept-refl m (s .turns);
-    }
 
 -- ---- what follows
 
@@ -203,12 +195,17 @@ word = 0 ∷ []
 abbrev blank : QueueWords
 blank = words (record { elapsed = 0; occupied = []; stacks = record { n = 0; expired = 0; free = 0 } }) [] word word word word word word
 
-fits : Fits blank 1
+fits : Fits (slices blank) 1
 fits =
     record {
       some = omega arith;
       few = omega arith;
-      room = record { values = omega arith; deadlines = omega arith; nexts = omega arith; prevs = omega arith; turns = omega arith; marks = omega arith };
+      room = record {
+        values = omega arith;
+        deadlines = omega arith;
+        links = record { nexts = omega arith; prevs = omega arith; marks = omega arith };
+        turns = omega arith;
+      };
     }
 
 abbrev pub one : QueueWords
@@ -216,7 +213,7 @@ one = queueWords (wheelWords 0 (replicate 6 0) (formatted 1 word word word)) (ov
 
 one-made : Formatted blank 1 1 A.Done one
 one-made =
-    formats fits (record { some = omega arith; last = omega arith }) (record { wheel = refl; values = refl; deadlines = refl; turns = refl }) refl
+    formats blank fits (record { some = omega arith; last = omega arith }) (record { wheel = refl; values = refl; deadlines = refl; turns = refl }) refl
 
 pub one-sound : Sound one
 one-sound = one-made .sound

@@ -3,7 +3,7 @@ use mathlib.Core.Path.{_≡_, refl, sym, ap, _∙_}
 use mathlib.Core.Logic.{_≢_}
 use mathlib.Core.List.{List, [], _∷_, nil≢cons}
 use mathlib.Core.Option.{some}
-use Prim.Native.Nat.{ℕ, _+_, _*_, _^_, _<_}
+use Prim.Native.Nat.{ℕ, _^_, _≤_, _<_}
 use native.Mathlib.Omega.{arith}
 use lib.ListN.{length, set}
 use Rattle.links.specs.Lists.{nobody}
@@ -18,15 +18,21 @@ use Rattle.queue.specs.declared.Answer.the-variants as A
 use Rattle.queue.specs.Told.{Told, told, no}
 use Rattle.queue.specs.Told as T
 use Rattle.records.specs.View.{View, withValue, upd}
-use Rattle.records.specs.Records.{Names, Near, taken, left, placed, freed}
+use Rattle.records.specs.Records.{packed, Names, Near, taken, left, placed, freed}
 use Rattle.queue.specs.Steps.{kept}
-use Rattle.records.specs.Words.{QueueWords, queueWords, count, elapsed, markOf, view, Sound, all-trans}
+use Rattle.records.specs.Words.{QueueWords, queueWords, count, elapsed, markOf, view, Sound, past-then}
 use Rattle.queue.specs.Calls.{Answered, InsertOn, ResetOn, RemoveOn}
 use Rattle.records.specs.Laws.{Goes, LooseAt, goes-taken, goes-valued, can-leave, goes-left, CanPlace, PlacesTo, goes-placed, CanFree, LeavesTo, goes-freed}
-use Rattle.records.specs.Code.{DeadlineNo, Roomed, KeyIs, key-names, names-key}
+use Rattle.records.specs.Code.{DeadlineNo, KeyIs, key-names, names-key}
 
 pub goes-then : {s s₁ s₂ : QueueWords} {v : View} (f : View → View) → Goes s v s₁ → Goes s₁ (f (view s₁)) s₂ → Goes s (f v) s₂
-goes-then f G H = record { sound = H .sound; view = H .view ∙ ap f (G .view); kept = all-trans (G .kept) (H .kept) }
+goes-then f G H =
+    record {
+      sound = H .sound;
+      view = H .view ∙ ap f (G .view);
+      size = H .size ∙ G .size;
+      kept = past-then (G .size) (G .kept) (H .kept);
+    }
 
 answered : {s : QueueWords} {v : View} {s′ : QueueWords} {a : Answer} {t : Told} → told a ≡ t → Goes s v s′ → Answered s a t v s′
 answered e G = record { told = e; sound = G .sound; view = G .view; kept = G .kept }
@@ -83,14 +89,14 @@ module _ {s : QueueWords} (S : Sound s) (value when : ℕ) where
       G₁ = goes-taken S (c .1) (Q .some item (c .1) was .2)
 
       pub item-below : item < count s
-      item-below = omega (arith, loose₁ .below, G₁ .kept .links .size)
+      item-below = omega (arith, loose₁ .below, G₁ .size)
 
       -- what the code asks on the way
-      pub insert-words : (item < length (s .values)) × (item < length (s .turns)) × (at (s .turns) item * 65536 + item < 2 ^ 64)
+      pub insert-words : (item < length (s .values)) × (item < length (s .turns)) × (at (s .turns) item < 2 ^ 48)
       insert-words = (
         omega (arith, item-below),
         omega (arith, item-below),
-        omega (arith, S .turns item item-below .1, item-below),
+        S .turns item item-below .1,
       )
 
       abbrev s₂ : QueueWords
@@ -103,9 +109,9 @@ module _ {s : QueueWords} (S : Sound s) (value when : ℕ) where
       near = let e : elapsed s₂ ≡ elapsed s = ap (λ v. v .elapsed) (G₂ .view) in rw e (D .taken z)
 
       pub insert-place : CanPlace t (s .deadlines) item when
-      insert-place = record { whole = G₁ .sound .whole; item = loose₁; word = omega (arith, loose₁ .below, G₁ .sound .roomy .deadlines); near = near }
+      insert-place = record { whole = G₁ .sound .whole; item = loose₁; word = omega (arith, loose₁ .below, G₁ .sound .fits .room .deadlines); near = near }
 
-      pub insert-done : (k : ℕ) → k ≡ at (s .turns) item * 65536 + item → {u : WheelWords} {ds : List ℕ} → PlacesTo t (s .deadlines) item when u ds
+      pub insert-done : (k : ℕ) → k ≡ packed (at (s .turns) item) item → {u : WheelWords} {ds : List ℕ} → PlacesTo t (s .deadlines) item when u ds
           → InsertOn s value when (A.Key k) (queueWords u (set (s .values) item value) ds (s .turns))
       insert-done k ek {u} {ds} P =
           let G₃ = goes-then (placed item when) G₂ (goes-placed (G₂ .sound) loose₁ when near P) in
@@ -122,8 +128,8 @@ module _ {s : QueueWords} (S : Sound s) (value when : ℕ) where
 
 -- ---- reset and remove
 
-pub found-roomed : {s : QueueWords} → Sound s → Roomed (count s) (s .turns) (s .wheel .stack .links .marks)
-found-roomed S = record { turns = S .roomy .turns; marks = stack.deep (S .whole .stack) .marks }
+pub find-room : {s : QueueWords} → Sound s → (count s ≤ length (s .turns)) × (count s ≤ length (s .wheel .stack .links .marks))
+find-room S = (S .fits .room .turns, S .fits .room .links .marks)
 
 -- a key names one record only, in one place
 pub names-one : {s : QueueWords} → Sound s → {key i p j q : ℕ} → Names (view s) key i p → Names (view s) key j q → (i ≡ j) × (p ≡ q)

@@ -8,7 +8,7 @@ use Rattle.queue.specs.Told.{Told, told, ok, key, gone, len, no}
 use Rattle.records.specs.View.{View, withElapsed, withValue, upd}
 use Rattle.records.specs.Records.{keyOf, Names, TooFar, OtherBlock, Near, taken, left, placed, freed}
 use Rattle.queue.specs.Steps.{QueuePolls, Wakes, pending, Clears}
-use Rattle.records.specs.Words.{QueueWords, Sound, AllKept, view, elapsed}
+use Rattle.records.specs.Words.{QueueWords, Sound, PastKept, count, view, elapsed}
 
 -- "A refusal answers its number alone; every lent slice stays word for word the same, and the state that went in by value is handed back equal."
 pub record Refused (number : ℕ) (s : QueueWords) (a : Answer) (s′ : QueueWords) : Type 0 where
@@ -20,7 +20,7 @@ pub record Answered (s : QueueWords) (a : Answer) (t : Told) (v : View) (s′ : 
   pub told : told a ≡ t
   pub sound : Sound s′
   pub view : view s′ ≡ v
-  pub kept : AllKept s s′
+  pub kept : PastKept (count s) s s′
 
 -- "insert 2, 3, 4, 5"
 pub record InsertOn (s : QueueWords) (value when : ℕ) (a : Answer) (s′ : QueueWords) : Type 0 where
@@ -45,7 +45,7 @@ pub record RemoveOn (s : QueueWords) (k : ℕ) (a : Answer) (s′ : QueueWords) 
 -- "poll 2, 7"
 pub record PollOn (s : QueueWords) (time : ℕ) (a : Answer) (s′ : QueueWords) : Type 0 where
   pub back : time < elapsed s → Refused 7 s a s′
-  pub done : elapsed s ≤ time → Sound s′ × QueuePolls (view s) time (told a) (view s′) × AllKept s s′
+  pub done : elapsed s ≤ time → Sound s′ × QueuePolls (view s) time (told a) (view s′) × PastKept (count s) s s′
 
 -- "next wake, length and clear only 2"
 pub record WakeOn (s : QueueWords) (a : Answer) : Type 0 where

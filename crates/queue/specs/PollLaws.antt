@@ -29,14 +29,14 @@ use Rattle.wheel.specs.Words.{WheelWords, wheelWords, Becomes, Pops, CanLeave, 
 use Rattle.wheel.specs.Turns.{CanPoll, PollsTo, gotten, popped-empty, popped-cons}
 use Rattle.queue.specs.declared.Answer.{Answer}
 use Rattle.queue.specs.declared.Answer.the-variants as A
-use Rattle.queue.specs.Told.{told, out, wake, never}
+use Rattle.queue.specs.Told.{Told, told, out, wake, never}
 use Rattle.queue.specs.Told as T
 use Rattle.records.specs.View.{View, view-eq, withElapsed, withLists}
-use Rattle.records.specs.Records.{lastTurn, keyOf, At, left, freed}
+use Rattle.records.specs.Records.{lastTurn, packed, keyOf, At, left, freed}
 use Rattle.queue.specs.Steps.{QueuePolls, popped, handed, nothing, Wakes, sleeps, starts, pending, Clears, begun, kept, gave}
-use Rattle.records.specs.Words.{QueueWords, queueWords, count, elapsed, markOf, view, Sound, AllKept, all-refl, all-trans}
+use Rattle.records.specs.Words.{QueueWords, queueWords, count, elapsed, markOf, view, Sound, PastKept, past-refl, past-then}
 use Rattle.queue.specs.Calls.{PollOn, ClearOn}
-use Rattle.records.specs.Laws.{Goes, LooseAt, loose-out, goes-lists, can-leave, mem-without, goes-left, CanFree, LeavesTo, goes-freed}
+use Rattle.records.specs.Laws.{Goes, LooseAt, loose-out, goes-lists, can-leave, mem-without, goes-left, CanFree, LeavesTo, goes-freed, left-size, freed-size}
 use Rattle.queue.specs.CallLaws.{goes-then}
 
 -- ---- a loose record is handed out and freed
@@ -46,20 +46,21 @@ pub record HandsOut (s : QueueWords) (i moves drains : ℕ) (a : Answer) (s′ :
   pub goes : Goes s (freed i (view s)) s′
 
 module _ {s : QueueWords} (S : Sound s) {i : ℕ} (o : LooseAt s i) where
-  pub out-words : (i < length (s .values)) × (i < length (s .deadlines)) × (i < length (s .turns)) × (at (s .turns) i * 65536 + i < 2 ^ 64)
+  pub out-words : (i < length (s .values)) × (i < length (s .deadlines)) × (i < length (s .turns)) × (at (s .turns) i < 2 ^ 48)
   out-words = (
     omega arith,
     omega arith,
     omega arith,
-    omega (arith, S .turns i (o .below) .1),
+    S .turns i (o .below) .1,
   )
 
   pub out-frees : CanFree (s .wheel) (s .turns) i
   out-frees = record { whole = S .whole; item = o; word = out-words .2; turn = S .turns i (o .below) .1 }
 
   pub out-done : (moves drains : ℕ) {t : WheelWords} {ts : List ℕ} → LeavesTo (s .wheel) (s .turns) i t ts
-      → HandsOut s i moves drains (A.Out (at (s .turns) i * 65536 + i) (at (s .values) i) (at (s .deadlines) i) moves drains) (queueWords t (s .values) (s .deadlines) ts)
-  out-done moves drains P = record { told = refl; goes = goes-freed S o P }
+      → {k : ℕ} → k ≡ packed (at (s .turns) i) i
+      → HandsOut s i moves drains (A.Out k (at (s .values) i) (at (s .deadlines) i) moves drains) (queueWords t (s .values) (s .deadlines) ts)
+  out-done moves drains P e = record { told = rw e; goes = goes-freed S o P }
 
 -- ---- poll
 
@@ -68,7 +69,7 @@ module _ {s : QueueWords} (S : Sound s) (time : ℕ) where
   poll-back h = record { back = λ g. record { told = refl; same = refl }; done = λ g. absurd (omega arith) }
 
   module _ (not-back : elapsed s ≤ time) where
-    polled : {a : Answer} {s′ : QueueWords} → Sound s′ → QueuePolls (view s) time (told a) (view s′) → AllKept s s′ → PollOn s time a s′
+    polled : {a : Answer} {s′ : QueueWords} → Sound s′ → QueuePolls (view s) time (told a) (view s′) → PastKept (count s) s s′ → PollOn s time a s′
     polled W r K = record { back = λ h. absurd (omega arith); done = λ h. (W, r, K) }
 
     module _ {item : ℕ} {t : WheelWords} (Q : Pops (s .wheel) expired item t) where
@@ -109,7 +110,7 @@ module _ {s : QueueWords} (S : Sound s) (time : ℕ) where
               rule = G₂ .sound .rule;
               stack = ap (λ L. L expired) (B .lists) ∙ empty;
               not-back = omega (arith, B .elapsed);
-              deadlines = G₂ .sound .roomy .deadlines;
+              deadlines = G₂ .sound .fits .room .deadlines;
             }
 
         module _ {i m n : ℕ} {u : WheelWords} (R : PollsTo (at (s .deadlines)) time t i m n u) where
@@ -123,20 +124,24 @@ module _ {s : QueueWords} (S : Sound s) (time : ℕ) where
           G₃ =
               record {
                 sound = record {
-                  some = omega (arith, size);
-                  few = omega (arith, size);
-                  roomy = record {
-                    values = omega (arith, size);
-                    deadlines = omega (arith, size);
-                    turns = omega (arith, size);
+                  fits = record {
+                    some = omega (arith, size);
+                    few = omega (arith, size);
+                    room = record {
+                      values = omega (arith, size);
+                      deadlines = omega (arith, size);
+                      links = stack.room (R .whole .stack);
+                      turns = omega (arith, size);
+                    };
                   };
                   whole = R .whole;
                   turns = λ j h. S .turns j (omega (arith, size));
                   rule = R .rule;
                 };
                 view = view-eq size refl refl refl refl refl;
+                size = size;
                 kept = record {
-                  links = stack.kept-trans (B .kept) (R .kept);
+                  links = stack.kept-trans (B .kept) (R .kept) .links;
                   values = kept-refl (count s) (s .values);
                   deadlines = kept-refl (count s) (s .deadlines);
                   turns = kept-refl (count s) (s .turns);
@@ -176,13 +181,13 @@ pub pending-zero : (mk : ℕ → ℕ) → pendingIn mk 0 ≡ 0
 unfolding pendingIn
 pending-zero mk = refl
 
-pub pending-more : (mk : ℕ → ℕ) (i : ℕ) → mk i < free → pendingIn mk (i + 1) ≡ pendingIn mk i + 1
+pub pending-more : (mk : ℕ → ℕ) (i : ℕ) → ltb (mk i) free ≡ true → pendingIn mk (i + 1) ≡ pendingIn mk i + 1
 unfolding pendingIn
-pending-more mk i h = rw (add-one, lt-ltb (mk i) free h)
+pending-more mk i h = rw (add-one, h)
 
-pub pending-same : (mk : ℕ → ℕ) (i : ℕ) → free ≤ mk i → pendingIn mk (i + 1) ≡ pendingIn mk i
+pub pending-same : (mk : ℕ → ℕ) (i : ℕ) → ltb (mk i) free ≡ false → pendingIn mk (i + 1) ≡ pendingIn mk i
 unfolding pendingIn
-pending-same mk i h = rw (add-one, le-ltb (mk i) free h) (omega arith)
+pending-same mk i h = rw (add-one, h) (omega arith)
 
 -- they are as many as the lists have members
 pub pending-is : {s : QueueWords} → Sound s → pendingIn (markOf s) (count s) ≡ pending (view s)
@@ -220,7 +225,8 @@ pub record ClearsOne (s : QueueWords) (i : ℕ) (s′ : QueueWords) : Type 0 whe
   pub gone : (p : ℕ) → At (view s′) i p → ⊥
   pub others : (j p : ℕ) → At (view s′) j p → At (view s) j p
   pub sound : Sound s′
-  pub kept : AllKept s s′
+  pub size : count s′ ≡ count s
+  pub kept : PastKept (count s) s s′
 
 at-mark : {s : QueueWords} → Sound s → {i : ℕ} → i < count s → markOf s i < free → At (view s) i (markOf s i)
 at-mark S {i} h g = record { timed = g; member = stack.marked-member (S .whole .stack) i h (omega arith) }
@@ -249,7 +255,8 @@ module _ {s : QueueWords} (S : Sound s) {i : ℕ} (h : i < count s) where
         gone = out;
         others = λ j p a. a;
         sound = S;
-        kept = all-refl s;
+        size = refl;
+        kept = past-refl (count s) s;
       }
 
   module _ (g : markOf s i < free) where
@@ -280,24 +287,27 @@ module _ {s : QueueWords} (S : Sound s) {i : ℕ} (h : i < count s) where
                 let b = rw (G₄ .view) at (before j p a) in
                 record { timed = b .timed; member = left-less (markOf s i) i (view s) p j (b .member) };
             sound = G .sound;
+            size = G .size;
             kept = G .kept;
           }
 
 -- the first i records are done
 pub record ClearedSo (s : QueueWords) (i : ℕ) (s′ : QueueWords) : Type 0 where
   pub sound : Sound s′
-  pub kept : AllKept s s′
+  pub size : count s′ ≡ count s
+  pub kept : PastKept (count s) s s′
   pub clears : Clears (view s) i (view s′)
   pub gone : (j : ℕ) → j < i → (p : ℕ) → At (view s′) j p → ⊥
 
 pub clear-none : {s : QueueWords} → Sound s → ClearedSo s 0 s
-clear-none {s} S = record { sound = S; kept = all-refl s; clears = begun; gone = λ j h. absurd (omega arith) }
+clear-none {s} S = record { sound = S; size = refl; kept = past-refl (count s) s; clears = begun; gone = λ j h. absurd (omega arith) }
 
 pub clear-turn : {s s₁ s₂ : QueueWords} {i : ℕ} → ClearedSo s i s₁ → i < count s₁ → ClearsOne s₁ i s₂ → ClearedSo s (i + 1) s₂
 clear-turn {s} {s₁} {s₂} {i} C h Q =
     record {
       sound = Q .sound;
-      kept = all-trans (C .kept) (Q .kept);
+      size = Q .size ∙ C .size;
+      kept = past-then (C .size) (C .kept) (Q .kept);
       clears = rw (add-one i) (by (decLt (markOf s₁ i) free));
       gone = below-more _ i (λ j g p a. C .gone j g p (Q .others j p a)) (Q .gone);
     }
@@ -321,9 +331,16 @@ clear-done {s} {s₁} {i} C e =
       done = record {
         told = refl;
         sound = record {
-          some = S .some;
-          few = S .few;
-          roomy = record { values = S .roomy .values; deadlines = S .roomy .deadlines; turns = S .roomy .turns };
+          fits = record {
+            some = S .fits .some;
+            few = S .fits .few;
+            room = record {
+              values = S .fits .room .values;
+              deadlines = S .fits .room .deadlines;
+              links = S .fits .room .links;
+              turns = S .fits .room .turns;
+            };
+          };
           whole = record { stack = S .whole .stack; rows = S .whole .rows };
           turns = S .turns;
           rule = record { wheel = λ p x h m. absurd (out p x (omega arith) m); stack = λ x m. absurd (out expired x (omega arith) m) };
@@ -332,3 +349,15 @@ clear-done {s} {s₁} {i} C e =
         kept = record { links = C .kept .links; values = C .kept .values; deadlines = C .kept .deadlines; turns = C .kept .turns };
       };
     }
+
+-- ---- there are as many records as before
+
+pub polls-size : {v : View} {now : ℕ} {x : Told} {u : View} → QueuePolls v now x u → u .n ≡ v .n
+polls-size {v} (popped {r = r} {l = l} e) = freed-size r (withLists (change (v .lists) expired l) v)
+polls-size {v} (handed {r = r} {e = c} {L = L} e P) = freed-size r (withElapsed c (withLists L v))
+polls-size (nothing e P) = refl
+
+pub clears-size : {v : View} {k : ℕ} {u : View} → Clears v k u → u .n ≡ v .n
+clears-size begun = refl
+clears-size (kept r n) = clears-size r
+clears-size (gave {k} {p} {u} r a) = freed-size k (left p k u) ∙ left-size p k u ∙ clears-size r

@@ -70,7 +70,7 @@ pub fn insert(
     }
     let item = wheel::pop(elapsed, rows, tops, heads, nexts, prevs, marks, stack::FREE);
     values[item as usize] = value;
-    let key = turns[item as usize] * 65536 + item as u64;
+    let key = records::key_of(turns[item as usize], item);
     records::place(
         elapsed,
         rows,
@@ -183,7 +183,7 @@ fn hand_out(
         item moves drains r (after elapsed rows tops heads values deadlines nexts prevs turns marks) ⌝ }
 {
     let k = item as usize;
-    let key = turns[k] * 65536 + item as u64;
+    let key = records::key_of(turns[k], item);
     let value = values[k];
     let deadline = deadlines[k];
     records::leave(elapsed, rows, tops, heads, nexts, prevs, turns, marks, item);
@@ -302,7 +302,7 @@ pub fn length(n: u16, marks: &[u16]) -> u64
     let mut count = 0u64;
     let mut i = 0u16;
     while i < n {
-        if marks[i as usize] < stack::FREE {
+        if stack::is_pending(marks[i as usize]) {
             count += 1;
         }
         i += 1;
@@ -330,7 +330,7 @@ fn clear_one(
         ClearsOne (before elapsed rows tops heads values deadlines nexts prevs turns marks)
         item (after elapsed rows tops heads values deadlines nexts prevs turns marks) ⌝ }
 {
-    if stack::FREE <= marks[item as usize] {
+    if !stack::is_pending(marks[item as usize]) {
         return;
     }
     wheel::remove(elapsed, rows, tops, heads, nexts, prevs, marks, item);

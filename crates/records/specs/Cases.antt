@@ -1,15 +1,15 @@
 -- The cases of the table, none left out: a deadline is too far, in another block, or near; a key names a record or it does not.
 use mathlib.Core.Path.{refl}
 use mathlib.Core.Logic.{by-cases}
-use Prim.Native.Nat.{ℕ, _-_, _/_, _%_}
+use Prim.Native.Nat.{ℕ, _-_}
 use native.Mathlib.Decide.{ℕ-discrete, decLt}
 use native.Mathlib.Omega.{arith}
 use Rattle.times.specs.Times.{maxDuration, block}
 use Rattle.links.specs.Links.{at}
 use Rattle.stack.specs.Places.{free}
-use Rattle.records.specs.Records.{Names, TooFar, OtherBlock, Near}
+use Rattle.records.specs.Records.{turnIn, numberIn, Names, TooFar, OtherBlock, Near}
 use Rattle.records.specs.Words.{QueueWords, count, markOf, view, Sound}
-use Rattle.records.specs.Code.{key-names, names-key, find-mark, find-turn}
+use Rattle.records.specs.Code.{key-names, names-key, find-turn}
 
 pub by-deadline : {P : Type 0} (e w : ℕ) → (TooFar e w → P) → (OtherBlock e w → P) → (Near e w → P) → P
 by-deadline e w f g h =
@@ -23,13 +23,13 @@ by-deadline e w f g h =
 pub by-key : {P : Type 0} {s : QueueWords} → Sound s → (key : ℕ) → ((r p : ℕ) → Names (view s) key r p → P)
     → (((r p : ℕ) → Names (view s) key r p → ⊥) → P) → P
 by-key {P} {s} S key f g =
-    let i : ℕ = key % 65536 in
+    let i : ℕ = numberIn key in
     by-cases (decLt i (count s))
     (λ b.
     by-cases (decLt (markOf s i) free)
     (λ m.
-    by-cases (ℕ-discrete (at (s .turns) i) (key / 65536))
+    by-cases (ℕ-discrete (at (s .turns) i) (turnIn key))
     (λ t. f i (markOf s i) (key-names S key (record { number = refl; below = b; pending = m; turn = t })))
-    (λ d. g (λ r p N. find-turn d r (names-key S key N))))
-    (λ m. g (λ r p N. find-mark (omega (arith, m)) r (names-key S key N))))
+    (λ d. g (λ r p N. find-turn refl refl d r (names-key S key N))))
+    (λ m. g (λ r p N. m (rw (← N .number) (names-key S key N .pending)))))
     (λ b. g (λ r p N. b (omega (arith, N .number, N .below))))

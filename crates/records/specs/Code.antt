@@ -1,7 +1,7 @@
 -- What the functions of the code say, and the laws that their proofs cite.
 use mathlib.Core.Path.{_≡_, refl, sym, ap, _∙_, subst}
 use mathlib.Core.Logic.{_≢_}
-use mathlib.Core.Bool.{true, false}
+use mathlib.Core.Bool.{Bool, true, false, not}
 use mathlib.Core.List.{List}
 use Prim.Native.Nat.{ℕ, _-_, _/_, _%_, _≤_, _<_}
 use native.Mathlib.Omega.{arith}
@@ -11,10 +11,11 @@ use borrow.Author.Tests.{eqb-true, eqb-false, ltb-true, ltb-false}
 use Rattle.times.specs.Times.{maxDuration, block}
 use Rattle.links.specs.Links.{at}
 use Rattle.stack.specs.Places.{free}
+use Rattle.stack.specs.Asked.{not-below, is-below}
 use Rattle.stack.specs.Laws as stack
 use Rattle.records.specs.declared.Found.{Found}
 use Rattle.records.specs.declared.Found.the-variants as F
-use Rattle.records.specs.Records.{At, Names, TooFar, OtherBlock, Near}
+use Rattle.records.specs.Records.{turnIn, numberIn, At, Names, TooFar, OtherBlock, Near}
 use Rattle.records.specs.Words.{QueueWords, count, markOf, view, Sound}
 
 -- ---- refusals 4 and 5
@@ -49,16 +50,12 @@ module _ (e w : ℕ) where
 
 -- ---- a key
 
-pub record Roomed (n : ℕ) (ts ms : List ℕ) : Type 0 where
-  pub turns : n ≤ length ts
-  pub marks : n ≤ length ms
-
 -- the key's record, by the words
 pub record KeyIs (n : ℕ) (ts ms : List ℕ) (key i : ℕ) : Type 0 where
-  pub number : i ≡ key % 65536
+  pub number : i ≡ numberIn key
   pub below : i < n
   pub pending : at ms i < free
-  pub turn : at ts i ≡ key / 65536
+  pub turn : at ts i ≡ turnIn key
 
 abbrev pub FindIs : ℕ → List ℕ → List ℕ → ℕ → Found → Type 0
 FindIs n ts ms key F.Nowhere = (i : ℕ) → KeyIs n ts ms key i → ⊥
@@ -85,11 +82,17 @@ module _ {s : QueueWords} (S : Sound s) (key : ℕ) where
       }
 
 module _ {n : ℕ} {ts ms : List ℕ} {key : ℕ} where
-  pub find-mark : free ≤ at ms (key % 65536) → (i : ℕ) → KeyIs n ts ms key i → ⊥
-  find-mark h i K = omega (arith, h, K .pending, ap (at ms) (K .number))
+  module _ {i : ℕ} (e : i ≡ numberIn key) where
+    pub find-mark : {b : Bool} → b ≡ ltb (at ms i) free → not b ≡ true → (j : ℕ) → KeyIs n ts ms key j → ⊥
+    find-mark f h j K =
+        let m : free ≤ at ms i = not-below f h in
+        omega (arith, K .pending, ap (at ms) (K .number ∙ sym e))
 
-  pub find-turn : at ts (key % 65536) ≢ key / 65536 → (i : ℕ) → KeyIs n ts ms key i → ⊥
-  find-turn h i K = h (ap (at ts) (sym (K .number)) ∙ K .turn)
+    pub find-turn : {c : ℕ} → c ≡ turnIn key → at ts i ≢ c → (j : ℕ) → KeyIs n ts ms key j → ⊥
+    find-turn f h j K = h (ap (at ts) (e ∙ sym (K .number)) ∙ K .turn ∙ sym f)
+
+    pub found : {b : Bool} {c : ℕ} → i < n → b ≡ ltb (at ms i) free → not b ≡ false → c ≡ turnIn key → at ts i ≡ c → KeyIs n ts ms key i
+    found l f h g k = record { number = e; below = l; pending = is-below f h; turn = k ∙ g }
 
   -- by the answer's case
   pub find-at : {r : Found} → FindIs n ts ms key r → (i : ℕ) → r ≡ F.At i → KeyIs n ts ms key i

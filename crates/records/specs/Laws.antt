@@ -23,13 +23,14 @@ use Rattle.wheel.specs.Words.{WheelWords, WheelWhole, Becomes, LooseIn, CanPush
 use Rattle.wheel.specs.Turns.{CanInsert}
 use Rattle.records.specs.View.{View, viewOf, view-eq, withLists, withValue, upd}
 use Rattle.records.specs.Records.{lastTurn, At, Near, taken, left, target, placed, freed}
-use Rattle.records.specs.Words.{QueueWords, queueWords, count, elapsed, markOf, view, Sound, AllKept, all-refl, upd-same, upd-other, at-set}
+use Rattle.records.specs.Words.{QueueWords, queueWords, count, elapsed, markOf, view, Sound, PastKept, past-refl, upd-same, upd-other, at-set}
 
--- the store is sound and has the view v now, and words past N are kept
+-- the store is sound and has the view v now, N and words past it are kept
 pub record Goes (s : QueueWords) (v : View) (s′ : QueueWords) : Type 0 where
   pub sound : Sound s′
   pub view : view s′ ≡ v
-  pub kept : AllKept s s′
+  pub size : count s′ ≡ count s
+  pub kept : PastKept (count s) s s′
 
 -- the record i is there and in no list
 abbrev pub LooseAt : QueueWords → ℕ → Type 0
@@ -47,15 +48,18 @@ goes : {s : QueueWords} → Sound s → {L : Lists} {t : WheelWords} → Becomes
 goes S B vals dues terms ev ed et turns R =
     record {
       sound = record {
-        some = omega arith;
-        few = omega arith;
-        roomy = record { values = omega arith; deadlines = omega arith; turns = omega arith };
+        fits = record {
+          some = omega arith;
+          few = omega arith;
+          room = record { values = omega arith; deadlines = omega arith; links = stack.room (B .whole .stack); turns = omega arith };
+        };
         whole = B .whole;
         turns = λ i h. rw (ap (λ f. f i) et) (turns i (omega arith));
         rule = rw (ed, B .elapsed, B .lists) R;
       };
       view = view-eq (B .kept .size) (B .elapsed) (B .lists) ev ed et;
-      kept = record { links = B .kept; values = vals; deadlines = dues; turns = terms };
+      size = B .kept .size;
+      kept = record { links = B .kept .links; values = vals; deadlines = dues; turns = terms };
     }
 
 -- the lists change, and nothing else: the rule follows from the lists below the free one
@@ -144,10 +148,10 @@ unfolding target
 target-later e w h = rw (ne-eqb w e h)
 
 module _ {t : WheelWords} {ds : List ℕ} {i when : ℕ} (C : CanPlace t ds i when) where
-  pub place-push : CanPush t 384 i
+  pub place-push : CanPush t expired i
   place-push = record { whole = C .whole; aside = omega arith; place = omega arith; item = C .item }
 
-  pub placed-now : when ≤ t .elapsed → {t′ : WheelWords} → Becomes t (change (listsIn t) 384 (put 384 i (listsIn t 384))) t′
+  pub placed-now : when ≤ t .elapsed → {t′ : WheelWords} → Becomes t (change (listsIn t) expired (put expired i (listsIn t expired))) t′
       → PlacesTo t ds i when t′ (set ds i (t .elapsed))
   placed-now h {t′} B =
       let w : max when (t .elapsed) ≡ t .elapsed = omega arith in
@@ -228,7 +232,7 @@ goes-freed {s} S {i} o {t} {ts} P =
     (λ z.
     let r = P .retired z in
     let e : queueWords t (s .values) (s .deadlines) ts ≡ s = λ j. queueWords (r .0 j) (s .values) (s .deadlines) (r .1 j) in
-    rw (eq-eqb (at (s .turns) i) lastTurn z) (rw e (record { sound = S; view = refl; kept = all-refl s })))
+    rw (eq-eqb (at (s .turns) i) lastTurn z) (rw e (record { sound = S; view = refl; size = refl; kept = past-refl (count s) s })))
     (λ z.
     let r = P .given z in
     let x : ℕ = at (s .turns) i + 1 in
@@ -248,11 +252,28 @@ pub record CanFree (t : WheelWords) (ts : List ℕ) (i : ℕ) : Type 0 where
   pub turn : at ts i < 2 ^ 48
 
 module _ {t : WheelWords} {ts : List ℕ} {i : ℕ} (C : CanFree t ts i) where
-  pub free-push : CanPush t 385 i
+  pub free-push : CanPush t free i
   free-push = record { whole = C .whole; aside = omega arith; place = omega arith; item = C .item }
 
   pub freed-last : at ts i ≡ lastTurn → LeavesTo t ts i t ts
   freed-last z = record { retired = λ e. (refl, refl); given = λ d. absurd (d z) }
 
-  pub freed-given : at ts i ≢ lastTurn → {t′ : WheelWords} → Becomes t (change (listsIn t) 385 (put 385 i (listsIn t 385))) t′ → LeavesTo t ts i t′ (set ts i (at ts i + 1))
+  pub freed-given : at ts i ≢ lastTurn → {t′ : WheelWords} → Becomes t (change (listsIn t) free (put free i (listsIn t free))) t′ → LeavesTo t ts i t′ (set ts i (at ts i + 1))
   freed-given d B = record { retired = λ e. absurd (d e); given = λ z. (B, refl) }
+
+-- ---- one record moves, and there are as many as before
+
+pub left-size : (p i : ℕ) (v : View) → left p i v .n ≡ v .n
+unfolding left
+left-size p i v = refl
+
+pub placed-size : (i when : ℕ) (v : View) → placed i when v .n ≡ v .n
+unfolding placed
+placed-size i when v = refl
+
+pub freed-size : (i : ℕ) (v : View) → freed i v .n ≡ v .n
+unfolding freed
+freed-size i v =
+    by-cases (ℕ-discrete (v .turn i) lastTurn)
+    (λ z. rw (eq-eqb (v .turn i) lastTurn z))
+    (λ z. rw (ne-eqb (v .turn i) lastTurn z))

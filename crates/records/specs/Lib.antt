@@ -1,4 +1,5 @@
 pub mod View
+pub mod Slices
 pub mod Records
 pub mod Words
 pub mod Store

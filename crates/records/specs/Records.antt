@@ -14,8 +14,18 @@ use Rattle.records.specs.View.{View, withLists, withDeadline, withTurn, 
 -- ---- keys and records
 
 -- "A key is a u64 of packed fields, most significant first: turn in 48 bits, record number in 16."
+abbrev pub packed : ℕ → ℕ → ℕ
+packed turn number = turn * 65536 + number
+
+abbrev pub turnIn : ℕ → ℕ
+turnIn key = key / 65536
+
+abbrev pub numberIn : ℕ → ℕ
+numberIn key = key % 65536
+
+-- the key of the record r
 abbrev pub keyOf : View → ℕ → ℕ
-keyOf v r = v .turn r * 65536 + r
+keyOf v r = packed (v .turn r) r
 
 -- "At turn 2^48-1 it is retired instead."
 abbrev pub lastTurn : ℕ
@@ -28,10 +38,10 @@ pub record At (v : View) (r p : ℕ) : Type 0 where
 
 -- refusal 6 is not given: the key names the record r, which is below N and pending, and whose turn is the key's
 pub record Names (v : View) (key r p : ℕ) : Type 0 where
-  pub number : r ≡ key % 65536
+  pub number : r ≡ numberIn key
   pub below : r < v .n
   pub pending : At v r p
-  pub turn : v .turn r ≡ key / 65536
+  pub turn : v .turn r ≡ turnIn key
 
 -- ---- refusals 4 and 5: "judged only when w is over e"
 

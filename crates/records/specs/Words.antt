@@ -1,8 +1,8 @@
 -- The words of a store, when they are sound, their view, and what is kept of them.
-use mathlib.Core.Path.{_≡_, refl, sym, ap, _∙_, fun-ext}
+use mathlib.Core.Path.{_≡_, refl, sym, ap, _∙_, subst, fun-ext}
 use mathlib.Core.Logic.{_≢_, by-cases}
 use mathlib.Core.List.{List}
-use Prim.Native.Nat.{ℕ, _^_, _≤_, _<_}
+use Prim.Native.Nat.{ℕ, _^_, _<_}
 use native.Mathlib.Decide.{ℕ-discrete}
 use lib.ListN.{length, set}
 use lib.Seq.{ext-getD, getD-set-same, getD-set-other}
@@ -10,13 +10,14 @@ use borrow.Author.Tests.{eq-eqb, ne-eqb}
 use Rattle.lent.specs.Lent.{Lent, Turned, old, new}
 use Rattle.links.specs.Links.{links, at}
 use Rattle.stack.specs.Words.{stackWords}
-use Rattle.links.specs.Laws.{Kept, kept-refl, kept-trans}
+use Rattle.links.specs.Laws.{Kept, LinksKept, kept-refl, kept-trans, links-refl, links-trans}
 use Rattle.stack.specs.Laws as stack
 use Rattle.wheel.specs.Wheel.{Rule}
 use Rattle.wheel.specs.declared.Wheel.{Wheel}
 use Rattle.wheel.specs.Rows.{rows-fixed}
 use Rattle.wheel.specs.Words.{WheelWords, wheelWords, WheelWhole, words as wheeled, lists as listsIn, count as countIn, markOf as markIn}
 use Rattle.records.specs.View.{View, viewOf, upd}
+use Rattle.records.specs.Slices.{Slices, Fits}
 
 pub record QueueWords : Type 0 where
   pub wheel : WheelWords
@@ -61,59 +62,45 @@ markOf s i = markIn (s .wheel) i
 abbrev pub view : QueueWords → View
 view s = viewOf (count s) (elapsed s) (listsIn (s .wheel)) (at (s .values)) (at (s .deadlines)) (at (s .turns))
 
--- "N from 1 to 1,024"
-abbrev pub limit : ℕ
-limit = 1024
-
--- slices of values, deadlines, links, turns and marks, none of them too short for n records
-pub record Room (n : ℕ) (vs ds ns ps ts ms : List ℕ) : Type 0 where
-  pub values : n ≤ length vs
-  pub deadlines : n ≤ length ds
-  pub nexts : n ≤ length ns
-  pub prevs : n ≤ length ps
-  pub turns : n ≤ length ts
-  pub marks : n ≤ length ms
-
--- those of a store's own N. What the links need is in `whole`
-pub record Roomy (s : QueueWords) : Type 0 where
-  pub values : count s ≤ length (s .values)
-  pub deadlines : count s ≤ length (s .deadlines)
-  pub turns : count s ≤ length (s .turns)
+abbrev pub slices : QueueWords → Slices
+slices s = record { values = s .values; deadlines = s .deadlines; links = s .wheel .stack .links; turns = s .turns }
 
 -- "A store is sound when every record is in exactly one place .., links agree both ways, occupied bits name exactly the non-empty slots, marks tell the
 -- true place, all pending deadlines obey the rules below, and N and turns are in range."
 pub record Sound (s : QueueWords) : Type 0 where
-  pub some : 0 < count s
-  pub few : count s ≤ limit
-  pub roomy : Roomy s
+  pub fits : Fits (slices s) (count s)
   pub whole : WheelWhole (s .wheel)
   pub turns : (i : ℕ) → i < count s → (0 < at (s .turns) i) × (at (s .turns) i < 2 ^ 48)
   pub rule : Rule (at (s .deadlines)) (elapsed s) (listsIn (s .wheel))
 
 -- "Words of a slice past what N records need are never changed by any call": those, and all lengths
-pub record AllKept (s s′ : QueueWords) : Type 0 where
-  pub links : stack.StackKept (s .wheel .stack) (s′ .wheel .stack)
-  pub values : Kept (count s) (s .values) (s′ .values)
-  pub deadlines : Kept (count s) (s .deadlines) (s′ .deadlines)
-  pub turns : Kept (count s) (s .turns) (s′ .turns)
+pub record PastKept (n : ℕ) (s s′ : QueueWords) : Type 0 where
+  pub links : LinksKept n (s .wheel .stack .links) (s′ .wheel .stack .links)
+  pub values : Kept n (s .values) (s′ .values)
+  pub deadlines : Kept n (s .deadlines) (s′ .deadlines)
+  pub turns : Kept n (s .turns) (s′ .turns)
 
-pub all-refl : (s : QueueWords) → AllKept s s
-all-refl s =
+pub past-refl : (n : ℕ) (s : QueueWords) → PastKept n s s
+past-refl n s =
     record {
-      links = stack.kept-refl (s .wheel .stack);
-      values = kept-refl (count s) (s .values);
-      deadlines = kept-refl (count s) (s .deadlines);
-      turns = kept-refl (count s) (s .turns);
+      links = links-refl n (s .wheel .stack .links);
+      values = kept-refl n (s .values);
+      deadlines = kept-refl n (s .deadlines);
+      turns = kept-refl n (s .turns);
     }
 
-pub all-trans : {s t u : QueueWords} → AllKept s t → AllKept t u → AllKept s u
-all-trans A B =
+pub past-trans : {n : ℕ} {s t u : QueueWords} → PastKept n s t → PastKept n t u → PastKept n s u
+past-trans A B =
     record {
-      links = stack.kept-trans (A .links) (B .links);
-      values = kept-trans (A .values) (rw (A .links .size) at (B .values));
-      deadlines = kept-trans (A .deadlines) (rw (A .links .size) at (B .deadlines));
-      turns = kept-trans (A .turns) (rw (A .links .size) at (B .turns));
+      links = links-trans (A .links) (B .links);
+      values = kept-trans (A .values) (B .values);
+      deadlines = kept-trans (A .deadlines) (B .deadlines);
+      turns = kept-trans (A .turns) (B .turns);
     }
+
+-- one store after the other, of as many records
+pub past-then : {s t u : QueueWords} → count t ≡ count s → PastKept (count s) s t → PastKept (count t) t u → PastKept (count s) s u
+past-then {s} {t} {u} e A B = past-trans A (subst (λ n. PastKept n t u) e B)
 
 -- ---- a store in a slice, as a change of what stands at an index
 
@@ -137,10 +124,10 @@ at-set l i x h =
 words-same : (l m : List ℕ) → length m ≡ length l → at m ≡ at l → m ≡ l
 words-same l m n e = ext-getD 0 m l n (λ i h. ap (λ f. f i) e)
 
-pub view-fixed : {s s′ : QueueWords} → Sound s → Sound s′ → view s′ ≡ view s → AllKept s s′ → s′ ≡ s
+pub view-fixed : {s s′ : QueueWords} → Sound s → Sound s′ → view s′ ≡ view s → PastKept (count s) s s′ → s′ ≡ s
 view-fixed {s} {s′} S S′ e K =
     let l : listsIn (s′ .wheel) ≡ listsIn (s .wheel) = ap (λ v. v .lists) e in
-    let t : s′ .wheel .stack ≡ s .wheel .stack = stack.lists-fixed (S .whole .stack) (S′ .whole .stack) l (K .links) in
+    let t : s′ .wheel .stack ≡ s .wheel .stack = stack.lists-fixed (S .whole .stack) (S′ .whole .stack) l (record { size = ap (λ v. v .n) e; links = K .links }) in
     let o : s′ .wheel .occupied ≡ s .wheel .occupied = rows-fixed (S .whole .rows) (rw l at (S′ .whole .rows)) in
     let c : elapsed s′ ≡ elapsed s = ap (λ v. v .elapsed) e in
     let a = words-same (s .values) (s′ .values) (K .values .size) (ap (λ v. v .value) e) in

@@ -1,9 +1,12 @@
 // Records in lent slices: their keys and turns, where a deadline may lie, and how one joins the wheel or leaves the store.
-ghost use Prim.Native.Nat.{_<_};
+ghost use mathlib.Core.Path.{_≡_};
+ghost use Prim.Native.Nat.{_^_, _≤_, _<_};
+ghost use lib.ListN.{length};
 ghost use Rattle.lent.specs.Lent.{old, new};
 ghost use Rattle.wheel.specs.Words.{lent, before, after};
+ghost use Rattle.records.specs.Records.{packed, turnIn, numberIn};
 ghost use Rattle.records.specs.Laws.{PlacesTo, CanPlace, LeavesTo, CanFree};
-ghost use Rattle.records.specs.Code.{DeadlineNo, Roomed, FindIs};
+ghost use Rattle.records.specs.Code.{DeadlineNo, FindIs};
 
 // The last turn: a record that leaves at it is retired.
 pub const LAST_TURN: u64 = (1 << 48) - 1;
@@ -105,19 +108,39 @@ pub fn leave(
     );
 }
 
-// The record number is the key's low 16 bits, the turn the rest.
+// A key: the turn over the record number, which is its low 16 bits.
+pub fn key_of(turn: u64, item: u16) -> u64
+    requires { ⌜ turn < 2 ^ 48 ⌝ }
+    ensures { λ r. ⌜ r ≡ packed turn item ⌝ }
+{
+    turn * 65536 + item as u64
+}
+
+pub fn turn_of(key: u64) -> u64
+    ensures { λ r. ⌜ r ≡ turnIn key ⌝ }
+{
+    key / 65536
+}
+
+pub fn number_of(key: u64) -> u16
+    ensures { λ r. ⌜ r ≡ numberIn key ⌝ }
+{
+    (key % 65536) as u16
+}
+
+// The pending record that the key names.
 pub fn find(n: u16, turns: &[u64], marks: &[u16], key: u64) -> Found
-    requires { ⌜ Roomed n (now turns) (now marks) ⌝ }
+    requires { ⌜ (n ≤ length (now turns)) × (n ≤ length (now marks)) ⌝ }
     ensures { λ r. ⌜ FindIs n (old turns) (old marks) key r ⌝ }
 {
-    let item = (key % 65536) as u16;
+    let item = number_of(key);
     if n <= item {
         return Found::Nowhere;
     }
-    if stack::FREE <= marks[item as usize] {
+    if !stack::is_pending(marks[item as usize]) {
         return Found::Nowhere;
     }
-    if turns[item as usize] != key / 65536 {
+    if turns[item as usize] != turn_of(key) {
         return Found::Nowhere;
     }
     Found::At(item)

@@ -13,8 +13,8 @@ use Rattle.links.specs.Segments.{Seg}
 use Rattle.links.specs.Family.{Net, Member, Fam}
 use Rattle.links.specs.Walk.{fam-lists}
 use Rattle.lent.specs.Lent.{Turned, old}
-use Rattle.links.specs.Links.{links, at, net, Deep}
-use Rattle.links.specs.Laws.{Kept, LinksKept, kept-refl, kept-trans, kept-set, deep-kept}
+use Rattle.links.specs.Links.{links, at, net, Room}
+use Rattle.links.specs.Laws.{Kept, LinksKept, kept-refl, kept-trans, kept-set, room-kept}
 use Rattle.stack.specs.declared.Stacks.{Stacks}
 use Rattle.stack.specs.Places.{slots, expired, free, places}
 use Rattle.stack.specs.Heads.{headOf, Shape, head-slot, head-past}
@@ -96,7 +96,7 @@ no-slot st p h =
     head-slot st noRows p h
     ∙ rw (getD-replicate 6 (p / 64) noRow [] (omega arith)) (getD-replicate {A = ℕ} 64 (p % 64) 65535 0 (omega arith))
 
-module _ (n : ℕ) (ns ps ms : List ℕ) (some : 0 < n) (small : n ≤ nobody) (Z : Deep n (links ns ps ms)) where
+module _ (n : ℕ) (ns ps ms : List ℕ) (some : 0 < n) (small : n ≤ nobody) (Z : Room n (links ns ps ms)) where
   abbrev t : StackWords
   t = formatted n ns ps ms
 
@@ -188,7 +188,7 @@ module _ (n : ℕ) (ns ps ms : List ℕ) (some : 0 < n) (small : n ≤ nobody) (
 
   pub format-whole : Whole t
   unfolding formatted
-  format-whole = record { shape = no-shape; held = record { deep = deep-kept Z format-kept; fam = rw (fam-lists fam) fam } }
+  format-whole = record { shape = no-shape; held = record { room = room-kept Z format-kept; fam = rw (fam-lists fam) fam } }
 
   -- the free list is 0, 1, .., n - 1, and every other list is empty
   pub format-lists : lists t ≡ change (λ p. []) free (range n 0)
@@ -223,7 +223,7 @@ module _ (n : ℕ) (ns ps ms : List ℕ) where
       }
 
   pub fill-turn : (i b : ℕ) (ns′ ps′ ms′ : List ℕ) → i < n → Filling n ns ps ms i b ns′ ps′ ms′
-      → Filling n ns ps ms (i + 1) i (set ns′ i (i + 1)) (set ps′ i b) (set ms′ i 385)
+      → Filling n ns ps ms (i + 1) i (set ns′ i (i + 1)) (set ps′ i b) (set ms′ i free)
   fill-turn i b ns′ ps′ ms′ h F =
       record {
         within = omega arith;
@@ -233,7 +233,7 @@ module _ (n : ℕ) (ns ps ms : List ℕ) where
         marks = rw (F .marks) (sym (over-step i (λ j. free) ms));
         nexts-size = length-set ns′ i (i + 1) ∙ F .nexts-size;
         prevs-size = length-set ps′ i b ∙ F .prevs-size;
-        marks-size = length-set ms′ i 385 ∙ F .marks-size;
+        marks-size = length-set ms′ i free ∙ F .marks-size;
       }
 
   module _ (i b : ℕ) (ns′ ps′ ms′ : List ℕ) (F : Filling n ns ps ms i b ns′ ps′ ms′) (some : 0 < n) (end : n ≤ i) where

@@ -9,7 +9,7 @@ use native.Mathlib.Omega.{arith}
 use borrow.Author.Tests.{eq-eqb, ne-eqb}
 use Rattle.links.specs.Lists.{nobody, Mem, Nodup, firstD, without, without-first, change}
 use Rattle.links.specs.Family.{fam-some, fam-nodup, fam-marked, fam-empty, fam-cons}
-use Rattle.links.specs.Links.{Links, net, Deep, CanJoin, CanCut}
+use Rattle.links.specs.Links.{Links, net, Room, CanJoin, CanCut}
 use Rattle.links.specs.Judge.{cat, fam-length}
 use lib.ListN.{length}
 use Rattle.links.specs.Laws as links
@@ -41,8 +41,8 @@ pub record Changes (s : StackWords) (p : ℕ) (l : List ℕ) (t : StackWords) : 
 module _ {t : StackWords} (W : Whole t) where
   -- ---- what the lists say of the words
 
-  pub deep : Deep (count t) (t .links)
-  deep = W .held .deep
+  pub room : Room (count t) (t .links)
+  room = W .held .room
 
   pub small : count t ≤ nobody
   small = W .held .fam .small
@@ -177,7 +177,7 @@ module _ {t : StackWords} (W : Whole t) where
 
   pub remove-mark : (i : ℕ) → i < count t → (markOf (remove t i) i ≡ nobody) × ((j : ℕ) → j ≢ i → markOf (remove t i) j ≡ markOf t j)
   unfolding remove
-  remove-mark i hi = let U = links.mark-cut deep i hi in (U .same, U .other)
+  remove-mark i hi = let U = links.mark-cut room i hi in (U .same, U .other)
 
   pub pop-mark : (p x : ℕ) (l : List ℕ) → lists t p ≡ x ∷ l → markOf (pop t p) x ≡ nobody
   unfolding pop
@@ -193,7 +193,7 @@ module _ {t : StackWords} (W : Whole t) where
   whole-judged = links.whole-judge (W .held)
 
 -- and nothing else: true exactly when the words are whole
-pub judged-whole : {t : StackWords} → count t ≤ nobody → Shape (t .heads) → Deep (count t) (t .links) → judged t ≡ true → Whole t
+pub judged-whole : {t : StackWords} → count t ≤ nobody → Shape (t .heads) → Room (count t) (t .links) → judged t ≡ true → Whole t
 unfolding judged
 judged-whole {t} small H Z e =
     record { shape = H; held = links.judge-whole (omega arith) small (head-past (t .stacks) (t .heads)) Z e }

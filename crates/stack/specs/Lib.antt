@@ -1,4 +1,5 @@
 pub mod Places
+pub mod Asked
 pub mod Heads
 pub mod Words
 pub mod Judge

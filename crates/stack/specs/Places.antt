@@ -1,10 +1,18 @@
 -- The places, as numbers: "every record is in exactly one place (free, retired, expired stack or one slot)". Retired is no list and has no number.
 use mathlib.Core.List.{List, _∷_}
-use Prim.Native.Nat.{ℕ, _+_, _*_}
+use Prim.Native.Nat.{ℕ, _+_, _*_, _/_, _%_}
+use Rattle.links.specs.Lists.{nobody}
 
 -- slot s of level k
 abbrev pub slotPlace : ℕ → ℕ → ℕ
 slotPlace k s = 64 * k + s
+
+-- and back: the level and the slot of a place
+abbrev pub levelAt : ℕ → ℕ
+levelAt p = p / 64
+
+abbrev pub slotAt : ℕ → ℕ
+slotAt p = p % 64
 
 -- the slots of the six levels lie below
 abbrev pub slots : ℕ
@@ -18,6 +26,13 @@ free = 385
 
 abbrev pub places : ℕ
 places = 386
+
+-- the highest level, and the most that the heights of all records come to
+abbrev pub topLevel : ℕ
+topLevel = 5
+
+abbrev pub mostHeights : ℕ
+mostHeights = topLevel * nobody
 
 -- where i comes into the list l of the place p: the only word that says it is the head
 unfoldable pub put : ℕ → ℕ → List ℕ → List ℕ

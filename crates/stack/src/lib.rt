@@ -1,21 +1,24 @@
 // The lists of the places: the slots of the six levels, the expired stack and the free list.
 ghost use mathlib.Core.Path.{_≡_};
 ghost use Prim.Native.Nat.{_<_};
+ghost use lib.Dec.{ltb};
 ghost use Rattle.lent.specs.Lent.{old, new};
-ghost use Rattle.links.specs.Links.{Deep, CanJoin, lent as linked};
-ghost use Rattle.stack.specs.Places.{places, slotPlace};
+ghost use Rattle.links.specs.Links.{Room, CanJoin, lent as linked};
+ghost use Rattle.stack.specs.Places.{slots, free, places, slotPlace, levelAt, slotAt};
 ghost use Rattle.stack.specs.Heads.{headOf, rowsWith, stacksWith, slotHead};
 ghost use Rattle.stack.specs.Words.{stacksOf, lent, before, after, Slotwise, count, headAt};
 ghost use Rattle.stack.specs.Words.{push, remove, pop, judged, CanPush, CanRemove, CanPop, CanPopSlot};
 ghost use Rattle.stack.specs.Format.{formattedOf};
 
-// A place is a number: slot s of level k is 64 k + s, from 0 to 383, and the two lists that are no slot follow. A record's mark is
-// its place, or nobody.
+// A place is a number: slot s of level k is 64 k + s, and the two lists that are no slot follow. A record's mark is its place, or nobody.
+// No other crate knows the numbers: it asks the functions below.
+pub const SLOTS: u16 = 384;
+
 pub const EXPIRED: u16 = 384;
 
 pub const FREE: u16 = 385;
 
-pub const PLACES: u16 = 386;
+const PLACES: u16 = 386;
 
 // How many records there are, and the heads of the expired stack and of the free list, as the caller keeps them. Here they are lent
 // as the three words of `tops`. The heads of the slots are six rows of 64.
@@ -32,97 +35,123 @@ pub fn slot_place(level: usize, slot: usize) -> u16
     (64 * level + slot) as u16
 }
 
-// The head of the place p.
-pub fn head_of(tops: &[u16; 3], heads: &[[u16; 64]; 6], p: u16) -> u16
-    requires { ⌜ p < places ⌝ }
-    ensures { λ r. ⌜ r ≡ headOf (stacksOf (old tops)) (old heads) p ⌝ }
+// Whether it is a slot's, and then the level and the slot.
+pub fn is_slot(place: u16) -> bool
+    ensures { λ r. ⌜ r ≡ ltb place slots ⌝ }
 {
-    if p < EXPIRED {
-        let k = p as usize / 64;
-        let s = p as usize % 64;
+    place < SLOTS
+}
+
+pub fn level_of(place: u16) -> usize
+    ensures { λ r. ⌜ r ≡ levelAt place ⌝ }
+{
+    place as usize / 64
+}
+
+pub fn slot_of(place: u16) -> usize
+    ensures { λ r. ⌜ r ≡ slotAt place ⌝ }
+{
+    place as usize % 64
+}
+
+// Whether it is a list of timers, so that a record with this mark is pending: a slot's, or the expired stack.
+pub fn is_pending(place: u16) -> bool
+    ensures { λ r. ⌜ r ≡ ltb place free ⌝ }
+{
+    place < FREE
+}
+
+// The head of the place.
+pub fn head_of(tops: &[u16; 3], heads: &[[u16; 64]; 6], place: u16) -> u16
+    requires { ⌜ place < places ⌝ }
+    ensures { λ r. ⌜ r ≡ headOf (stacksOf (old tops)) (old heads) place ⌝ }
+{
+    if place < SLOTS {
+        let k = place as usize / 64;
+        let s = place as usize % 64;
         return heads[k][s];
     }
-    if p == EXPIRED {
+    if place == EXPIRED {
         return tops[1];
     }
     tops[2]
 }
 
-// v becomes the head of the place p, and every other head is kept. The three words are stored together: a list that is stored whole
-// needs no law of its length.
-fn set_head(tops: &mut [u16; 3], heads: &mut [[u16; 64]; 6], p: u16, v: u16)
-    requires { ⌜ p < places ⌝ }
-    ensures { λ _. ⌜ stacksOf (new tops) ≡ stacksWith (stacksOf (old tops)) p v ⌝ }
-    ensures { λ _. ⌜ new heads ≡ rowsWith (old heads) p v ⌝ }
+// `item` becomes the head of the place, and every other head is kept. The three words are stored together: a list that is stored
+// whole needs no law of its length.
+fn set_head(tops: &mut [u16; 3], heads: &mut [[u16; 64]; 6], place: u16, item: u16)
+    requires { ⌜ place < places ⌝ }
+    ensures { λ _. ⌜ stacksOf (new tops) ≡ stacksWith (stacksOf (old tops)) place item ⌝ }
+    ensures { λ _. ⌜ new heads ≡ rowsWith (old heads) place item ⌝ }
 {
-    if p < EXPIRED {
-        let k = p as usize / 64;
-        let s = p as usize % 64;
-        heads[k][s] = v;
+    if place < SLOTS {
+        let k = place as usize / 64;
+        let s = place as usize % 64;
+        heads[k][s] = item;
         return;
     }
-    if p == EXPIRED {
-        *tops = [tops[0], v, tops[2]];
+    if place == EXPIRED {
+        *tops = [tops[0], item, tops[2]];
         return;
     }
-    *tops = [tops[0], tops[1], v];
+    *tops = [tops[0], tops[1], item];
 }
 
-// The loose record i comes to the head of the list of p.
+// The loose record `item` comes into the list of the place.
 pub fn push(
     tops: &mut [u16; 3],
     heads: &mut [[u16; 64]; 6],
     nexts: &mut [u16],
     prevs: &mut [u16],
     marks: &mut [u16],
-    p: u16,
-    i: u16,
+    place: u16,
+    item: u16,
 )
-    requires { ⌜ CanPush (lent tops heads nexts prevs marks) p i ⌝ }
-    ensures { λ _. ⌜ after tops heads nexts prevs marks ≡ push (before tops heads nexts prevs marks) p i ⌝ }
+    requires { ⌜ CanPush (lent tops heads nexts prevs marks) place item ⌝ }
+    ensures { λ _. ⌜ after tops heads nexts prevs marks ≡ push (before tops heads nexts prevs marks) place item ⌝ }
 {
-    let h = head_of(tops, heads, p);
-    links::join(nexts, prevs, marks, p, i, h);
-    set_head(tops, heads, p, i);
+    let head = head_of(tops, heads, place);
+    links::join(nexts, prevs, marks, place, item, head);
+    set_head(tops, heads, place, item);
 }
 
-// The record i leaves its list, wherever it stands there, and is loose.
+// The record `item` leaves its list, wherever it stands there, and is loose.
 pub fn remove(
     tops: &mut [u16; 3],
     heads: &mut [[u16; 64]; 6],
     nexts: &mut [u16],
     prevs: &mut [u16],
     marks: &mut [u16],
-    i: u16,
+    item: u16,
 )
-    requires { ⌜ CanRemove (lent tops heads nexts prevs marks) i ⌝ }
-    ensures { λ _. ⌜ after tops heads nexts prevs marks ≡ remove (before tops heads nexts prevs marks) i ⌝ }
+    requires { ⌜ CanRemove (lent tops heads nexts prevs marks) item ⌝ }
+    ensures { λ _. ⌜ after tops heads nexts prevs marks ≡ remove (before tops heads nexts prevs marks) item ⌝ }
 {
-    let p = marks[i as usize];
-    let h = head_of(tops, heads, p);
-    let left = links::cut(nexts, prevs, marks, i, h);
-    set_head(tops, heads, p, left);
+    let place = marks[item as usize];
+    let head = head_of(tops, heads, place);
+    let left = links::cut(nexts, prevs, marks, item, head);
+    set_head(tops, heads, place, left);
 }
 
-// The head of the list of p leaves it, and is loose. From an empty list nobody does.
+// The head of the list of the place leaves it, and is loose. From an empty list nobody does.
 pub fn pop(
     tops: &mut [u16; 3],
     heads: &mut [[u16; 64]; 6],
     nexts: &mut [u16],
     prevs: &mut [u16],
     marks: &mut [u16],
-    p: u16,
+    place: u16,
 ) -> u16
-    requires { ⌜ CanPop (lent tops heads nexts prevs marks) p ⌝ }
-    ensures { λ r. ⌜ r ≡ headAt (before tops heads nexts prevs marks) p ⌝ }
-    ensures { λ _. ⌜ after tops heads nexts prevs marks ≡ pop (before tops heads nexts prevs marks) p ⌝ }
+    requires { ⌜ CanPop (lent tops heads nexts prevs marks) place ⌝ }
+    ensures { λ r. ⌜ r ≡ headAt (before tops heads nexts prevs marks) place ⌝ }
+    ensures { λ _. ⌜ after tops heads nexts prevs marks ≡ pop (before tops heads nexts prevs marks) place ⌝ }
 {
-    let h = head_of(tops, heads, p);
-    if h == links::NOBODY {
-        return h;
+    let item = head_of(tops, heads, place);
+    if item == links::NOBODY {
+        return item;
     }
-    remove(tops, heads, nexts, prevs, marks, h);
-    h
+    remove(tops, heads, nexts, prevs, marks, item);
+    item
 }
 
 // The same two at a slot. What kind of place it is need not be asked, and `tops` has no part in it.
@@ -133,14 +162,14 @@ pub fn push_slot(
     marks: &mut [u16],
     level: usize,
     slot: usize,
-    i: u16,
+    item: u16,
 )
-    requires { ⌜ (level < 6) × (slot < 64) × CanJoin (linked nexts prevs marks) i (slotHead (now heads) level slot) ⌝ }
-    ensures { λ _. ⌜ Slotwise heads nexts prevs marks (λ t t′. t′ ≡ push t (slotPlace level slot) i) ⌝ }
+    requires { ⌜ (level < 6) × (slot < 64) × CanJoin (linked nexts prevs marks) item (slotHead (now heads) level slot) ⌝ }
+    ensures { λ _. ⌜ Slotwise heads nexts prevs marks (λ t t′. t′ ≡ push t (slotPlace level slot) item) ⌝ }
 {
-    let h = heads[level][slot];
-    links::join(nexts, prevs, marks, slot_place(level, slot), i, h);
-    heads[level][slot] = i;
+    let head = heads[level][slot];
+    links::join(nexts, prevs, marks, slot_place(level, slot), item, head);
+    heads[level][slot] = item;
 }
 
 pub fn pop_slot(
@@ -155,13 +184,13 @@ pub fn pop_slot(
     ensures { λ r. ⌜ r ≡ slotHead (old heads) level slot ⌝ }
     ensures { λ _. ⌜ Slotwise heads nexts prevs marks (λ t t′. t′ ≡ pop t (slotPlace level slot)) ⌝ }
 {
-    let h = heads[level][slot];
-    if h == links::NOBODY {
-        return h;
+    let item = heads[level][slot];
+    if item == links::NOBODY {
+        return item;
     }
-    let left = links::cut(nexts, prevs, marks, h, h);
+    let left = links::cut(nexts, prevs, marks, item, item);
     heads[level][slot] = left;
-    h
+    item
 }
 
 // Whether heads, links and marks hold the lists of the places, and every record is in exactly one list or loose.
@@ -172,19 +201,20 @@ pub fn is_whole(
     prevs: &[u16],
     marks: &[u16],
 ) -> bool
-    requires { ⌜ Deep (count (lent tops heads nexts prevs marks)) (linked nexts prevs marks) ⌝ }
+    requires { ⌜ Room (count (lent tops heads nexts prevs marks)) (linked nexts prevs marks) ⌝ }
     ensures { λ r. ⌜ r ≡ judged (before tops heads nexts prevs marks) ⌝ }
 {
     let n = tops[0];
     let mut left = n;
-    let mut p = 0u16;
-    while p < PLACES {
-        let h = head_of(tops, heads, p);
-        let links::Walk::Left(l) = links::walk_list(nexts, prevs, marks, n, p, h, left) else {
+    let mut place = 0u16;
+    while place < PLACES {
+        let head = head_of(tops, heads, place);
+        let links::Walk::Left(l) = links::walk_list(nexts, prevs, marks, n, place, head, left)
+        else {
             return false;
         };
         left = l;
-        p += 1;
+        place += 1;
     }
     left == links::count_loose(nexts, prevs, marks, n)
 }
@@ -198,7 +228,7 @@ pub fn format(
     marks: &mut [u16],
     n: u16,
 )
-    requires { ⌜ (0 < n) × Deep n (linked nexts prevs marks) ⌝ }
+    requires { ⌜ (0 < n) × Room n (linked nexts prevs marks) ⌝ }
     ensures { λ _. ⌜ after tops heads nexts prevs marks ≡ formattedOf n nexts prevs marks ⌝ }
 {
     *tops = [n, links::NOBODY, 0];

@@ -7,22 +7,22 @@ use Rattle.times.specs.Times.{slotOf, levelOf, floor, Lies}
 use Rattle.times.specs.Quotients.{slot-lt, lies-late, lies-agree}
 use Rattle.times.specs.Levels.{level-is, is-level, block-six, level-lies, lies-level}
 use Rattle.links.specs.Lists.{Mem}
-use Rattle.stack.specs.Places.{slotPlace, slots, expired}
+use Rattle.stack.specs.Places.{slotPlace, slots, expired, levelAt, slotAt}
 use Rattle.wheel.specs.Wheel.{Lists, placeFor, OnWheel, Rule}
 
 -- in a slot of its own, which does not start before elapsed
 pub record Spot (p e w : ℕ) : Type 0 where
-  pub slot : p % 64 ≡ slotOf w (p / 64)
-  pub lies : Lies (p / 64) e w
+  pub slot : slotAt p ≡ slotOf w (levelAt p)
+  pub lies : Lies (levelAt p) e w
 
 -- above level 0, the slot starts after elapsed
 abbrev pub Ahead : ℕ → ℕ → ℕ → Type 0
-Ahead p e w = 0 < p / 64 → e < floor (p / 64) w
+Ahead p e w = 0 < levelAt p → e < floor (levelAt p) w
 
 -- between two drains: a slot above another's level starts after elapsed
 pub record Between (d : ℕ → ℕ) (e : ℕ) (L : Lists) : Type 0 where
   pub spot : (p x : ℕ) → p < slots → Mem x (L p) → Spot p e (d x)
-  pub later : (p x q y : ℕ) → p < slots → q < slots → Mem x (L p) → Mem y (L q) → q / 64 < p / 64 → e < floor (p / 64) (d x)
+  pub later : (p x q y : ℕ) → p < slots → q < slots → Mem x (L p) → Mem y (L q) → levelAt q < levelAt p → e < floor (levelAt p) (d x)
 
 -- ---- a slot as a number
 
@@ -37,19 +37,19 @@ place-slot k s h = omega arith
 pub on-spot : (p e w : ℕ) → OnWheel p e w → Spot p e w × Ahead p e w
 unfolding placeFor
 on-spot p e w o =
-    let k : p / 64 ≡ levelOf e w = omega (arith, o .place, slot-lt w (levelOf e w)) in
+    let k : levelAt p ≡ levelOf e w = omega (arith, o .place, slot-lt w (levelOf e w)) in
     let l = level-lies e w (levelOf e w) (o .late) (sym (o .near)) (level-is e w) in
     (record { slot = rw k (omega (arith, o .place, slot-lt w (levelOf e w))); lies = rw k (l .0) }, rw k (l .1))
 
 pub spot-on : (p e w : ℕ) → p < slots → Spot p e w → Ahead p e w → OnWheel p e w
 unfolding placeFor
 spot-on p e w h s a =
-    let k : p / 64 ≡ levelOf e w = is-level e w (p / 64) (lies-level e w (p / 64) (omega arith) (s .lies) a) in
-    let t : p % 64 ≡ slotOf w (levelOf e w) = s .slot ∙ ap (slotOf w) k in
+    let k : levelAt p ≡ levelOf e w = is-level e w (levelAt p) (lies-level e w (levelAt p) (omega arith) (s .lies) a) in
+    let t : slotAt p ≡ slotOf w (levelOf e w) = s .slot ∙ ap (slotOf w) k in
     record {
       place = omega (arith, k, t);
-      late = lies-late (p / 64) e w (s .lies);
-      near = sym (block-six w) ∙ lies-agree (p / 64) e w (s .lies) 6 (omega arith) ∙ block-six e;
+      late = lies-late (levelAt p) e w (s .lies);
+      near = sym (block-six w) ∙ lies-agree (levelAt p) e w (s .lies) 6 (omega arith) ∙ block-six e;
     }
 
 pub rule-between : {d : ℕ → ℕ} {e : ℕ} {L : Lists} → Rule d e L → Between d e L

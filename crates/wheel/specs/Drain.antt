@@ -9,7 +9,7 @@ use native.Mathlib.Omega.{arith}
 use Rattle.times.specs.Times.{slotOf, startAt, floor}
 use Rattle.times.specs.Quotients.{slot-lt, floor-le, floor-64, lies-raise, lies-down}
 use Rattle.links.specs.Lists.{Mem, change, change-same, change-other}
-use Rattle.stack.specs.Places.{slotPlace, slots, put}
+use Rattle.stack.specs.Places.{slotPlace, slots, put, levelAt}
 use Rattle.wheel.specs.Wheel.{Lists, FirstSlot, arrive, Drains, drained, moved}
 use Rattle.wheel.specs.Sums.{total, mem-joined, mem-left, total-less, total-more}
 use Rattle.wheel.specs.Between.{Spot, Between, place-level, place-slot}
@@ -17,7 +17,7 @@ use Rattle.wheel.specs.Next.{here-below, slot-below, first-in, start-is,
 
 -- "A timer's height is its level": the sum over the wheel
 unfoldable pub heights : Lists → ℕ
-heights L = total (λ p x. p / 64) slots L
+heights L = total (λ p x. levelAt p) slots L
 
 -- the sum of a weight over the wheel that does not ask where
 unfoldable pub amount : (ℕ → ℕ) → Lists → ℕ
@@ -27,8 +27,8 @@ amount v L = total (λ p x. v x) slots L
 pub record Draining (d : ℕ → ℕ) (k h e : ℕ) (L : Lists) : Type 0 where
   pub spot : (q y : ℕ) → q < slots → Mem y (L q) → Spot q e (d y)
   pub hand : (y : ℕ) → Mem y (L h) → floor (suc k) (d y) ≡ e
-  pub low : (q y : ℕ) → q < slots → Mem y (L q) → k ≤ q / 64
-  pub later : (q y : ℕ) → q < slots → q ≢ h → Mem y (L q) → k < q / 64 → e < floor (q / 64) (d y)
+  pub low : (q y : ℕ) → q < slots → Mem y (L q) → k ≤ levelAt q
+  pub later : (q y : ℕ) → q < slots → q ≢ h → Mem y (L q) → k < levelAt q → e < floor (levelAt q) (d y)
 
 -- ---- elapsed rises to the start of the first slot
 
@@ -38,7 +38,7 @@ drain-begins {d} {e} {L} B {k} {s} F =
     record {
       spot = λ q y hq my.
           let p = B .spot q y hq my in
-          record { slot = p .slot; lies = lies-raise (q / 64) e (d y) (p .lies) (startAt e (suc k) s) (start-late B F) (next-not-before B F q y hq my) };
+          record { slot = p .slot; lies = lies-raise (levelAt q) e (d y) (p .lies) (startAt e (suc k) s) (start-late B F) (next-not-before B F q y hq my) };
       hand = λ y my. sym (start-is B F y my);
       low = λ q y hq my. omega (arith, next-lowest B F q y hq my);
       later = λ q y hq n my l. next-start B F q y hq my n;
@@ -101,9 +101,9 @@ module _ (d : ℕ → ℕ) (k h : ℕ) (level : h / 64 ≡ suc k) (below : h < s
         record {
           spot = λ r y hr m. ⊎-elim (λ a. rw (a .0, a .1) landed) (D .spot r y hr) (who r y m);
           hand = λ y m. D .hand y (rw is (inr (rw move-rest at m)));
-          low = λ r y hr m. ⊎-elim (λ a. omega (arith, ap (λ (p : ℕ). p / 64) (a .0), to-level)) (D .low r y hr) (who r y m);
+          low = λ r y hr m. ⊎-elim (λ a. omega (arith, ap (λ (p : ℕ). levelAt p) (a .0), to-level)) (D .low r y hr) (who r y m);
           later = λ r y hr n m g.
-              ⊎-elim (λ a. absurd (omega (arith, g, ap (λ (p : ℕ). p / 64) (a .0), to-level))) (λ a. D .later r y hr n a g) (who r y m);
+              ⊎-elim (λ a. absurd (omega (arith, g, ap (λ (p : ℕ). levelAt p) (a .0), to-level))) (λ a. D .later r y hr n a g) (who r y m);
         }
       where
         landed : Spot to e (d x)
@@ -119,7 +119,7 @@ module _ (d : ℕ → ℕ) (k h : ℕ) (level : h / 64 ≡ suc k) (below : h < s
     move-law =
         record {
           rule = move-rule;
-          fallen = omega (arith, move-total (λ p y. p / 64), level, to-level);
+          fallen = omega (arith, move-total (λ p y. levelAt p), level, to-level);
           kept = λ v. omega (arith, move-total (λ p y. v y));
           aside = move-aside;
         }
@@ -177,5 +177,5 @@ drain-law {d} {e} {L} B {k} {s} F {m} {M} D =
       aside = R .0 .aside;
       rises = start-late B F;
       whole = ap (λ (z : ℕ). z / 64 * 64) a ∙ floor-64 k (d (F .head)) ∙ sym a;
-      reached = λ q y hq my. le-trans (next-not-before B F q y hq my) (floor-le (q / 64) (d y));
+      reached = λ q y hq my. le-trans (next-not-before B F q y hq my) (floor-le (levelAt q) (d y));
     }

@@ -10,7 +10,7 @@ use Rattle.times.specs.Quotients.{slot-lt}
 use Rattle.row.specs.Row.{flagAt, FirstFrom}
 use Rattle.row.specs.RowLaws.{flag-none}
 use Rattle.links.specs.Links.{at}
-use Rattle.stack.specs.Places.{slotPlace, slots}
+use Rattle.stack.specs.Places.{slotPlace, slots, levelAt, slotAt}
 use Rattle.wheel.specs.declared.Expiration.{Expiration}
 use Rattle.wheel.specs.declared.Next.{Next}
 use Rattle.wheel.specs.declared.Next.the-variants.{At, Nothing}
@@ -54,14 +54,14 @@ between-passed {d} {e} {L} {occ} B R = record { passed = λ k s hk h. flag-is R 
 
 module _ {occ : List ℕ} {L : Lists} (R : Rows occ L) where
   -- a row of 0 is an empty level
-  none-at : (q : ℕ) → q < slots → at occ (q / 64) ≡ 0 → L q ≡ []
+  none-at : (q : ℕ) → q < slots → at occ (levelAt q) ≡ 0 → L q ≡ []
   none-at q h z =
-      let p : slotPlace (q / 64) (q % 64) ≡ q = omega arith in
+      let p : slotPlace (levelAt q) (slotAt q) ≡ q = omega arith in
       unfilled (L q)
-      (ap (λ (r : ℕ). filled (L r)) (sym p) ∙ sym (flag-is R (q / 64) (q % 64) (omega arith) (omega arith)) ∙ ap (λ (x : ℕ). flagAt x (q % 64)) z ∙ flag-none (q % 64))
+      (ap (λ (r : ℕ). filled (L r)) (sym p) ∙ sym (flag-is R (levelAt q) (slotAt q) (omega arith) (omega arith)) ∙ ap (λ (x : ℕ). flagAt x (slotAt q)) z ∙ flag-none (slotAt q))
 
   pub none-found : ((j : ℕ) → j < 6 → at occ j ≡ 0) → EmptyWheel L
-  none-found z q h = none-at q h (z (q / 64) (omega arith))
+  none-found z q h = none-at q h (z (levelAt q) (omega arith))
 
   pub slot-found : (e k s : ℕ) → k < 6 → ((j : ℕ) → j < k → at occ j ≡ 0) → FirstFrom (flagAt (at occ k)) (e / width k % 64) s → FirstSlot e L k s
   unfolding slotOf
@@ -70,7 +70,7 @@ module _ {occ : List ℕ} {L : Lists} (R : Rows occ L) where
       let c = filled-some (L (slotPlace k s)) (sym (flag-is R k s hk hs) ∙ F .marked) in
       record {
         within = hk;
-        lowest = λ q h. none-at q (omega (arith, h)) (z (q / 64) (omega (arith, h)));
+        lowest = λ q h. none-at q (omega (arith, h)) (z (levelAt q) (omega (arith, h)));
         steps = F .steps;
         near = F .within;
         is = F .is;

@@ -9,7 +9,7 @@ use native.Mathlib.Omega.{arith}
 use Rattle.times.specs.Times.{width, slotOf, startAt, floor, Lies}
 use Rattle.times.specs.Quotients.{quotient-le, slot-lt, lt-floor, floor-le, lies-late, lies-block, lies-start, lies-before}
 use Rattle.links.specs.Lists.{Mem}
-use Rattle.stack.specs.Places.{slotPlace, slots}
+use Rattle.stack.specs.Places.{slotPlace, slots, levelAt, slotAt}
 use Rattle.wheel.specs.Wheel.{Lists, FirstSlot}
 use Rattle.wheel.specs.Between.{Between, place-level, place-slot}
 
@@ -37,8 +37,8 @@ module _ (k e w : ℕ) (l : Lies k e w) where
 
 module _ {d : ℕ → ℕ} {e : ℕ} {L : Lists} (B : Between d e L) where
   -- what lies at a higher level is later than all that lies lower
-  higher-later : (p x q y : ℕ) → p < slots → q < slots → Mem x (L p) → Mem y (L q) → q / 64 < p / 64 → d y < floor (p / 64) (d x)
-  higher-later p x q y hp hq mx my h = lies-before (q / 64) e (d y) (B .spot q y hq my .lies) (p / 64) (d x) h (B .later p x q y hp hq mx my h)
+  higher-later : (p x q y : ℕ) → p < slots → q < slots → Mem x (L p) → Mem y (L q) → levelAt q < levelAt p → d y < floor (levelAt p) (d x)
+  higher-later p x q y hp hq mx my h = lies-before (levelAt q) e (d y) (B .spot q y hq my .lies) (levelAt p) (d x) h (B .later p x q y hp hq mx my h)
 
   module _ {k s : ℕ} (F : FirstSlot e L k s) where
     abbrev pub here : ℕ
@@ -77,44 +77,44 @@ module _ {d : ℕ → ℕ} {e : ℕ} {L : Lists} (B : Between d e L) where
 
     module _ (q y : ℕ) (hq : q < slots) (my : Mem y (L q)) where
       -- no level below is occupied
-      pub next-lowest : k ≤ q / 64
-      next-lowest = by-cases (decLe k (q / 64)) (λ h. h) (λ h. absurd (none-in y (F .lowest q (omega (arith, h))) my))
+      pub next-lowest : k ≤ levelAt q
+      next-lowest = by-cases (decLe k (levelAt q)) (λ h. h) (λ h. absurd (none-in y (F .lowest q (omega (arith, h))) my))
 
       -- of its level, no earlier slot
-      no-earlier : q / 64 ≡ k → F .steps ≤ ahead k e (d y)
+      no-earlier : levelAt q ≡ k → F .steps ≤ ahead k e (d y)
       no-earlier h =
           let p = B .spot q y hq my in
           let l : Lies k e (d y) = subst (λ (j : ℕ). Lies j e (d y)) h (p .lies) in
-          let t : q % 64 ≡ slotOf (d y) k = p .slot ∙ ap (slotOf (d y)) h in
+          let t : slotAt q ≡ slotOf (d y) k = p .slot ∙ ap (slotOf (d y)) h in
           let w : q ≡ slotPlace k ((slotOf e k + ahead k e (d y)) % 64) = omega (arith, h, t, ahead-slot k e (d y) l) in
           by-cases (decLe (F .steps) (ahead k e (d y))) (λ g. g)
           (λ g. absurd (none-in y (ap L w ∙ F .before (ahead k e (d y)) (lt-of-not-le g)) my))
 
       -- all that lies in another slot is later than all that lies here, and so is that slot's start
-      pub next-before : (x : ℕ) → Mem x (L here) → q ≢ here → d x < floor (q / 64) (d y)
+      pub next-before : (x : ℕ) → Mem x (L here) → q ≢ here → d x < floor (levelAt q) (d y)
       unfolding slotOf
       next-before x mx n =
-          by-cases (ℕ-discrete (q / 64) k)
-          (λ (h : q / 64 ≡ k).
+          by-cases (ℕ-discrete (levelAt q) k)
+          (λ (h : levelAt q ≡ k).
           let p = B .spot q y hq my in
-          let late : e / width k ≤ d y / width k = quotient-le k (lies-late (q / 64) e (d y) (p .lies)) in
-          let t : q % 64 ≡ d y / width k % 64 = p .slot ∙ ap (λ (j : ℕ). d y / width j % 64) h in
+          let late : e / width k ≤ d y / width k = quotient-le k (lies-late (levelAt q) e (d y) (p .lies)) in
+          let t : slotAt q ≡ d y / width k % 64 = p .slot ∙ ap (λ (j : ℕ). d y / width j % 64) h in
           let r = in-slot x mx in
           let late-x : e / width k ≤ d x / width k = quotient-le k (lies-late k e (d x) (r .1)) in
           rw h (lt-floor k (d x) (d y) .0 (omega (arith, steps-is x mx, no-earlier h, t, r .0, n, h, late, late-x))))
           (λ h. higher-later q y here x hq here-below my mx (omega (arith, h, next-lowest, here-level)))
 
       -- nothing is due before the start of the slot
-      pub next-not-before : startAt e k s ≤ floor (q / 64) (d y)
+      pub next-not-before : startAt e k s ≤ floor (levelAt q) (d y)
       next-not-before =
           by-cases (ℕ-discrete q here)
           (λ (h : q ≡ here).
           let m : Mem y (L here) = rw h at my in
-          let z : floor (q / 64) (d y) ≡ floor k (d y) = ap (λ (j : ℕ). floor j (d y)) (ap (λ (p : ℕ). p / 64) h ∙ here-level) in
+          let z : floor (levelAt q) (d y) ≡ floor k (d y) = ap (λ (j : ℕ). floor j (d y)) (ap (λ (p : ℕ). levelAt p) h ∙ here-level) in
           omega (arith, start-is y m, z))
           (λ n. omega (arith, start-is (F .head) first-in, floor-le k (d (F .head)), next-before (F .head) first-in n))
 
-      pub next-start : q ≢ here → startAt e k s < floor (q / 64) (d y)
+      pub next-start : q ≢ here → startAt e k s < floor (levelAt q) (d y)
       next-start n = omega (arith, start-is (F .head) first-in, floor-le k (d (F .head)), next-before (F .head) first-in n)
 
 -- ---- there is one first slot only

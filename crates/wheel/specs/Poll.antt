@@ -10,7 +10,7 @@ use native.Mathlib.Nat.{lt-of-lt-of-le}
 use Rattle.times.specs.Times.{startAt, floor}
 use Rattle.times.specs.Quotients.{quotient-zero, floor-le, floor-zero, lies-block, lies-raise}
 use Rattle.links.specs.Lists.{Mem, change, change-other}
-use Rattle.stack.specs.Places.{slotPlace, slots, expired}
+use Rattle.stack.specs.Places.{slotPlace, slots, expired, levelAt}
 use Rattle.wheel.specs.Wheel.{Lists, Rule, FirstSlot, Polls, idle, early, out, drain}
 use Rattle.wheel.specs.Sums.{mem-left, total-less, hits, lies-times, times-lies}
 use Rattle.wheel.specs.Between.{Between, spot-on, between-rule, place-level}
@@ -55,7 +55,7 @@ waits-same L M e y k = times-lies slots M y (omega (arith, e (hits y), lies-time
 
 module _ {d : ℕ → ℕ} {now e : ℕ} {L : Lists} (B : Between d e L) (stack : L expired ≡ []) (later : e ≤ now) where
   -- nothing is due, and every slot starts after now
-  end-rest : ((q y : ℕ) → q < slots → Mem y (L q) → now < floor (q / 64) (d y)) → Promise d now e L none 0 0 now L
+  end-rest : ((q y : ℕ) → q < slots → Mem y (L q) → now < floor (levelAt q) (d y)) → Promise d now e L none 0 0 now L
   end-rest far =
       record {
         fair = λ y m. omega (arith, far (m .0) y (m .1) (m .2), floor-le (m .0 / 64) (d y));
@@ -65,7 +65,7 @@ module _ {d : ℕ → ℕ} {now e : ℕ} {L : Lists} (B : Between d e L) (stack 
           wheel = λ q y hq m.
               let s = B .spot q y hq m in
               let f = far q y hq m in
-              spot-on q now (d y) hq (record { slot = s .slot; lies = lies-raise (q / 64) e (d y) (s .lies) now later (omega (arith, f)) }) (λ u. f);
+              spot-on q now (d y) hq (record { slot = s .slot; lies = lies-raise (levelAt q) e (d y) (s .lies) now later (omega (arith, f)) }) (λ u. f);
           stack = λ x m. absurd (subst (Mem x) stack m);
         };
         counted = omega arith;
@@ -79,10 +79,10 @@ module _ {d : ℕ → ℕ} {now e : ℕ} {L : Lists} (B : Between d e L) (stack 
   end-out {s} {x} {l} F due is =
       let p : ℕ = slotPlace 0 s in
       let hp : p < slots = here-below B F in
-      let low : p / 64 ≡ 0 = place-level 0 s (slot-below B F) in
+      let low : levelAt p ≡ 0 = place-level 0 s (slot-below B F) in
       let m : Mem x (L p) = rw is (inl refl) in
       let w : startAt e 0 s ≡ d x = start-is B F x m ∙ floor-zero (d x) in
-      let b : d x / 64 ≡ e / 64 = rw (quotient-zero (d x), quotient-zero e) at (rw low at (lies-block (p / 64) e (d x) (B .spot p x hp m .lies))) in
+      let b : d x / 64 ≡ e / 64 = rw (quotient-zero (d x), quotient-zero e) at (rw low at (lies-block (levelAt p) e (d x) (B .spot p x hp m .lies))) in
       record {
         fair = ((p, hp, m), omega (arith, w), λ y k. omega (arith, w, next-not-before B F (k .0) y (k .1) (k .2), floor-le (k .0 / 64) (d y)));
         kept = λ v. total-less (λ q y. v y) slots L p x l hp is;
@@ -93,7 +93,7 @@ module _ {d : ℕ → ℕ} {now e : ℕ} {L : Lists} (B : Between d e L) (stack 
         })
             (λ q y hq k u. B .later q y p x hq hp (mem-left L p x l is q y k) m (omega (arith, low)))
             (λ y k. absurd (subst (Mem y) stack (mem-left L p x l is expired y k)));
-        counted = omega (arith, total-less (λ q y. q / 64) slots L p x l hp is, low);
+        counted = omega (arith, total-less (λ q y. levelAt q) slots L p x l hp is, low);
         few = omega arith;
         none = λ z. refl;
         aside = λ q h. change-other L p l q (omega (arith, hp));

@@ -17,7 +17,7 @@ use Rattle.times.specs.Levels.{level-is}
 use Rattle.links.specs.Lists.{nobody, firstD, change}
 use Rattle.links.specs.Links.{at}
 use Rattle.links.specs.Count.{length-below}
-use Rattle.stack.specs.Places.{slotPlace, slots, expired, places}
+use Rattle.stack.specs.Places.{slotPlace, slots, expired, places, levelAt, topLevel, mostHeights}
 use Rattle.stack.specs.Laws as stack
 use Rattle.wheel.specs.declared.Expiration.{Expiration}
 use Rattle.wheel.specs.declared.Next.{Next}
@@ -128,7 +128,7 @@ module _ {t : WheelWords} {ds : List ℕ} {k s : ℕ} (C : CanMove t ds k s) {it
 pub record DrainsTo (d : ℕ → ℕ) (t : WheelWords) (k p moves : ℕ) (t′ : WheelWords) : Type 0 where
   pub drains : Drains d k p (lists t) moves (lists t′)
   pub becomes : Becomes t (lists t′) t′
-  pub few : moves ≤ 65535
+  pub few : moves ≤ nobody
 
 -- t₀ was drained of some entries, `moves` of them, and is t now
 pub record DrainedSo (d : ℕ → ℕ) (t₀ : WheelWords) (k p moves : ℕ) (t : WheelWords) : Type 0 where
@@ -137,7 +137,7 @@ pub record DrainedSo (d : ℕ → ℕ) (t₀ : WheelWords) (k p moves : ℕ) (t 
   pub left : moves + length (lists t p) ≡ length (lists t₀ p)
 
 -- a list has no more members than there are records
-pub list-short : {t : WheelWords} → WheelWhole t → (p : ℕ) → length (lists t p) ≤ 65535
+pub list-short : {t : WheelWords} → WheelWhole t → (p : ℕ) → length (lists t p) ≤ nobody
 list-short {t} W p =
     omega (arith, length-below (lists t p) (count t) (stack.list-nodup (W .stack) p) (stack.member-below (W .stack) p))
 
@@ -156,7 +156,7 @@ module _ {t₀ : WheelWords} {ds : List ℕ} {k s : ℕ} (C : CanMove t₀ ds k 
     turn-can =
         record { pop = record { whole = S .becomes .whole; level = C .pop .level; slot = C .pop .slot }; high = C .high; deadlines = omega arith }
 
-    pub turn-few : moves ≤ 65535
+    pub turn-few : moves ≤ nobody
     turn-few = omega (arith, list-short (C .pop .whole) (slotPlace k s))
 
     module _ {item : ℕ} {u : WheelWords} (Q : MovesOne (at ds) t (k - 1) (slotPlace k s) item u) where
@@ -217,14 +217,14 @@ pub record PolledSo (d : ℕ → ℕ) (now : ℕ) (t₀ : WheelWords) (moves dra
   pub counted : moves + heights (lists t) ≡ heights (lists t₀)
   pub few : drains ≤ moves
 
--- "at most five" levels above 0, and at most 65535 records
-pub heights-small : {t : WheelWords} → WheelWhole t → heights (lists t) ≤ 327675
+-- each record is at most at the top level
+pub heights-small : {t : WheelWords} → WheelWhole t → heights (lists t) ≤ mostHeights
 unfolding heights
 heights-small {t} W =
-    let a = total-le (λ p x. p / 64) (λ p x. 5) slots (lists t) (omega arith) in
-    let b = total-scale 5 places (lists t) 0 places (omega arith) in
-    let c = total-scale 5 places (lists t) slots 2 (omega arith) in
-    omega (arith, total-zero (λ p x. 5) (lists t), stack.members-few (W .stack))
+    let a = total-le (λ p x. levelAt p) (λ p x. topLevel) slots (lists t) (omega arith) in
+    let b = total-scale topLevel places (lists t) 0 places (omega arith) in
+    let c = total-scale topLevel places (lists t) slots 2 (omega arith) in
+    omega (arith, total-zero (λ p x. topLevel) (lists t), stack.members-few (W .stack))
 
 got-some : (i : ℕ) → i ≢ nobody → gotten i ≡ some i
 got-some i d = rw (ne-eqb i nobody d)
@@ -274,7 +274,7 @@ module _ {t₀ : WheelWords} {ds : List ℕ} {now : ℕ} (C : CanPoll t₀ ds no
     pub look-asks : NotPassed (t .elapsed) (t .occupied)
     look-asks = between-passed (S .rule) (S .whole .rows)
 
-    pub counts-small : (moves ≤ 327675) × (drains ≤ 327675)
+    pub counts-small : (moves ≤ mostHeights) × (drains ≤ mostHeights)
     counts-small = omega (arith, heights-small (C .whole))
 
     rest : Polls d now (t .elapsed) (lists t) none 0 0 now (lists t) → PollsTo d now t₀ nobody moves drains (wheelWords now (t .occupied) (t .stack))

@@ -13,9 +13,9 @@ use Rattle.row.specs.Row.{flagAt}
 use Rattle.links.specs.Lists.{nobody, Mem, without, change, change-same}
 use Rattle.lent.specs.Lent.{Lent, Turned, old, new}
 use Rattle.links.specs.Links.{at, CanJoin, CanCut}
-use Rattle.stack.specs.Places.{slotPlace, slots, places, put}
+use Rattle.stack.specs.Places.{slotPlace, slots, places, put, levelAt, slotAt}
 use Rattle.stack.specs.Words.{StackWords, push, pop, remove, words as stacked, count as countIn, headAt as headIn, markOf as markIn, CanPopSlot}
-use Rattle.stack.specs.Heads.{slotHead, slot-head, head-slot}
+use Rattle.stack.specs.Heads.{slotHead, slot-head}
 use Rattle.stack.specs.Laws as stack
 use Rattle.wheel.specs.Wheel.{Lists, arrive}
 use Rattle.wheel.specs.Rows.{filled, flagRow, withFlag, Rows, flag-is, rows-flagged, rows-kept, rows-aside}
@@ -292,20 +292,17 @@ module _ {t : WheelWords} {i : ℕ} (C : CanLeave t i) {u : StackWords} (eu : u 
   pub leaves-aside : slots ≤ from → Leaves t i (wheelWords (t .elapsed) (t .occupied) u)
   leaves-aside h = leaves (left-aside (C .whole) left-here h)
 
-  module _ (slot : from < slots) where
-    head-there : headIn u from ≡ slotHead (u .heads) (from / 64) (from % 64)
-    head-there = head-slot (u .stacks) (u .heads) from slot
+  -- from a slot of level k
+  module _ (k s : ℕ) (hk : k < 6) (hs : s < 64) (e : from ≡ slotPlace k s) where
+    head-there : headIn u from ≡ slotHead (u .heads) k s
+    head-there = rw e (sym (slot-head k s hk hs (u .stacks) (u .heads)))
 
-    pub leaves-more : slotHead (u .heads) (from / 64) (from % 64) ≢ nobody → Leaves t i (wheelWords (t .elapsed) (t .occupied) u)
+    pub leaves-more : slotHead (u .heads) k s ≢ nobody → Leaves t i (wheelWords (t .elapsed) (t .occupied) u)
     leaves-more h = leaves (left-some (C .whole) left-here was-filled (λ z. h (sym head-there ∙ z)))
 
-    pub leaves-flag : flagAt (at (t .occupied) (from / 64)) (from % 64) ≡ true
-    leaves-flag =
-        let e : slotPlace (from / 64) (from % 64) ≡ from = omega arith in
-        flag-is (C .whole .rows) (from / 64) (from % 64) (omega arith) (omega arith) ∙ rw e was-filled
+    pub leaves-flag : flagAt (at (t .occupied) k) s ≡ true
+    leaves-flag = flag-is (C .whole .rows) k s hk hs ∙ rw e at was-filled
 
-    pub leaves-last : slotHead (u .heads) (from / 64) (from % 64) ≡ nobody → {x : ℕ} → x ≡ flagRow (t .occupied) (from / 64) (from % 64) false
-        → Leaves t i (wheelWords (t .elapsed) (set (t .occupied) (from / 64) x) u)
-    leaves-last h ex =
-        leaves (left-none (C .whole) left-here (from / 64) (from % 64) (omega arith) (omega arith) (omega arith) (head-there ∙ h)
-        (ap (set (t .occupied) (from / 64)) ex))
+    pub leaves-last : slotHead (u .heads) k s ≡ nobody → {x : ℕ} → x ≡ flagRow (t .occupied) k s false
+        → Leaves t i (wheelWords (t .elapsed) (set (t .occupied) k x) u)
+    leaves-last h ex = leaves (left-none (C .whole) left-here k s hk hs e (head-there ∙ h) (ap (set (t .occupied) k) ex))

@@ -143,11 +143,11 @@ pub fn remove(
 {
     let place = marks[item as usize];
     stack::remove(tops, heads, nexts, prevs, marks, item);
-    if stack::EXPIRED <= place {
+    if !stack::is_slot(place) {
         return;
     }
-    let level = place as usize / 64;
-    let slot = place as usize % 64;
+    let level = stack::level_of(place);
+    let slot = stack::slot_of(place);
     if heads[level][slot] != links::NOBODY {
         return;
     }

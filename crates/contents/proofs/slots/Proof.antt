@@ -3,14 +3,15 @@ use borrow.Author.Needs.{needs}
 use mathlib.Core.Path.{_≡_}
 use Prim.Native.Nat.{_≤_, _-_}
 use lib.ListN.{length}
+use Rattle.stack.specs.Places.{slots}
 use Rattle.contents.proofs.slots.Statement.{statement}
 use Rattle.contents.proofs.slots.Tie as tie
 
 abbrev Inv-loop : tie.InvT-loop
-Inv-loop out₀ heads nexts n tops p₀ place₀ out p place = (place ≤ 384) × (length out ≡ length out₀)
+Inv-loop out₀ heads nexts n tops p₀ place₀ out p place = (place ≤ slots) × (length out ≡ length out₀)
 
 abbrev μ-loop : tie.MeasureT-loop
-μ-loop out₀ heads nexts n tops p₀ place₀ out p place = 384 - place
+μ-loop out₀ heads nexts n tops p₀ place₀ out p place = slots - place
 
 loop-holds : tie.Need-loop-holds Inv-loop μ-loop
 loop-holds c = search needs
@@ -18,11 +19,11 @@ loop-holds c = search needs
 head-of-requires : tie.Need-head-of-requires Inv-loop μ-loop
 head-of-requires c κs = search needs
 
-cast-slot : tie.Need-cast-slot Inv-loop μ-loop
-cast-slot c = search needs
+level-of-requires : tie.Need-level-of-requires Inv-loop μ-loop
+level-of-requires c κs = search needs
 
-cast-slot-2 : tie.Need-cast-slot-2 Inv-loop μ-loop
-cast-slot-2 c = search needs
+slot-of-requires : tie.Need-slot-of-requires Inv-loop μ-loop
+slot-of-requires c κs = search needs
 
 slot-requires : tie.Need-slot-requires Inv-loop μ-loop
 slot-requires c κs = search needs
@@ -50,8 +51,8 @@ slots-spec =
     μ-loop
     loop-holds
     head-of-requires
-    cast-slot
-    cast-slot-2
+    level-of-requires
+    slot-of-requires
     slot-requires
     add-place
     loop-less

@@ -1,14 +1,15 @@
 -- `heads_in` meets its contract: every turn takes one head.
 use borrow.Author.Needs.{needs}
 use Prim.Native.Nat.{_≤_, _-_}
+use Rattle.stack.specs.Places.{slots}
 use Rattle.damage.proofs.heads_in.Statement.{statement}
 use Rattle.damage.proofs.heads_in.Tie as tie
 
 abbrev Inv-loop : tie.InvT-loop
-Inv-loop image heads₀ i₀ heads i = (i ≤ 384)
+Inv-loop image heads₀ i₀ heads i = (i ≤ slots)
 
 abbrev μ-loop : tie.MeasureT-loop
-μ-loop image heads₀ i₀ heads i = 384 - i
+μ-loop image heads₀ i₀ heads i = slots - i
 
 loop-holds : tie.Need-loop-holds Inv-loop μ-loop
 loop-holds c = search needs

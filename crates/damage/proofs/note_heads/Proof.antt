@@ -1,14 +1,15 @@
 -- `note_heads` meets its contract: every turn notes one head.
 use borrow.Author.Needs.{needs}
 use Prim.Native.Nat.{_≤_, _-_}
+use Rattle.stack.specs.Places.{slots}
 use Rattle.damage.proofs.note_heads.Statement.{statement}
 use Rattle.damage.proofs.note_heads.Tie as tie
 
 abbrev Inv-loop : tie.InvT-loop
-Inv-loop image₀ heads i₀ image i = (i ≤ 384)
+Inv-loop image₀ heads i₀ image i = (i ≤ slots)
 
 abbrev μ-loop : tie.MeasureT-loop
-μ-loop image₀ heads i₀ image i = 384 - i
+μ-loop image₀ heads i₀ image i = slots - i
 
 loop-holds : tie.Need-loop-holds Inv-loop μ-loop
 loop-holds c = search needs

@@ -51,7 +51,7 @@ returns c =
 cast-make : tie.Need-cast-make
 cast-make c =
     let else1 = to-else1 c in
-    omega (arith, else1 .before .format-no .ensures .taken (else1 .if1 .left) .0 .1)
+    omega (arith, else1 .before .format-no .ensures .taken (else1 .if1 .left) .0 .few)
 
 make-requires : tie.Need-make-requires
 make-requires c κs =

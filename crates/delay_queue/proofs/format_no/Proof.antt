@@ -7,13 +7,13 @@ use Rattle.delay_queue.proofs.format_no.Statement.{statement}
 use Rattle.delay_queue.proofs.format_no.Tie as tie
 
 returns : tie.Need-returns
-returns c = no-one (λ F. omega (arith, F .0))
+returns c = no-one (λ F. omega (arith, F .some))
 
 cast-if2 : tie.Need-cast-if2
 cast-if2 c = search needs
 
 returns-2 : tie.Need-returns-2
-returns-2 c = no-one (λ F. omega (arith, F .1))
+returns-2 c = no-one (λ F. omega (arith, F .few))
 
 cast-has-room : tie.Need-cast-has-room
 cast-has-room c = search needs
@@ -22,20 +22,29 @@ has-room-requires : tie.Need-has-room-requires
 has-room-requires c κs = search needs
 
 returns-3 : tie.Need-returns-3
-returns-3 c = no-one (λ F. c .before .has-room .ensures .no (not-true _ (c .if3 .taken)) (F .2))
+returns-3 c = no-one (λ F. c .before .has-room .ensures .no (not-true _ (c .if3 .taken)) (F .room))
 
 returns-4 : tie.Need-returns-4
 returns-4 c =
-    no-eight (omega arith, omega arith, c .before .before .has-room .ensures .yes (not-false _ (c .before .if3 .left))) (λ T. omega (arith, T .some))
+    no-eight (record { some = omega arith; few = omega arith; room = c .before .before .has-room .ensures .yes (not-false _ (c .before .if3 .left)) })
+    (λ T. omega (arith, T .some))
 
 returns-5 : tie.Need-returns-5
 returns-5 c =
-    no-eight (omega arith, omega arith, c .before .before .before .has-room .ensures .yes (not-false _ (c .before .before .if3 .left)))
+    no-eight (record {
+      some = omega arith;
+      few = omega arith;
+      room = c .before .before .before .has-room .ensures .yes (not-false _ (c .before .before .if3 .left));
+    })
     (λ T. omega (arith, T .last))
 
 returns-6 : tie.Need-returns-6
 returns-6 c =
-    no-none (omega arith, omega arith, c .before .before .before .has-room .ensures .yes (not-false _ (c .before .before .if3 .left)))
+    no-none (record {
+      some = omega arith;
+      few = omega arith;
+      room = c .before .before .before .has-room .ensures .yes (not-false _ (c .before .before .if3 .left));
+    })
     (record { some = omega arith; last = omega arith })
 
 pub format-no-spec : {M : Type 1} → statement M

@@ -11,10 +11,10 @@ returns-2 : tie.Need-returns-2
 returns-2 c = tells-no (λ R. omega (arith, R .deadlines))
 
 returns-3 : tie.Need-returns-3
-returns-3 c = tells-no (λ R. omega (arith, R .nexts))
+returns-3 c = tells-no (λ R. omega (arith, R .links .nexts))
 
 returns-4 : tie.Need-returns-4
-returns-4 c = tells-no (λ R. omega (arith, R .prevs))
+returns-4 c = tells-no (λ R. omega (arith, R .links .prevs))
 
 returns-5 : tie.Need-returns-5
 returns-5 c = tells-no (λ R. omega (arith, R .turns))
@@ -26,12 +26,10 @@ returns-6 c =
     record {
       values = omega arith;
       deadlines = omega arith;
-      nexts = omega arith;
-      prevs = omega arith;
+      links = record { nexts = omega arith; prevs = omega arith; marks = h };
       turns = omega arith;
-      marks = h;
     })
-    (λ R. R .marks)
+    (λ R. R .links .marks)
 
 pub has-room-spec : {M : Type 1} → statement M
 has-room-spec = tie.close (tie.spec returns returns-2 returns-3 returns-4 returns-5 returns-6)

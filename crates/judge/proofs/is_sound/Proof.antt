@@ -21,21 +21,20 @@ to-start c =
     a .before .before .before
 
 returns : tie.Need-returns
-returns c = tells-no (λ S. omega (arith, S .some))
+returns c = tells-no (λ S. omega (arith, S .fits .some))
 
 returns-2 : tie.Need-returns-2
-returns-2 c = tells-no (λ S. omega (arith, S .few))
+returns-2 c = tells-no (λ S. omega (arith, S .fits .few))
 
 has-room-requires : tie.Need-has-room-requires
 has-room-requires c κs = search needs
 
 returns-3 : tie.Need-returns-3
-returns-3 c = tells-no (λ S. c .before .has-room .ensures .no (not-true _ (c .if3 .taken)) (sound-judged S .room))
+returns-3 c = tells-no (λ S. c .before .has-room .ensures .no (not-true _ (c .if3 .taken)) (S .fits .room))
 
 is-whole-requires : tie.Need-is-whole-requires
 is-whole-requires c κs =
-    let R = c .before .before .before .has-room .ensures .yes (not-false _ (c .before .before .if3 .left)) in
-    record { nexts = R .nexts; prevs = R .prevs; marks = R .marks }
+    c .before .before .before .has-room .ensures .yes (not-false _ (c .before .before .if3 .left)) .links
 
 returns-4 : tie.Need-returns-4
 returns-4 c =
@@ -51,7 +50,7 @@ returns-5 c =
 records-agree-requires : tie.Need-records-agree-requires
 records-agree-requires c κs =
     let else3 = to-is-whole (c .before .before .before .before) .before .before .before in
-    let R = else3 .before .has-room .ensures .yes (not-false _ (else3 .if3 .left)) in (R .deadlines, R .turns, R .marks)
+    let R = else3 .before .has-room .ensures .yes (not-false _ (else3 .if3 .left)) in (R .deadlines, R .turns, R .links .marks)
 
 returns-6 : tie.Need-returns-6
 returns-6 c =
@@ -63,9 +62,11 @@ returns-6 c =
     tells-by (c .records-agree .ensures)
     (λ R.
     judged-sound (shaped (start .args .t2) (start .good .1 .0 .0) (start .good .1 .0 .1 .0 .1) (start .good .1 .0 .1 .1)) (record {
-      some = omega arith;
-      few = omega arith;
-      room = at-has-room .has-room .ensures .yes (not-false _ (else3 .if3 .left));
+      fits = record {
+        some = omega arith;
+        few = omega arith;
+        room = at-has-room .has-room .ensures .yes (not-false _ (else3 .if3 .left));
+      };
       lists = sym (at-is-whole .is-whole .ensures) ∙ not-false _ (else4 .if4 .left);
       rows = c .before .before .rows-agree .ensures .yes (not-false _ (c .before .if5 .left));
       records = R;

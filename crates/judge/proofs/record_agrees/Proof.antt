@@ -1,6 +1,7 @@
 -- `record_agrees` meets its contract: by the turn, and then by the place that the mark tells.
 use borrow.Author.Needs.{needs}
 use native.Mathlib.Omega.{arith}
+use Rattle.stack.specs.Asked.{below, past}
 use Rattle.judge.specs.Judge.{tells-yes, tells-no, record-slot, record-stack, record-aside}
 use Rattle.judge.proofs.record_agrees.Statement.{statement}
 use Rattle.judge.proofs.record_agrees.Tie as tie
@@ -11,18 +12,27 @@ returns c = tells-no (λ R. omega (arith, R .some))
 returns-2 : tie.Need-returns-2
 returns-2 c = tells-no (λ R. omega (arith, R .last))
 
+is-slot-requires : tie.Need-is-slot-requires
+is-slot-requires c κs = search needs
+
 is-place-requires : tie.Need-is-place-requires
 is-place-requires c κs = search needs
 
 returns-3 : tie.Need-returns-3
-returns-3 c = record-slot (c .before .before .before .if1 .left) (c .before .before .if2 .left) (c .before .if3 .taken) (c .is-place .ensures)
+returns-3 c =
+    let s = c .before .before in
+    record-slot (s .before .before .if1 .left) (s .before .if2 .left) (below (s .is-slot .ensures) (c .before .if3 .taken)) (c .is-place .ensures)
 
 returns-4 : tie.Need-returns-4
-returns-4 c = record-stack (c .before .before .before .if1 .left) (c .before .before .if2 .left) (c .if4 .taken)
+returns-4 c =
+    let s = c .before .before in
+    record-stack (s .before .before .if1 .left) (s .before .if2 .left) (c .if4 .taken)
 
 returns-5 : tie.Need-returns-5
-returns-5 c = tells-yes (record-aside (c .before .before .before .if1 .left) (c .before .before .if2 .left) (c .before .if3 .left) (c .if4 .left))
+returns-5 c =
+    let s = c .before .before in
+    tells-yes (record-aside (s .before .before .if1 .left) (s .before .if2 .left) (past (s .is-slot .ensures) (c .before .if3 .left)) (c .if4 .left))
 
 pub record-agrees-spec : {M : Type 1} → statement M
 record-agrees-spec =
-    tie.close (tie.spec returns returns-2 is-place-requires returns-3 returns-4 returns-5)
+    tie.close (tie.spec returns returns-2 is-slot-requires is-place-requires returns-3 returns-4 returns-5)

@@ -9,11 +9,12 @@ use Rattle.links.proofs.walk_list.Statement.{statement}
 use Rattle.links.proofs.walk_list.Tie as tie
 
 abbrev Inv-loop : tie.InvT-loop
-Inv-loop nexts prevs marks n p h room left₀ prev₀ i₀ left prev i =
-    (i < 65536) × (scan (at nexts) (at prevs) (at marks) n p left prev i ≡ scan (at nexts) (at prevs) (at marks) n p room 65535 h)
+Inv-loop nexts prevs marks n place head room left₀ prev₀ item₀ left prev item =
+    (item < 65536)
+    × (scan (at nexts) (at prevs) (at marks) n place left prev item ≡ scan (at nexts) (at prevs) (at marks) n place room 65535 head)
 
 abbrev μ-loop : tie.MeasureT-loop
-μ-loop nexts prevs marks n p h room left₀ prev₀ i₀ left prev i = left
+μ-loop nexts prevs marks n place head room left₀ prev₀ item₀ left prev item = left
 
 abbrev to-else1 : tie.After-shared-slice-known Inv-loop μ-loop → tie.Else1 Inv-loop μ-loop
 to-else1 c = c .before .before
@@ -57,11 +58,11 @@ returns-4 c =
 sub-left : tie.Need-sub-left Inv-loop μ-loop
 sub-left c = search needs
 
-mul-i : tie.Need-mul-i Inv-loop μ-loop
-mul-i c = search needs
+mul-item : tie.Need-mul-item Inv-loop μ-loop
+mul-item c = search needs
 
-shared-slice-read-i : tie.Need-shared-slice-read-i Inv-loop μ-loop
-shared-slice-read-i c = search needs
+shared-slice-read-item : tie.Need-shared-slice-read-item Inv-loop μ-loop
+shared-slice-read-item c = search needs
 
 loop-less : tie.Need-loop-less Inv-loop μ-loop
 loop-less c = search needs
@@ -70,7 +71,7 @@ loop-again : tie.Need-loop-again Inv-loop μ-loop
 loop-again c =
     let in-loop = to-else1 (c .before .before .before .before) .before in
     let turn = in-loop .before in (
-      omega (arith, c .shared-slice-known3 .given (turn .loop .i)),
+      omega (arith, c .shared-slice-known3 .given (turn .loop .item)),
       sym (scan-go _ _ _ _ _ _ _ _ (in-loop .loop-test .taken) (omega arith) (omega arith) (c .before .before .before .if3 .left) (c .before .if4 .left))
           ∙ turn .loop .inv .1,
     )
@@ -95,8 +96,8 @@ walk-list-spec =
     shared-slice-read-if4
     returns-4
     sub-left
-    mul-i
-    shared-slice-read-i
+    mul-item
+    shared-slice-read-item
     loop-less
     loop-again
     returns-5)

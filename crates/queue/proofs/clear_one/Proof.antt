@@ -1,5 +1,6 @@
 -- `clear_one` meets its contract: not pending (`clear-stays`), or unlinked and freed (`clear-goes`).
 use borrow.Author.Needs.{needs}
+use Rattle.stack.specs.Asked.{not-below, is-below}
 use Rattle.queue.specs.PollLaws.{clear-stays, clear-leaves, clear-frees, clear-goes}
 use Rattle.queue.proofs.clear_one.Statement.{statement}
 use Rattle.queue.proofs.clear_one.Tie as tie
@@ -26,29 +27,34 @@ to-leave c =
     let a = c .before .before .before .before in
     a .before .before .before .before
 
-mul-if1 : tie.Need-mul-if1
-mul-if1 c = search needs
+mul-is-pending : tie.Need-mul-is-pending
+mul-is-pending c = search needs
 
-slice-read-if1 : tie.Need-slice-read-if1
-slice-read-if1 c = search needs
+slice-read-is-pending : tie.Need-slice-read-is-pending
+slice-read-is-pending c = search needs
+
+is-pending-requires : tie.Need-is-pending-requires
+is-pending-requires c κs = search needs
 
 returns : tie.Need-returns
 returns c =
-    let start = to-start (c .before) in
-    clear-stays (start .pre .0) (start .pre .1) (c .if1 .taken)
+    let start = to-start (c .before .before) in
+    clear-stays (start .pre .0) (start .pre .1) (not-below (c .before .is-pending .ensures) (c .if1 .taken))
 
 remove-requires : tie.Need-remove-requires
 remove-requires c κs =
     let else1 = to-else1 c in
-    let start = to-start (else1 .before) in
-    clear-leaves (start .pre .0) (start .pre .1) (else1 .if1 .left)
+    let asked = else1 .before in
+    let start = to-start (asked .before) in
+    clear-leaves (start .pre .0) (start .pre .1) (is-below (asked .is-pending .ensures) (else1 .if1 .left))
 
 leave-requires : tie.Need-leave-requires
 leave-requires c κs =
     let at-remove = to-remove c in
     let else1 = to-else1 (at-remove .before) in
-    let start = to-start (else1 .before) in
-    clear-frees (start .pre .0) (start .pre .1) (else1 .if1 .left) (at-remove .remove .ensures)
+    let asked = else1 .before in
+    let start = to-start (asked .before) in
+    clear-frees (start .pre .0) (start .pre .1) (is-below (asked .is-pending .ensures) (else1 .if1 .left)) (at-remove .remove .ensures)
 
 same-length : tie.Need-same-length
 same-length c = search needs
@@ -67,15 +73,18 @@ returns-2 c =
     let at-leave = to-leave c in
     let at-remove = to-remove (at-leave .before) in
     let else1 = to-else1 (at-remove .before) in
-    let start = to-start (else1 .before) in
-    clear-goes (start .pre .0) (start .pre .1) (else1 .if1 .left) (at-remove .remove .ensures) (at-leave .leave .ensures)
+    let asked = else1 .before in
+    let start = to-start (asked .before) in
+    clear-goes (start .pre .0) (start .pre .1) (is-below (asked .is-pending .ensures) (else1 .if1 .left))
+    (at-remove .remove .ensures) (at-leave .leave .ensures)
 
 pub clear-one-spec : {M : Type 1} → statement M
 clear-one-spec =
     tie.close
     (tie.spec
-    mul-if1
-    slice-read-if1
+    mul-is-pending
+    slice-read-is-pending
+    is-pending-requires
     returns
     remove-requires
     leave-requires

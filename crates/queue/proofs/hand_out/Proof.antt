@@ -1,6 +1,5 @@
 -- `hand_out` meets its contract: the answer is read before the record is freed (`out-done`).
 use borrow.Author.Needs.{needs}
-use native.Mathlib.Omega.{arith}
 use Rattle.queue.specs.PollLaws.{out-words, out-frees, out-done}
 use Rattle.queue.proofs.hand_out.Statement.{statement}
 use Rattle.queue.proofs.hand_out.Tie as tie
@@ -10,40 +9,35 @@ to-start c =
     let a = c .before .before .before .before in
     a .before .before .before
 
-abbrev to-shared-slice-known4 : tie.After-leave-arg6 → tie.After-shared-slice-known4
-to-shared-slice-known4 c =
+abbrev to-key-of : tie.After-leave-arg6 → tie.After-key-of
+to-key-of c =
     let a = c .before .before .before .before in
-    a .before .before
+    a .before .before .before .before
 
 abbrev to-leave : tie.After-slice-known9 → tie.After-leave
 to-leave c =
     let a = c .before .before .before .before in
     a .before .before .before .before
 
-mul-key : tie.Need-mul-key
-mul-key c = search needs
+mul-key-of : tie.Need-mul-key-of
+mul-key-of c = search needs
 
-slice-read-key : tie.Need-slice-read-key
-slice-read-key c =
+slice-read-key-of : tie.Need-slice-read-key-of
+slice-read-key-of c =
     let start = to-start c in
     out-words (start .pre .0) (start .pre .1) .2
 
-mul-key-2 : tie.Need-mul-key-2
-mul-key-2 c =
+key-of-requires : tie.Need-key-of-requires
+key-of-requires c κs =
     let start = to-start c in
-    omega (arith, out-words (start .pre .0) (start .pre .1) .3)
-
-add-key : tie.Need-add-key
-add-key c =
-    let start = to-start c in
-    omega (arith, out-words (start .pre .0) (start .pre .1) .3)
+    out-words (start .pre .0) (start .pre .1) .3
 
 mul-value : tie.Need-mul-value
 mul-value c = search needs
 
 shared-slice-read-value : tie.Need-shared-slice-read-value
 shared-slice-read-value c =
-    let start = to-start (c .before) in
+    let start = to-start (c .before .before) in
     out-words (start .pre .0) (start .pre .1) .0
 
 mul-deadline : tie.Need-mul-deadline
@@ -51,12 +45,12 @@ mul-deadline c = search needs
 
 shared-slice-read-deadline : tie.Need-shared-slice-read-deadline
 shared-slice-read-deadline c =
-    let start = to-start (c .before .before) in
+    let start = to-start (c .before .before .before) in
     out-words (start .pre .0) (start .pre .1) .1
 
 leave-requires : tie.Need-leave-requires
 leave-requires c κs =
-    let start = to-start (to-shared-slice-known4 c .before .before) in
+    let start = to-start (to-key-of c .before) in
     out-frees (start .pre .0) (start .pre .1)
 
 same-length : tie.Need-same-length
@@ -74,17 +68,17 @@ same-length-4 c = search needs
 returns : tie.Need-returns
 returns c =
     let at-leave = to-leave c in
-    let start = to-start (to-shared-slice-known4 (at-leave .before) .before .before) in
-    out-done (start .pre .0) (start .pre .1) _ _ (at-leave .leave .ensures)
+    let at-key-of = to-key-of (at-leave .before) in
+    let start = to-start (at-key-of .before) in
+    out-done (start .pre .0) (start .pre .1) _ _ (at-leave .leave .ensures) (at-key-of .key-of .ensures)
 
 pub hand-out-spec : {M : Type 1} → statement M
 hand-out-spec =
     tie.close
     (tie.spec
-    mul-key
-    slice-read-key
-    mul-key-2
-    add-key
+    mul-key-of
+    slice-read-key-of
+    key-of-requires
     mul-value
     shared-slice-read-value
     mul-deadline

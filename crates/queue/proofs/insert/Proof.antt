@@ -1,6 +1,5 @@
 -- `insert` meets its contract: full, a deadline that is refused, or taken, given its value and placed (`insert-done`).
 use borrow.Author.Needs.{needs}
-use mathlib.Core.Path.{refl}
 use native.Mathlib.Omega.{arith}
 use Rattle.queue.specs.CallLaws.{insert-full, insert-refused, insert-words, insert-place, insert-done}
 use Rattle.queue.proofs.insert.Statement.{statement}
@@ -21,8 +20,8 @@ to-pop c =
     let a = c .before .before .before .before in
     a .before .before
 
-abbrev to-shared-slice-known2 : tie.After-place-arg7 → tie.After-shared-slice-known2
-to-shared-slice-known2 c =
+abbrev to-key-of : tie.After-place-arg7 → tie.After-key-of
+to-key-of c =
     let a = c .before .before .before .before in
     a .before .before .before
 
@@ -61,14 +60,14 @@ slice-write-values c =
     insert-words (to-start (else1 .before) .pre) 0 _ (else1 .if1 .left) (at-deadline-no .deadline-no .ensures) (else2 .if2 .left)
     (at-pop .pop .ensures) .0
 
-cast-key : tie.Need-cast-key
-cast-key c = search needs
+cast-key-of : tie.Need-cast-key-of
+cast-key-of c = search needs
 
-mul-key : tie.Need-mul-key
-mul-key c = search needs
+mul-key-of : tie.Need-mul-key-of
+mul-key-of c = search needs
 
-shared-slice-read-key : tie.Need-shared-slice-read-key
-shared-slice-read-key c =
+shared-slice-read-key-of : tie.Need-shared-slice-read-key-of
+shared-slice-read-key-of c =
     let at-pop = to-pop (c .before) in
     let else2 = to-else2 (at-pop .before) in
     let at-deadline-no = else2 .before in
@@ -76,36 +75,18 @@ shared-slice-read-key c =
     insert-words (to-start (else1 .before) .pre) 0 _ (else1 .if1 .left) (at-deadline-no .deadline-no .ensures) (else2 .if2 .left)
     (at-pop .pop .ensures) .1
 
-mul-key-2 : tie.Need-mul-key-2
-mul-key-2 c =
+key-of-requires : tie.Need-key-of-requires
+key-of-requires c κs =
     let at-pop = to-pop (c .before) in
     let else2 = to-else2 (at-pop .before) in
     let at-deadline-no = else2 .before in
     let else1 = at-deadline-no .before in
-    omega (
-      arith,
-      insert-words (to-start (else1 .before) .pre) 0 _ (else1 .if1 .left) (at-deadline-no .deadline-no .ensures) (else2 .if2 .left)
-          (at-pop .pop .ensures) .2,
-    )
-
-cast-key-2 : tie.Need-cast-key-2
-cast-key-2 c = search needs
-
-add-key : tie.Need-add-key
-add-key c =
-    let at-pop = to-pop (c .before) in
-    let else2 = to-else2 (at-pop .before) in
-    let at-deadline-no = else2 .before in
-    let else1 = at-deadline-no .before in
-    omega (
-      arith,
-      insert-words (to-start (else1 .before) .pre) 0 _ (else1 .if1 .left) (at-deadline-no .deadline-no .ensures) (else2 .if2 .left)
-          (at-pop .pop .ensures) .2,
-    )
+    insert-words (to-start (else1 .before) .pre) 0 _ (else1 .if1 .left) (at-deadline-no .deadline-no .ensures) (else2 .if2 .left)
+    (at-pop .pop .ensures) .2
 
 place-requires : tie.Need-place-requires
 place-requires c κs =
-    let at-pop = to-pop (to-shared-slice-known2 c .before) in
+    let at-pop = to-pop (to-key-of c .before .before) in
     let else2 = to-else2 (at-pop .before) in
     let at-deadline-no = else2 .before in
     let else1 = at-deadline-no .before in
@@ -130,12 +111,13 @@ same-length-5 c = search needs
 returns-3 : tie.Need-returns-3
 returns-3 c =
     let at-place = to-place c in
-    let at-pop = to-pop (to-shared-slice-known2 (at-place .before) .before) in
+    let at-key-of = to-key-of (at-place .before) in
+    let at-pop = to-pop (at-key-of .before .before) in
     let else2 = to-else2 (at-pop .before) in
     let at-deadline-no = else2 .before in
     let else1 = at-deadline-no .before in
     insert-done (to-start (else1 .before) .pre) _ _ (else1 .if1 .left) (at-deadline-no .deadline-no .ensures) (else2 .if2 .left)
-    (at-pop .pop .ensures) _ refl (at-place .place .ensures)
+    (at-pop .pop .ensures) _ (at-key-of .key-of .ensures) (at-place .place .ensures)
 
 element-copy-out-if1 : tie.Need-element-copy-out-if1
 element-copy-out-if1 c = search needs
@@ -152,12 +134,10 @@ insert-spec =
     cast-values
     mul-values
     slice-write-values
-    cast-key
-    mul-key
-    shared-slice-read-key
-    mul-key-2
-    cast-key-2
-    add-key
+    cast-key-of
+    mul-key-of
+    shared-slice-read-key-of
+    key-of-requires
     place-requires
     same-length
     same-length-2

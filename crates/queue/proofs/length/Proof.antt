@@ -18,14 +18,17 @@ abbrev μ-loop : tie.MeasureT-loop
 loop-holds : tie.Need-loop-holds Inv-loop μ-loop
 loop-holds c = (omega arith, omega arith, sym (pending-zero _))
 
-cast-if1 : tie.Need-cast-if1 Inv-loop μ-loop
-cast-if1 c = search needs
+cast-is-pending : tie.Need-cast-is-pending Inv-loop μ-loop
+cast-is-pending c = search needs
 
-mul-if1 : tie.Need-mul-if1 Inv-loop μ-loop
-mul-if1 c = search needs
+mul-is-pending : tie.Need-mul-is-pending Inv-loop μ-loop
+mul-is-pending c = search needs
 
-shared-slice-read-if1 : tie.Need-shared-slice-read-if1 Inv-loop μ-loop
-shared-slice-read-if1 c = search needs
+shared-slice-read-is-pending : tie.Need-shared-slice-read-is-pending Inv-loop μ-loop
+shared-slice-read-is-pending c = search needs
+
+is-pending-requires : tie.Need-is-pending-requires Inv-loop μ-loop
+is-pending-requires c κs = search needs
 
 add-count : tie.Need-add-count Inv-loop μ-loop
 add-count c = search needs
@@ -38,13 +41,17 @@ loop-less c = search needs
 
 loop-again : tie.Need-loop-again Inv-loop μ-loop
 loop-again c =
+    let turn = c .before .before .before .before in
+    let e = sym (c .before .is-pending .ensures) in
     ⊎-elim
-    (λ w. (omega arith, omega arith, w .1 ∙ ap (λ (x : ℕ). x + 1) (c .before .before .before .loop .inv .2) ∙ sym (pending-more _ _ (w .0 .taken))))
-    (λ w. (omega arith, omega arith, w .1 ∙ c .before .before .before .loop .inv .2 ∙ sym (pending-same _ _ (w .0 .left))))
+    (λ w. (omega arith, omega arith, w .1 ∙ ap (λ (x : ℕ). x + 1) (turn .loop .inv .2) ∙ sym (pending-more _ _ (e ∙ w .0 .taken))))
+    (λ w. (omega arith, omega arith, w .1 ∙ turn .loop .inv .2 ∙ sym (pending-same _ _ (e ∙ w .0 .left))))
     (c .if1 .came)
 
 returns : tie.Need-returns Inv-loop μ-loop
-returns c = let e : c .before .loop .i ≡ c .before .before .args .n = omega arith in c .before .loop .inv .2 ∙ ap (pendingIn _) e
+returns c =
+    let e : c .before .loop .i ≡ c .before .before .before .args .n = omega arith in
+    c .before .loop .inv .2 ∙ ap (pendingIn _) e
 
 pub length-spec : {M : Type 1} → statement M
 length-spec =
@@ -53,9 +60,10 @@ length-spec =
     Inv-loop
     μ-loop
     loop-holds
-    cast-if1
-    mul-if1
-    shared-slice-read-if1
+    cast-is-pending
+    mul-is-pending
+    shared-slice-read-is-pending
+    is-pending-requires
     add-count
     add-i
     loop-less

@@ -2,7 +2,7 @@
 use borrow.Author.Needs.{needs}
 use mathlib.Core.Path.{refl}
 use Rattle.records.specs.Code.{find-at, find-nowhere}
-use Rattle.queue.specs.CallLaws.{found-roomed, remove-dead, found-leaves, found-words, remove-frees, remove-done}
+use Rattle.queue.specs.CallLaws.{find-room, remove-dead, found-leaves, found-words, remove-frees, remove-done}
 use Rattle.queue.proofs.remove.Statement.{statement}
 use Rattle.queue.proofs.remove.Tie as tie
 
@@ -33,7 +33,7 @@ to-leave c =
     a .before .before .before .before
 
 find-requires : tie.Need-find-requires
-find-requires c κs = found-roomed (to-start c .pre)
+find-requires c κs = find-room (to-start c .pre)
 
 enum-known-found : tie.Need-enum-known-found
 enum-known-found c = search needs

@@ -1,7 +1,7 @@
 -- `reset` meets its contract: a dead key, a deadline that is refused, or unlinked and placed (`reset-done`).
 use borrow.Author.Needs.{needs}
 use Rattle.records.specs.Code.{find-at, find-nowhere}
-use Rattle.queue.specs.CallLaws.{found-roomed, reset-dead, found-leaves, reset-refused, reset-place, reset-done}
+use Rattle.queue.specs.CallLaws.{find-room, reset-dead, found-leaves, reset-refused, reset-place, reset-done}
 use Rattle.queue.proofs.reset.Statement.{statement}
 use Rattle.queue.proofs.reset.Tie as tie
 
@@ -31,7 +31,7 @@ to-place c =
     a .before .before .before .before
 
 find-requires : tie.Need-find-requires
-find-requires c κs = found-roomed (to-start c .pre)
+find-requires c κs = find-room (to-start c .pre)
 
 enum-known-found : tie.Need-enum-known-found
 enum-known-found c = search needs

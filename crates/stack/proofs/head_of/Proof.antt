@@ -3,6 +3,7 @@ use borrow.Author.Needs.{needs}
 use mathlib.Core.Path.{_≡_}
 use native.Mathlib.Omega.{arith}
 use borrow.Author.Tests.{eq-eqb, ne-eqb, lt-ltb, le-ltb}
+use Rattle.stack.specs.Places.{free}
 use Rattle.stack.specs.Heads.{headOf}
 use Rattle.stack.proofs.head_of.Statement.{statement}
 use Rattle.stack.proofs.head_of.Tie as tie
@@ -36,7 +37,7 @@ element-copy-out-result-2 c = search needs
 returns-3 : tie.Need-returns-3
 unfolding headOf
 returns-3 c =
-    let e : c .before .before .before .args .p ≡ 385 = omega (arith, c .before .if2 .left) in
+    let e : c .before .before .before .args .place ≡ free = omega (arith, c .before .if2 .left) in
     simp (le-ltb _ _ (c .before .before .if1 .left), ne-eqb _ _ (c .before .if2 .left), eq-eqb _ _ e)
 
 pub head-of-spec : {M : Type 1} → statement M

@@ -5,17 +5,18 @@ use mathlib.Core.Path.{_≡_, refl, sym, _∙_}
 use Prim.Native.Nat.{_≤_, _-_}
 use native.Mathlib.Omega.{arith}
 use Rattle.links.specs.Links.{at}
+use Rattle.stack.specs.Places.{places}
 use Rattle.stack.specs.Words.{words}
 use Rattle.stack.specs.Judge.{from, judge-go, judge-wrong, judge-end}
 use Rattle.stack.proofs.is_whole.Statement.{statement}
 use Rattle.stack.proofs.is_whole.Tie as tie
 
 abbrev Inv-loop : tie.InvT-loop
-Inv-loop tops heads nexts prevs marks n left₀ p₀ left p =
-    (p ≤ 386) × (from (words tops heads nexts prevs marks) p left ≡ from (words tops heads nexts prevs marks) 0 (at tops 0))
+Inv-loop tops heads nexts prevs marks n left₀ place₀ left place =
+    (place ≤ places) × (from (words tops heads nexts prevs marks) place left ≡ from (words tops heads nexts prevs marks) 0 (at tops 0))
 
 abbrev μ-loop : tie.MeasureT-loop
-μ-loop tops heads nexts prevs marks n left₀ p₀ left p = 386 - p
+μ-loop tops heads nexts prevs marks n left₀ place₀ left place = places - place
 
 abbrev turn : tie.After-walk-list Inv-loop μ-loop → tie.In-loop Inv-loop μ-loop
 turn c = c .before .before
@@ -50,8 +51,8 @@ returns c =
     let t = turn w in
     judge-wrong _ _ _ _ _ (t .loop-test .taken) (w .before .head-of .ensures) (w .walk-list .ensures) (c .enum-told .given .1) (t .before .loop .inv .1)
 
-add-p : tie.Need-add-p Inv-loop μ-loop
-add-p c = search needs
+add-place : tie.Need-add-place Inv-loop μ-loop
+add-place c = search needs
 
 loop-less : tie.Need-loop-less Inv-loop μ-loop
 loop-less c = search needs
@@ -82,7 +83,7 @@ is-whole-spec =
     enum-known-l
     enum-told
     returns
-    add-p
+    add-place
     loop-less
     loop-again
     count-loose-requires

@@ -6,7 +6,7 @@ use Rattle.stack.specs.Words.{pop-none, pop-slot-is}
 use Rattle.stack.proofs.pop_slot.Statement.{statement}
 use Rattle.stack.proofs.pop_slot.Tie as tie
 
-abbrev start : tie.After-h → tie.Start
+abbrev start : tie.After-item → tie.Start
 start c = c .before .before .before .before
 
 abbrev some : tie.After-cut-arg3 → tie.Else1
@@ -17,17 +17,17 @@ left c =
     let a = c .before .before .before .before in
     a .before .before
 
-mul-h : tie.Need-mul-h
-mul-h c = search needs
+mul-item : tie.Need-mul-item
+mul-item c = search needs
 
-mul-h-2 : tie.Need-mul-h-2
-mul-h-2 c = search needs
+mul-item-2 : tie.Need-mul-item-2
+mul-item-2 c = search needs
 
-index-1-h : tie.Need-index-1-h
-index-1-h c = search needs
+index-1-item : tie.Need-index-1-item
+index-1-item c = search needs
 
-index-2-h : tie.Need-index-2-h
-index-2-h c = search needs
+index-2-item : tie.Need-index-2-item
+index-2-item c = search needs
 
 returns : tie.Need-returns
 returns c =
@@ -69,10 +69,10 @@ pub pop-slot-spec : {M : Type 1} → statement M
 pop-slot-spec =
     tie.close
     (tie.spec
-    mul-h
-    mul-h-2
-    index-1-h
-    index-2-h
+    mul-item
+    mul-item-2
+    index-1-item
+    index-2-item
     returns
     cut-requires
     mul-heads

@@ -15,17 +15,17 @@ joined c =
     let a = c .before .before .before .before in
     a .before .before
 
-mul-h : tie.Need-mul-h
-mul-h c = search needs
+mul-head : tie.Need-mul-head
+mul-head c = search needs
 
-mul-h-2 : tie.Need-mul-h-2
-mul-h-2 c = search needs
+mul-head-2 : tie.Need-mul-head-2
+mul-head-2 c = search needs
 
-index-1-h : tie.Need-index-1-h
-index-1-h c = search needs
+index-1-head : tie.Need-index-1-head
+index-1-head c = search needs
 
-index-2-h : tie.Need-index-2-h
-index-2-h c = search needs
+index-2-head : tie.Need-index-2-head
+index-2-head c = search needs
 
 slot-place-requires : tie.Need-slot-place-requires
 slot-place-requires c κs = search needs
@@ -64,10 +64,10 @@ pub push-slot-spec : {M : Type 1} → statement M
 push-slot-spec =
     tie.close
     (tie.spec
-    mul-h
-    mul-h-2
-    index-1-h
-    index-2-h
+    mul-head
+    mul-head-2
+    index-1-head
+    index-2-head
     slot-place-requires
     join-requires
     mul-heads

@@ -13,11 +13,11 @@ cut c =
     let b = a .before .before .before .before in
     b .before
 
-mul-p : tie.Need-mul-p
-mul-p c = search needs
+mul-place : tie.Need-mul-place
+mul-place c = search needs
 
-slice-read-p : tie.Need-slice-read-p
-slice-read-p c = search needs
+slice-read-place : tie.Need-slice-read-place
+slice-read-place c = search needs
 
 head-of-requires : tie.Need-head-of-requires
 head-of-requires c κs = search needs
@@ -46,8 +46,8 @@ pub remove-spec : {M : Type 1} → statement M
 remove-spec =
     tie.close
     (tie.spec
-    mul-p
-    slice-read-p
+    mul-place
+    slice-read-place
     head-of-requires
     cut-requires
     set-head-requires

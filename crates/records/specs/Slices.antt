@@ -1,0 +1,42 @@
+-- The six slices of a store, and when they are long enough.
+use mathlib.Core.List.{List}
+use Prim.Native.Nat.{ℕ, _≤_, _<_}
+use lib.ListN.{length}
+use Rattle.lent.specs.Lent.{Lent, Turned, old}
+use Rattle.links.specs.Links.{Links, links}
+use Rattle.links.specs.Links as linked
+
+pub record Slices : Type 0 where
+  pub values : List ℕ
+  pub deadlines : List ℕ
+  pub links : Links
+  pub turns : List ℕ
+
+abbrev pub slicesOf : List ℕ → List ℕ → List ℕ → List ℕ → List ℕ → List ℕ → Slices
+slicesOf vs ds ns ps ts ms = record { values = vs; deadlines = ds; links = links ns ps ms; turns = ts }
+
+-- as the functions have them: in a `requires`, and in an `ensures` at the call
+abbrev pub lent : (values deadlines nexts prevs turns marks : Lent (List ℕ)) → Slices
+lent values deadlines nexts prevs turns marks =
+    slicesOf (values .now) (deadlines .now) (nexts .now) (prevs .now) (turns .now) (marks .now)
+
+abbrev pub before : (values deadlines nexts prevs turns marks : Turned (List ℕ)) → Slices
+before values deadlines nexts prevs turns marks =
+    slicesOf (old values) (old deadlines) (old nexts) (old prevs) (old turns) (old marks)
+
+-- none of them is too short for n records
+pub record Room (n : ℕ) (l : Slices) : Type 0 where
+  pub values : n ≤ length (l .values)
+  pub deadlines : n ≤ length (l .deadlines)
+  pub links : linked.Room n (l .links)
+  pub turns : n ≤ length (l .turns)
+
+-- "N from 1 to 1,024"
+abbrev pub limit : ℕ
+limit = 1024
+
+-- number 1 is not given: N is in range, and no lent slice is too short for N
+pub record Fits (l : Slices) (n : ℕ) : Type 0 where
+  pub some : 0 < n
+  pub few : n ≤ limit
+  pub room : Room n l
