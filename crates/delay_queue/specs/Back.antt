@@ -59,13 +59,13 @@ taken-up S x = record { bad = λ f. absurd (f S); good = λ _. x }
 -- ---- next wake and length
 
 pub not-passed : {s : QueueWords} → Sound s → NotPassed (elapsed s) (s .wheel .occupied)
-not-passed S = between-passed (rule-between (S .rule)) (S .whole .rows)
+not-passed S = between-passed (rule-between (S .rule)) (S .standing .whole .rows)
 
 pub wake-done : {s : QueueWords} {a : Answer} → Sound s → ((v : View) → v .elapsed ≡ elapsed s → Rows (s .wheel .occupied) (v .lists) → Wakes v (told a)) → WakeOn s a
-wake-done {s} S f = record { done = f (view s) refl (S .whole .rows) }
+wake-done {s} S f = record { done = f (view s) refl (S .standing .whole .rows) }
 
 pub marks-long : {s : QueueWords} → Sound s → count s ≤ length (s .wheel .stack .links .marks)
-marks-long S = stack.room (S .whole .stack) .marks
+marks-long S = stack.room (S .standing .whole .stack) .marks
 
 pub length-done : {s : QueueWords} {n : ℕ} → Sound s → n ≡ pendingIn (markOf s) (count s) → LengthOn s (A.Length n)
 length-done S e = record { done = ap len (e ∙ pending-is S) }

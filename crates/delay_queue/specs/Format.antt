@@ -124,26 +124,28 @@ module _ (s : QueueWords) {n turn : ℕ} (F : Fits (slices s) n) (T : InRange tu
   new-sound : Sound new
   new-sound =
       record {
-        fits = record {
-          some = rw sized (F .some);
-          few = rw sized (F .few);
-          room = record {
-            values = omega (arith, sized, length-over n (λ i. 0) (s .values));
-            deadlines = omega (arith, sized, length-over n (λ i. 0) (s .deadlines));
-            links = stack.room whole;
-            turns = omega (arith, sized, length-over n (λ i. turn) (s .turns));
+        standing = record {
+          fits = record {
+            some = rw sized (F .some);
+            few = rw sized (F .few);
+            room = record {
+              values = omega (arith, sized, length-over n (λ i. 0) (s .values));
+              deadlines = omega (arith, sized, length-over n (λ i. 0) (s .deadlines));
+              links = stack.room whole;
+              turns = omega (arith, sized, length-over n (λ i. turn) (s .turns));
+            };
           };
-        };
-        whole = record {
-          stack = whole;
-          rows = record {
-            six = refl;
-            row = λ k hk.
-                getD-replicate {A = ℕ} 6 k 0 0 hk
-                ∙ sym (row-none (flags (stack.lists made) k) 64 (λ j hj. ap filled (empty (slotPlace k j) (omega arith))));
+          whole = record {
+            stack = whole;
+            rows = record {
+              six = refl;
+              row = λ k hk.
+                  getD-replicate {A = ℕ} 6 k 0 0 hk
+                  ∙ sym (row-none (flags (stack.lists made) k) 64 (λ j hj. ap filled (empty (slotPlace k j) (omega arith))));
+            };
           };
+          turns = λ i h. let e : at (over n (λ j. turn) (s .turns)) i ≡ turn = over-at n (λ j. turn) (s .turns) (F .room .turns) i (omega (arith, sized)) in (omega arith, omega arith);
         };
-        turns = λ i h. let e : at (over n (λ j. turn) (s .turns)) i ≡ turn = over-at n (λ j. turn) (s .turns) (F .room .turns) i (omega (arith, sized)) in (omega arith, omega arith);
         rule = record { wheel = λ p x h m. absurd (nobody-in p x (omega arith) m); stack = λ x m. absurd (nobody-in expired x (omega arith) m) };
       }
 

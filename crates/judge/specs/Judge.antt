@@ -160,20 +160,20 @@ head-filled s W k j hk hj =
 module _ {s : QueueWords} where
   pub sound-judged : Sound s → Judged s
   sound-judged S =
-      let W = S .whole .stack in
+      let W = S .standing .whole .stack in
       record {
-        fits = S .fits;
+        fits = S .standing .fits;
         lists = stack.whole-judged W;
         rows = record {
-          six = S .whole .rows .six;
+          six = S .standing .whole .rows .six;
           row = λ k hk.
-              S .whole .rows .row k hk
+              S .standing .whole .rows .row k hk
               ∙ row-ext (flags (listsIn (s .wheel)) k) (held (s .wheel .stack .heads) k) 64 (λ j hj. sym (head-filled s W k j hk hj));
         };
         records = λ i h.
             record {
-              some = S .turns i h .0;
-              last = S .turns i h .1;
+              some = S .standing .turns i h .0;
+              last = S .standing .turns i h .1;
               wheel = λ m. S .rule .wheel (markOf s i) i m (stack.marked-member W i h (omega arith));
               stack = λ m. S .rule .stack i (rw m at (stack.marked-member W i h (omega arith)));
             };
@@ -184,17 +184,19 @@ module _ {s : QueueWords} where
       let W : stack.Whole (s .wheel .stack)
       = stack.judged-whole (omega arith) H (J .fits .room .links) (J .lists) in
       record {
-        fits = J .fits;
-        whole = record {
-          stack = W;
-          rows = record {
-            six = J .rows .six;
-            row = λ k hk.
-                J .rows .row k hk
-                ∙ row-ext (held (s .wheel .stack .heads) k) (flags (listsIn (s .wheel)) k) 64 (λ j hj. head-filled s W k j hk hj);
+        standing = record {
+          fits = J .fits;
+          whole = record {
+            stack = W;
+            rows = record {
+              six = J .rows .six;
+              row = λ k hk.
+                  J .rows .row k hk
+                  ∙ row-ext (held (s .wheel .stack .heads) k) (flags (listsIn (s .wheel)) k) 64 (λ j hj. head-filled s W k j hk hj);
+            };
           };
+          turns = λ i h. let r = J .records i h in (r .some, r .last);
         };
-        turns = λ i h. let r = J .records i h in (r .some, r .last);
         rule = record {
           wheel = λ p x h m.
               let e : markOf s x ≡ p = stack.member-mark W p x m in

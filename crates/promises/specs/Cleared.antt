@@ -181,10 +181,10 @@ module _ {s : QueueWords} (S : Sound s) {k : ℕ} {u : View} (U : Upto s k u) wh
         by-cases (ℕ-discrete q p)
         (λ e.
         rw e (change-same (u .lists) p (without k (u .lists p)) ∙ ap (without k) (U .waiting p (a .timed))
-        ∙ from-without k (view s .lists p) (stack.list-nodup (S .whole .stack) p)))
+        ∙ from-without k (view s .lists p) (stack.list-nodup (S .standing .whole .stack) p)))
         (λ d.
         change-other (u .lists) p (without k (u .lists p)) q d ∙ U .waiting q g
-        ∙ from-out k (view s .lists q) (λ m. d (sym (stack.member-mark (S .whole .stack) q k m) ∙ mark-at S was)))
+        ∙ from-out k (view s .lists q) (λ m. d (sym (stack.member-mark (S .standing .whole .stack) q k m) ∙ mark-at (S .standing) was)))
 
     left-free : left p k u .lists free ≡ u .lists free
     unfolding left
@@ -264,7 +264,7 @@ clear-order {s} {t} C S =
     let K = C .good S in
     let U = upto S (K .clears) (omega arith) in
     let E = K .done .view in
-    let W = S .whole .stack in
+    let W = S .standing .whole .stack in
     let listed : (p : ℕ) → view t .lists p ≡ K .cleared .lists p = λ p. ap (λ v. v .lists p) E in
     let empty : (p : ℕ) → p < free → view t .lists p ≡ []
     = λ p h. listed p ∙ U .waiting p h ∙ from-all (count s) (view s .lists p) (λ i m. stack.member-below W p i m) in
@@ -273,7 +273,7 @@ clear-order {s} {t} C S =
     = λ i p a e m.
     ⊎-elim
     (λ k. back-exactly S i (stack.member-below W p i (a .member)) .0 (mem-falling (comesBack s) (count s) i k) .1 e)
-    (λ k. omega (arith, mark-at S a, stack.member-mark W free i k))
+    (λ k. omega (arith, mark-at (S .standing) a, stack.member-mark W free i k))
     (mem-app i (falling (comesBack s) (count s)) (view s .lists free) (rw freed at m)) in (
       K .done .told,
       record {
@@ -287,7 +287,7 @@ clear-order {s} {t} C S =
             by-cases (decLt q free)
             (λ h. rw (empty q h) at m)
             (λ h.
-            let z : q ≡ free = omega (arith, stack.member-place (K .done .sound .whole .stack) q i m) in
+            let z : q ≡ free = omega (arith, stack.member-place (K .done .sound .standing .whole .stack) q i m) in
             retired i p a e (rw z at m));
         values = ap (λ v. v .value) E ∙ U .values;
         deadlines = ap (λ v. v .deadline) E ∙ U .deadlines;

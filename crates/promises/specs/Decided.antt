@@ -100,4 +100,4 @@ pub sound-dec : (s : QueueWords) → Dec (Sound s)
 sound-dec s =
     by-dec (Dec·and (shape-dec (s .wheel .stack .heads)) (judged-dec s))
     (λ x. judged-sound (x .0) (x .1))
-    (λ S. (S .whole .stack .shape, sound-judged S))
+    (λ S. (S .standing .whole .stack .shape, sound-judged S))

@@ -10,7 +10,7 @@ use Rattle.queue.specs.declared.Answer.{Answer}
 use Rattle.queue.specs.Told.{told}
 use Rattle.queue.specs.Told as T
 use Rattle.records.specs.View.{withValue, upd}
-use Rattle.records.specs.Records.{keyOf, Names, Near, taken, left, placed, freed}
+use Rattle.records.specs.Records.{keyOf, Names, Takes, taken, left, placed, freed}
 use Rattle.queue.specs.Steps.{Wakes, pending}
 use Rattle.records.specs.Words.{QueueWords, elapsed, view, Sound}
 use Rattle.queue.specs.Calls.{Refused, Answered, InsertOn, ResetOn, RemoveOn, ClearOn}
@@ -23,10 +23,10 @@ use Rattle.promises.specs.Decided.{fits-dec, range-dec}
 pub data Does (s : QueueWords) (a : Answer) (t : QueueWords) : Call → Type 0 where
   refused : {c : Call} {k : ℕ} → Refused k s a t → Does s a t c
   formatted : {n turn : ℕ} → Formatted s n turn a t → Does s a t (C.Format n turn)
-  inserted : {value when r : ℕ} {l : List ℕ} → view s .lists free ≡ r ∷ l → Near (elapsed s) when
+  inserted : {value when r : ℕ} {l : List ℕ} → view s .lists free ≡ r ∷ l → Takes (elapsed s) when
       → Answered s a (T.key (keyOf (view s) r)) (placed r when (withValue (upd (view s .value) r value) (taken l (view s)))) t
       → Does s a t (C.Insert value when)
-  replaced : {key when r p : ℕ} → Names (view s) key r p → Near (elapsed s) when → Answered s a T.ok (placed r when (left p r (view s))) t
+  replaced : {key when r p : ℕ} → Names (view s) key r p → Takes (elapsed s) when → Answered s a T.ok (placed r when (left p r (view s))) t
       → Does s a t (C.Reset key when)
   removed : {key r p : ℕ} → Names (view s) key r p
       → Answered s a (T.gone (view s .value r) (view s .deadline r)) (freed r (left p r (view s))) t → Does s a t (C.Remove key)

@@ -8,7 +8,7 @@ use Rattle.links.specs.Lists.{change-same}
 use Rattle.stack.specs.Places.{free, put}
 use Rattle.queue.specs.declared.Answer.{Answer}
 use Rattle.queue.specs.declared.Answer.the-variants as A
-use Rattle.queue.specs.Told.{Told, told}
+use Rattle.queue.specs.Told.{Told, told, Hands}
 use Rattle.queue.specs.Told as T
 use Rattle.records.specs.View.{View}
 use Rattle.records.specs.Records.{lastTurn, Names, left, numberIn, turnIn, packed}
@@ -36,7 +36,7 @@ pub record Refuses (s : QueueWords) (k : ℕ) : Type 0 where
 
 -- "A record that leaves (polled, removed, cleared)": by this call, answered x, the record of the key k does. A clear of a sound store is never refused
 pub data Leaves (s : QueueWords) (k : ℕ) (x : Told) : Call → Type 0 where
-  polled : {now v d m n : ℕ} → x ≡ T.out k v d m n → Leaves s k x (C.Poll now)
+  polled : {now v d m n : ℕ} → Hands x k v d m n → Leaves s k x (C.Poll now)
   removed : {v d : ℕ} → x ≡ T.gone v d → Leaves s k x (C.Remove k)
   cleared : {r p : ℕ} → Names (view s) k r p → Leaves s k x C.Clear
 

@@ -16,11 +16,11 @@ use Rattle.wheel.specs.Sums.{mem-change, hits, lies-times}
 use Rattle.wheel.specs.Drain.{amount}
 use Rattle.wheel.specs.Poll.{Promise}
 use Rattle.queue.specs.declared.Answer.{Answer}
-use Rattle.queue.specs.Told.{Told}
+use Rattle.queue.specs.Told.{Told, Hands}
 use Rattle.queue.specs.Told as T
 use Rattle.records.specs.View.{View, withElapsed, withLists}
 use Rattle.records.specs.Records.{lastTurn, keyOf, At, Names, left, freed, numberIn, turnIn}
-use Rattle.queue.specs.Steps.{QueuePolls, popped, handed, nothing}
+use Rattle.queue.specs.Steps.{QueuePolls, polled, popped, handed, nothing}
 use Rattle.records.specs.Words.{QueueWords, count, view, Sound, upd-same}
 use Rattle.queue.specs.PollLaws.{clear-done}
 use Rattle.delay_queue.specs.declared.Call.{Call}
@@ -93,7 +93,7 @@ module _ {s : QueueWords} (S : Sound s) where
   pub left-out : {i p : ℕ} → At (view s) i p → (q : ℕ) → Mem i (left p i (view s) .lists q) → ⊥
   unfolding left
   left-out {i} {p} a q m =
-      moved-out i p (a .member) (without i (view s .lists p)) (without-out i (view s .lists p) (stack.list-nodup (S .whole .stack) p)) q m
+      moved-out i p (a .member) (without i (view s .lists p)) (without-out i (view s .lists p) (stack.list-nodup (S .standing .whole .stack) p)) q m
 
   pub handed-out : {now i m n e : ℕ} {N : Lists} → Promise (view s .deadline) now (view s .elapsed) (view s .lists) (some i) m n e N → (q : ℕ) → Mem i (N q) → ⊥
   unfolding amount
@@ -136,31 +136,31 @@ module _ {s : QueueWords} (S : Sound s) where
   hands-out {k} {i} {p} {w} a e P =
       rw e (let N = key-of-names S a in record { number = i; place = p; names = N; spent = spent-by N P })
 
-  poll-spent : {now : ℕ} {x : Told} {w : View} → view s .elapsed ≤ now → QueuePolls (view s) now x w → {k v d m n : ℕ} → x ≡ T.out k v d m n → HandsOut k w
-  poll-spent h (popped {r = i} {l = l} e) {k} z =
+  poll-spent : {now : ℕ} {x : Told} {w : View} → view s .elapsed ≤ now → QueuePolls (view s) now x w → {k v d m n : ℕ} → Hands x k v d m n → HandsOut k w
+  poll-spent h (handed (popped {r = i} {l = l} e)) {k} z =
       let m : Mem i (view s .lists expired) = rw e (inl refl) in
-      let d : Nodup (i ∷ l) = rw e at (stack.list-nodup (S .whole .stack) expired) in
+      let d : Nodup (i ∷ l) = rw e at (stack.list-nodup (S .standing .whole .stack) expired) in
       let q : k ≡ keyOf (view s) i = cc in
       let u = withLists (change (view s .lists) expired l) (view s) in
       hands-out (record { timed = omega arith; member = m }) q (freed-spent i u (moved-out S i expired m l (d .0)))
-  poll-spent h (handed {r = i} {e = c} {L = L} e P) {k} z =
+  poll-spent h (handed {r = i} (polled {e = c} {L = L} e P)) {k} z =
       let R = wheel-promise S e h P in
       let w = R .fair .0 in
       let q : k ≡ keyOf (view s) i = cc in
       hands-out (record { timed = omega arith; member = w .2 }) q (freed-spent i (withElapsed c (withLists L (view s))) (handed-out S R))
-  poll-spent h (nothing e P) z = let y : _≡_ {A = ℕ} 0 1 = cc in absurd (omega arith)
+  poll-spent h (nothing (polled e P)) z = let y : _≡_ {A = ℕ} 0 1 = cc in absurd (omega arith)
 
   -- ---- clear
 
   -- nobody is pending after it
   pub clear-empty : {a : Answer} {t : QueueWords} → ClearClaim s a t → (r p : ℕ) → At (view t) r p → ⊥
   clear-empty {a} {t} A r p b =
-      let m = clear-first S (count s) (omega arith) in
+      let m = clear-first (S .standing) (count s) (omega arith) in
       let C = m .1 in
       let e = clear-once A (taken-up S (clear-done C refl)) .1 in
       let x = rw e at b in
       let y : At (view (m .0)) r p = record { timed = x .timed; member = x .member } in
-      C .gone r (omega (arith, stack.member-below (C .sound .whole .stack) p r (y .member))) p y
+      C .gone r (omega (arith, stack.member-below (C .standing .whole .stack) p r (y .member))) p y
 
   pub clear-spent : {k i p : ℕ} → Names (view s) k i p → {a : Answer} {t : QueueWords} → ClearClaim s a t → Spent (view t) k
   clear-spent {k} N {a} {t} A =
@@ -179,7 +179,7 @@ module _ {s : QueueWords} (S : Sound s) {k : ℕ} where
   insert-new : Given (view s) k → {value when : ℕ} {x : Told} {w : View} → Steps (view s) (C.Insert value when) x w → x ≢ T.key k
   insert-new G refuses z = let y : _≡_ {A = ℕ} 0 1 = cc in omega arith
   insert-new G (inserts {r = i} e) z =
-      let h = stack.member-below (S .whole .stack) free i (rw e (inl refl)) in
+      let h = stack.member-below (S .standing .whole .stack) free i (rw e (inl refl)) in
       let q : k ≡ keyOf (view s) i = cc in
       let number : i ≡ numberIn k = omega arith in
       let turn : view s .turn i ≡ turnIn k = omega arith in
@@ -192,9 +192,9 @@ module _ {s : QueueWords} (S : Sound s) {k : ℕ} where
 
     module _ {v d m n : ℕ} where
       -- what is handed out was pending under its key
-      pub out-spent : x ≡ T.out k v d m n → HandsOut S k w
+      pub out-spent : Hands x k v d m n → HandsOut S k w
       out-spent z = let p = out-polls D z in poll-spent S (p .1) (p .2) z
 
       -- one that is spent is not handed out
-      pub spent-kept : Spent (view s) k → x ≢ T.out k v d m n
+      pub spent-kept : Spent (view s) k → (Hands x k v d m n → ⊥)
       spent-kept P z = let H = out-spent z in spent-unnamed P (H .number) (H .place) (H .names)

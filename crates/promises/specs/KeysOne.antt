@@ -22,7 +22,7 @@ use Rattle.queue.specs.Told.{Told}
 use Rattle.records.specs.View.{View, withElapsed, withLists, withTurn, withValue, upd}
 use Rattle.records.specs.Records.{lastTurn, At, taken, left, target, placed, freed}
 use Rattle.queue.specs.PollLaws.{left-less}
-use Rattle.queue.specs.Steps.{QueuePolls, popped, handed, nothing, Clears, begun, kept, gave}
+use Rattle.queue.specs.Steps.{QueuePolls, polled, popped, handed, nothing, Clears, begun, kept, gave}
 use Rattle.records.specs.Words.{QueueWords, view, Sound, upd-same, upd-other}
 use Rattle.delay_queue.specs.declared.Call.{Call}
 use Rattle.promises.specs.Step.{isNo}
@@ -137,11 +137,11 @@ wheel-onward P r =
 
 module _ {s : QueueWords} (S : Sound s) where
   poll-onward : {now : ℕ} {x : Told} {w : View} → view s .elapsed ≤ now → QueuePolls (view s) now x w → (r : ℕ) → Onward (view s) w r
-  poll-onward h (popped {r = i} {l = l} e) r =
+  poll-onward h (handed (popped {r = i} {l = l} e)) r =
       let u = withLists (change (view s .lists) expired l) (view s) in
       onward-then (less-onward (view s) u r refl (λ q m. mem-left (view s .lists) expired i l e q r m)) (freed-onward i u r)
-  poll-onward h (handed {r = i} e P) r = onward-then (wheel-onward (wheel-promise S e h P) r) (freed-onward i _ r)
-  poll-onward h (nothing e P) r = wheel-onward (wheel-promise S e h P) r
+  poll-onward h (handed {r = i} (polled e P)) r = onward-then (wheel-onward (wheel-promise S e h P) r) (freed-onward i _ r)
+  poll-onward h (nothing (polled e P)) r = wheel-onward (wheel-promise S e h P) r
 
 clears-onward : {v : View} {k : ℕ} {w : View} → Clears v k w → (r : ℕ) → Onward v w r
 clears-onward {v} begun r = onward-same v r

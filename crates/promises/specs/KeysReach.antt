@@ -11,7 +11,7 @@ use Rattle.stack.specs.Places.{free}
 use Rattle.stack.specs.Laws as stack
 use Rattle.wheel.specs.Sums.{put-mem}
 use Rattle.queue.specs.declared.Answer.{Answer}
-use Rattle.queue.specs.Told.{Told, told}
+use Rattle.queue.specs.Told.{Told, told, Hands}
 use Rattle.queue.specs.Told as T
 use Rattle.records.specs.View.{View, withValue, upd}
 use Rattle.records.specs.Records.{keyOf, At, Names, taken, left, target, placed, numberIn, turnIn}
@@ -68,7 +68,7 @@ module _ {s : QueueWords} (S : Sound s) where
       → Reaches w k value (max when (elapsed s))
   insert-does refuses z = let y : _≡_ {A = ℕ} 0 1 = cc in absurd (omega arith)
   insert-does {value} {when} (inserts {r = i} {l = l} e) {k} z =
-      let h = stack.member-below (S .whole .stack) free i (rw e (inl refl)) in
+      let h = stack.member-below (S .standing .whole .stack) free i (rw e (inl refl)) in
       let q : k ≡ keyOf (view s) i = cc in
       let u = withValue (upd (view s .value) i value) (taken l (view s)) in
       let number : i ≡ numberIn k = omega arith in
@@ -86,7 +86,7 @@ module _ {s : QueueWords} (S : Sound s) where
 
   -- what is handed out under the key is the record that the key names
   pub poll-tells : {now : ℕ} {x : Told} {w : View} → view s .elapsed ≤ now → QueuePolls (view s) now x w → {k y d v e m n : ℕ} → Reaches (view s) k y d
-      → x ≡ T.out k v e m n → (v ≡ y) × (e ≡ d)
+      → Hands x k v e m n → (v ≡ y) × (e ≡ d)
   poll-tells {now} {x} {w} h Q {k} {y} {d} {v} {e} R z = by (P .got) (P .is) (P .fair)
     where
       P : Polled (view s) now x w
@@ -101,7 +101,7 @@ module _ {s : QueueWords} (S : Sound s) where
           let j : i ≡ R .number = (rw (← q) at (key-of-names S (f .0 .1) .number)) ∙ sym (R .names .number) in
           (a ∙ ap (view s .value) j ∙ R .value, b ∙ ap (view s .deadline) j ∙ R .deadline)
 
-  out-does : {now : ℕ} {x : Told} {w : View} → Steps (view s) (C.Poll now) x w → {k y d v e m n : ℕ} → Reaches (view s) k y d → x ≡ T.out k v e m n
+  out-does : {now : ℕ} {x : Told} {w : View} → Steps (view s) (C.Poll now) x w → {k y d v e m n : ℕ} → Reaches (view s) k y d → Hands x k v e m n
       → (v ≡ y) × (e ≡ d)
   out-does refuses R z = let y : _≡_ {A = ℕ} 0 1 = cc in absurd (omega arith)
   out-does (polls h Q) R z = poll-tells h Q R z
@@ -128,7 +128,7 @@ module _ {s : QueueWords} (S : Sound s) where
   -- two pending records have different keys
   pub keys-apart : {r p q o : ℕ} → At (view s) r p → At (view s) q o → keyOf (view s) r ≡ keyOf (view s) q → r ≡ q
   keys-apart {r} {p} {q} {o} a b e =
-      omega (arith, stack.member-below (S .whole .stack) p r (a .member), stack.member-below (S .whole .stack) o q (b .member))
+      omega (arith, stack.member-below (S .standing .whole .stack) p r (a .member), stack.member-below (S .standing .whole .stack) o q (b .member))
 
   -- the key that an insert answers reaches what was inserted: "Insert and reset first raise the deadline to elapsed if it is smaller"
   pub insert-reaches : {t : QueueWords} {value when k : ℕ} {a : Answer} → CallClaim (C.Insert value when) s a t → told a ≡ T.key k
@@ -145,7 +145,7 @@ module _ {s : QueueWords} (S : Sound s) where
   remove-tells R A = A .good S .done (R .number) (R .place) (R .names) .told ∙ rw (R .value, R .deadline)
 
   -- and a poll that hands out the key says them: "`out key value deadline moves drains`"
-  pub out-tells : {t : QueueWords} {now k x d v e m n : ℕ} {a : Answer} → Reaches (view s) k x d → CallClaim (C.Poll now) s a t → told a ≡ T.out k v e m n
+  pub out-tells : {t : QueueWords} {now k x d v e m n : ℕ} {a : Answer} → Reaches (view s) k x d → CallClaim (C.Poll now) s a t → Hands (told a) k v e m n
       → (v ≡ x) × (e ≡ d)
   out-tells {t} {now} {a = a} R A z = out-does S (call-steps (C.Poll now) s a t S A) R z
 

@@ -14,11 +14,11 @@ use Rattle.wheel.specs.Wheel.{Lists}
 use Rattle.wheel.specs.Sums.{put-mem, hits, lies-times, times-lies}
 use Rattle.wheel.specs.Drain.{amount}
 use Rattle.wheel.specs.Poll.{Promise, given}
-use Rattle.queue.specs.Told.{Told}
+use Rattle.queue.specs.Told.{Told, Hands}
 use Rattle.queue.specs.Told as T
 use Rattle.records.specs.View.{View, withElapsed, withLists, withValue, upd}
 use Rattle.records.specs.Records.{keyOf, At, Names, taken, left, target, placed, freed}
-use Rattle.queue.specs.Steps.{QueuePolls, popped, handed, nothing}
+use Rattle.queue.specs.Steps.{QueuePolls, polled, popped, handed, nothing}
 use Rattle.records.specs.Words.{QueueWords, elapsed, view, Sound, upd-other}
 use Rattle.delay_queue.specs.declared.Call.{Call}
 use Rattle.delay_queue.specs.declared.Call.the-variants as C
@@ -40,7 +40,7 @@ Aims k C.Clear = Unit {0}
 
 -- the answer hands out the timer of k: "`out key value deadline moves drains`"
 abbrev pub Out : ℕ → Told → Type 0
-Out k x = (value : ℕ) × (deadline : ℕ) × (moves : ℕ) × (drains : ℕ) × (x ≡ T.out k value deadline moves drains)
+Out k x = (value : ℕ) × (deadline : ℕ) × (moves : ℕ) × (drains : ℕ) × (Hands x k value deadline moves drains)
 
 -- a key is its record's number and turn
 pub key-is : {v : View} {k r p : ℕ} → Names v k r p → k ≡ keyOf v r
@@ -165,17 +165,17 @@ module _ {s : QueueWords} (S : Sound s) {k r p : ℕ} (N : Names (view s) k r p)
 
   poll-stays : {now : ℕ} {x : Told} {w : View} → view s .elapsed ≤ now → QueuePolls (view s) now x w → (Out k x → ⊥)
       → Stays (view s) w r
-  poll-stays h (popped {r = i} {l = l} e) out =
+  poll-stays h (handed (popped {r = i} {l = l} e)) out =
       let d : r ≢ i = not-handed i out in
       stays-then
       (stays-lists (view s) expired l r (λ m. ⊎-elim (λ z. absurd (d z)) (λ y. y) (rw e at m)))
       (stays-freed i (withLists (change (view s .lists) expired l) (view s)) r d)
-  poll-stays h (handed {r = i} {e = c} {L = L} e P) out =
+  poll-stays h (handed {r = i} (polled {e = c} {L = L} e P)) out =
       let d : r ≢ i = not-handed i out in
       stays-then
       (stays-wheel e (wheel-promise S e h P) r (rw (ne-eqb i r (λ z. d (sym z)))))
       (stays-freed i (withElapsed c (withLists L (view s))) r d)
-  poll-stays h (nothing e P) out = stays-wheel e (wheel-promise S e h P) r refl
+  poll-stays h (nothing (polled e P)) out = stays-wheel e (wheel-promise S e h P) r refl
 
   pub does-stays : {c : Call} {x : Told} {w : View} → Steps (view s) c x w → (Aims k c → not (isNo x) ≡ false) → (Out k x → ⊥)
       → Stays (view s) w r

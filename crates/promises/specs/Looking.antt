@@ -25,7 +25,7 @@ use Rattle.queue.specs.Told.{Told, told}
 use Rattle.queue.specs.Told as T
 use Rattle.records.specs.View.{View}
 use Rattle.records.specs.Records.{At}
-use Rattle.queue.specs.Steps.{QueuePolls, popped, handed, nothing, Wakes, sleeps, starts}
+use Rattle.queue.specs.Steps.{QueuePolls, polled, popped, handed, nothing, Wakes, sleeps, starts}
 use Rattle.records.specs.Words.{QueueWords, count, elapsed, markOf, view, Sound}
 use Rattle.records.specs.Laws.{mark-at}
 use Rattle.queue.specs.PollLaws.{pendingIn, pending-is}
@@ -105,11 +105,11 @@ module _ {s : QueueWords} {a : Answer} (W : WakeClaim s a) (S : Sound s) where
 -- nothing to do, where the first slot starts past now
 idle-before : {v : View} {now : ℕ} {x y : Told} {u : View} → v .lists expired ≡ [] → Wakes v x → QueuePolls v now y u
     → ((w : ℕ) → x ≡ T.wake w → now < w) → y ≡ T.none 0 0
-idle-before n W (popped e) f = let z : _≡_ {A = ℕ} 0 1 = cc in absurd (omega arith)
-idle-before n (sleeps E) (handed e P) f = absurd (Option·some-ne-none _ (polls-one P (idle E) .got))
-idle-before n (sleeps E) (nothing e P) f = let R = polls-one P (idle E) in rw (R .moves, R .drains)
-idle-before n (starts F) (handed e P) f = absurd (Option·some-ne-none _ (polls-one P (early F (f _ refl)) .got))
-idle-before n (starts F) (nothing e P) f = let R = polls-one P (early F (f _ refl)) in rw (R .moves, R .drains)
+idle-before n W (handed (popped e)) f = let z : _≡_ {A = ℕ} 0 1 = cc in absurd (omega arith)
+idle-before n (sleeps E) (handed (polled e P)) f = absurd (Option·some-ne-none _ (polls-one P (idle E) .got))
+idle-before n (sleeps E) (nothing (polled e P)) f = let R = polls-one P (idle E) in rw (R .moves, R .drains)
+idle-before n (starts F) (handed (polled e P)) f = absurd (Option·some-ne-none _ (polls-one P (early F (f _ refl)) .got))
+idle-before n (starts F) (nothing (polled e P)) f = let R = polls-one P (early F (f _ refl)) in rw (R .moves, R .drains)
 
 -- and only there
 idle-first : {d : ℕ → ℕ} {now e : ℕ} {L : Lists} {got : Option ℕ} {m n c : ℕ} {M : Lists} → Polls d now e L got m n c M → got ≡ none → n ≡ 0
@@ -121,9 +121,9 @@ idle-first (drain G l D r) g h F = absurd (omega arith)
 
 idle-only : {v : View} {now w : ℕ} {x y : Told} {u : View} → Wakes v x → QueuePolls v now y u → y ≡ T.none 0 0 → x ≡ T.wake w → now < w
 idle-only (sleeps E) P h e = let z : _≡_ {A = ℕ} 0 1 = cc in absurd (omega arith)
-idle-only (starts F) (popped i) h e = let z : _≡_ {A = ℕ} 0 1 = cc in absurd (omega arith)
-idle-only (starts F) (handed i P) h e = let z : _≡_ {A = ℕ} 0 1 = cc in absurd (omega arith)
-idle-only {v} {w = w} (starts {k} {s} F) (nothing {m} {n} i P) h e =
+idle-only (starts F) (handed (popped i)) h e = let z : _≡_ {A = ℕ} 0 1 = cc in absurd (omega arith)
+idle-only (starts F) (handed (polled i P)) h e = let z : _≡_ {A = ℕ} 0 1 = cc in absurd (omega arith)
+idle-only {v} {w = w} (starts {k} {s} F) (nothing {m} {n} (polled i P)) h e =
     let z : n ≡ 0 = cc in
     let q : startAt (v .elapsed) k s ≡ w = cc in
     rw (← q) (idle-first P refl z F)
@@ -146,8 +146,8 @@ isPending s i = ltb (markOf s i) free
 pub pending-exactly : {s : QueueWords} → Sound s → (i : ℕ) → i < count s
     → (isPending s i ≡ true → (p : ℕ) × At (view s) i p) × ((p : ℕ) → At (view s) i p → isPending s i ≡ true)
 pending-exactly {s} S i h = (
-  λ e. let l = ltb-true (markOf s i) free e in (markOf s i, record { timed = l; member = stack.marked-member (S .whole .stack) i h (omega arith) }),
-  λ p a. lt-ltb (markOf s i) free (omega (arith, mark-at S a)),
+  λ e. let l = ltb-true (markOf s i) free e in (markOf s i, record { timed = l; member = stack.marked-member (S .standing .whole .stack) i h (omega arith) }),
+  λ p a. lt-ltb (markOf s i) free (omega (arith, mark-at (S .standing) a)),
 )
 
 -- "`len n`": n is how many of the records 0, .., N - 1 are pending

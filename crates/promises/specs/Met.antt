@@ -24,7 +24,7 @@ use Rattle.queue.specs.declared.Answer.{Answer}
 use Rattle.queue.specs.declared.Answer.the-variants as A
 use Rattle.records.specs.Records.{lastTurn}
 use Rattle.queue.specs.Steps.{sleeps, starts}
-use Rattle.records.specs.Words.{QueueWords, queueWords, count, elapsed, markOf, view, Sound}
+use Rattle.records.specs.Words.{QueueWords, queueWords, count, elapsed, markOf, view, Sound, Standing}
 use Rattle.queue.specs.Calls.{Refused, InsertOn, ResetOn, RemoveOn, PollOn, WakeOn}
 use Rattle.records.specs.Code.{DeadlineNo, no-past, no-far, no-near, no-other, key-names, names-key}
 use Rattle.records.specs.Laws.{LooseAt, CanPlace, PlacesTo, place-push, place-insert, placed-now, placed-later, CanFree, LeavesTo, free-push, freed-last, freed-given}
@@ -122,7 +122,7 @@ insert-on {s} S value when =
     let D = deadline-met (elapsed s) when in
     by-cases (ℕ-discrete (D .0) 0)
     (λ z.
-    let Q = pops-aside (S .whole) free (headAt (s .wheel) free) refl refl (omega arith) in
+    let Q = pops-aside (S .standing .whole) free (headAt (s .wheel) free) refl refl (omega arith) in
     let P = place-met (insert-place S value when d (D .1) z Q) in
     (A.Key _, _, insert-done S value when d (D .1) z Q _ refl (P .2)))
     (λ z. (A.No (D .0), s, insert-refused S value when d (D .1) z)))
@@ -252,7 +252,7 @@ length-met s = answer-met s (λ S. (A.Length (pendingIn (markOf s) (count s)), l
 
 -- ---- clear
 
-pub clear-one : {s : QueueWords} → Sound s → {i : ℕ} → i < count s → (t : QueueWords) × ClearsOne s i t
+pub clear-one : {s : QueueWords} → Standing s → {i : ℕ} → i < count s → (t : QueueWords) × ClearsOne s i t
 clear-one {s} S {i} h =
     by-cases (decLt (markOf s i) free)
     (λ g.
@@ -261,17 +261,17 @@ clear-one {s} S {i} h =
     (_, clear-goes S h g (L .1) (F .2)))
     (λ g. (s, clear-stays S h (omega arith)))
 
-pub clear-first : {s : QueueWords} → Sound s → (k : ℕ) → k ≤ count s → (t : QueueWords) × ClearedSo s k t
+pub clear-first : {s : QueueWords} → Standing s → (k : ℕ) → k ≤ count s → (t : QueueWords) × ClearedSo s k t
 clear-first {s} S zero h = (s, clear-none S)
 clear-first {s} S (suc k) h =
     let m = clear-first S k (omega arith) in
     let C = m .1 in
     let g : k < count (m .0) = omega arith in
-    let o = clear-one (C .sound) g in
+    let o = clear-one (C .standing) g in
     (o .0, subst (λ i. ClearedSo s i (o .0)) (add-one k) (clear-turn C g (o .1)))
 
 pub clear-met : (s : QueueWords) → Met (ClearClaim s)
-clear-met s = judging-met s (λ S. let m = clear-first S (count s) (omega arith) in (A.Done, _, clear-done (m .1) refl))
+clear-met s = judging-met s (λ S. let m = clear-first (S .standing) (count s) (omega arith) in (A.Done, _, clear-done (m .1) refl))
 
 -- ---- poll: the loops of the code, by what is left to drain and to fall
 
@@ -353,7 +353,7 @@ poll-on {s} S time =
     (λ h.
     let g : elapsed s ≤ time = omega arith in
     let item = headAt (s .wheel) expired in
-    let Q = pops-aside (S .whole) expired item refl refl (omega arith) in
+    let Q = pops-aside (S .standing .whole) expired item refl refl (omega arith) in
     by-cases (ℕ-discrete item nobody)
     (λ z.
     let R = wheel-met (wheel-can S time g Q z) in

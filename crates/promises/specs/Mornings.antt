@@ -18,7 +18,7 @@ use Rattle.queue.specs.Told.{Told, told}
 use Rattle.queue.specs.Told as T
 use Rattle.records.specs.View.{View}
 use Rattle.records.specs.Records.{Names, TooFar, OtherBlock, target, placed}
-use Rattle.queue.specs.Steps.{QueuePolls, popped, handed, nothing, Wakes, sleeps, starts}
+use Rattle.queue.specs.Steps.{QueuePolls, polled, popped, handed, nothing, Wakes, sleeps, starts}
 use Rattle.records.specs.Words.{QueueWords, elapsed, view, Sound, upd-same}
 use Rattle.queue.specs.Calls.{Refused}
 use Rattle.delay_queue.specs.Claims.{InsertClaim, ResetClaim, WakeClaim, PollClaim}
@@ -184,9 +184,9 @@ wakes-then : Holds (wakes 0 4101 4096)
 wakes-then s s′ a b value Q I W = let R = inserted Q I in wakes-one (view s′) (Q .item) (R .1) (W .good (R .0) .done)
 
 polls-so : (v : View) (x : ℕ) → Inserted v x → {y : Told} {u : View} → QueuePolls v 4096 y u → (y ≡ T.none 2 2) × (u .elapsed ≡ 4096)
-polls-so v x R (popped e) = absurd (nil≢cons (sym (R .stack) ∙ e))
-polls-so v x R (handed e P) = let A = one-polls (v .deadline) (R .deadline) (R .only) in absurd (Option·some-ne-none _ (polls-one (rw (R .clock) at P) (A .1) .got))
-polls-so v x R (nothing e P) =
+polls-so v x R (handed (popped e)) = absurd (nil≢cons (sym (R .stack) ∙ e))
+polls-so v x R (handed (polled e P)) = let A = one-polls (v .deadline) (R .deadline) (R .only) in absurd (Option·some-ne-none _ (polls-one (rw (R .clock) at P) (A .1) .got))
+polls-so v x R (nothing (polled e P)) =
     let A = one-polls (v .deadline) (R .deadline) (R .only) in
     let S = polls-one (rw (R .clock) at P) (A .1) in
     (rw (S .moves, S .drains), S .elapsed)

@@ -17,8 +17,8 @@ use Rattle.queue.specs.Told.{Told, told}
 use Rattle.queue.specs.Told as T
 use Rattle.records.specs.View.{View}
 use Rattle.records.specs.Records.{At, freed, left}
-use Rattle.queue.specs.Steps.{QueuePolls, popped, handed, nothing, Wakes, sleeps, starts, Clears, begun, kept, gave}
-use Rattle.records.specs.Words.{QueueWords, words, count, elapsed, view, Sound, view-fixed, PastKept}
+use Rattle.queue.specs.Steps.{QueuePolls, polled, popped, handed, nothing, Wakes, sleeps, starts, Clears, begun, kept, gave}
+use Rattle.records.specs.Words.{QueueWords, words, count, elapsed, view, Sound, view-fixed, PastKept, Standing}
 use Rattle.records.specs.Laws.{mark-at, left-size, placed-size, freed-size}
 use Rattle.queue.specs.Calls.{Refused, Answered, InsertOn, ResetOn, RemoveOn, PollOn, ClearOn}
 use Rattle.records.specs.Cases.{by-deadline, by-key}
@@ -165,21 +165,21 @@ module _ {s t t′ : QueueWords} {a a′ : Answer} where
 
 -- what a poll hands out, and the view after it
 queue-polls-one : {v : View} {now : ℕ} {x y : Told} {u w : View} → QueuePolls v now x u → QueuePolls v now y w → (x ≡ y) × (u ≡ w)
-queue-polls-one {v} (popped {r} {l} e) (popped {r = q} {l = k} f) =
+queue-polls-one {v} (handed (popped {r} {l} e)) (handed (popped {r = q} {l = k} f)) =
     let a : r ≡ q = cc in
     let b : l ≡ k = cc in
     (rw a, rw (a, b))
-queue-polls-one (popped e) (handed f P) = absurd (nil≢cons (sym f ∙ e))
-queue-polls-one (popped e) (nothing f P) = absurd (nil≢cons (sym f ∙ e))
-queue-polls-one (handed e P) (popped f) = absurd (nil≢cons (sym e ∙ f))
-queue-polls-one {v} (handed {r} e P) (handed {r = q} f Q) =
+queue-polls-one (handed (popped e)) (handed (polled f P)) = absurd (nil≢cons (sym f ∙ e))
+queue-polls-one (handed (popped e)) (nothing (polled f P)) = absurd (nil≢cons (sym f ∙ e))
+queue-polls-one (handed (polled e P)) (handed (popped f)) = absurd (nil≢cons (sym e ∙ f))
+queue-polls-one {v} (handed {r} (polled e P)) (handed {r = q} (polled f Q)) =
     let S = polls-one P Q in
     let a : r ≡ q = cc in
     (rw (a, S .moves, S .drains), rw (a, S .elapsed, S .lists))
-queue-polls-one (handed e P) (nothing f Q) = absurd (Option·some-ne-none _ (polls-one P Q .got))
-queue-polls-one (nothing e P) (popped f) = absurd (nil≢cons (sym e ∙ f))
-queue-polls-one (nothing e P) (handed f Q) = absurd (Option·some-ne-none _ (polls-one Q P .got))
-queue-polls-one (nothing e P) (nothing f Q) =
+queue-polls-one (handed (polled e P)) (nothing (polled f Q)) = absurd (Option·some-ne-none _ (polls-one P Q .got))
+queue-polls-one (nothing (polled e P)) (handed (popped f)) = absurd (nil≢cons (sym e ∙ f))
+queue-polls-one (nothing (polled e P)) (handed (polled f Q)) = absurd (Option·some-ne-none _ (polls-one Q P .got))
+queue-polls-one (nothing (polled e P)) (nothing (polled f Q)) =
     let S = polls-one P Q in
     (rw (S .moves, S .drains), rw (S .elapsed, S .lists))
 
@@ -233,30 +233,30 @@ format-once {s} {n = n} {turn = turn} C D =
 
 -- ---- clear
 
--- a sound store that has the view u, with as many records as s
-record SoundAt (s : QueueWords) (u : View) : Type 0 where
+-- a store that stands and has the view u, with as many records as s
+record StandsAt (s : QueueWords) (u : View) : Type 0 where
   store : QueueWords
-  sound : Sound store
+  standing : Standing store
   view : view store ≡ u
   size : count store ≡ count s
 
--- it goes by sound stores only, where nobody is in two places
-reached : {s : QueueWords} → Sound s → {k : ℕ} {u : View} → Clears (view s) k u → k ≤ count s → SoundAt s u
-reached {s} S begun h = record { store = s; sound = S; view = refl; size = refl }
+-- it goes by such stores only, where nobody is in two places
+reached : {s : QueueWords} → Standing s → {k : ℕ} {u : View} → Clears (view s) k u → k ≤ count s → StandsAt s u
+reached {s} S begun h = record { store = s; standing = S; view = refl; size = refl }
 reached S (kept r n) h = reached S r (omega arith)
 reached S (gave {k} {p} {u} r a) h =
     let R = reached S r (omega arith) in
     let g : k < count (R .store) = omega arith in
-    let o = clear-one (R .sound) g in
+    let o = clear-one (R .standing) g in
     let G = o .1 .goes p (rw (R .view) a) in
     record {
       store = o .0;
-      sound = G .sound;
+      standing = G .standing;
       view = G .view ∙ ap (λ w. freed k (left p k w)) (R .view);
       size = G .size ∙ R .size;
     }
 
-clears-one : {s : QueueWords} → Sound s → {k : ℕ} {u w : View} → Clears (view s) k u → Clears (view s) k w → k ≤ count s → u ≡ w
+clears-one : {s : QueueWords} → Standing s → {k : ℕ} {u w : View} → Clears (view s) k u → Clears (view s) k w → k ≤ count s → u ≡ w
 clears-one S begun begun h = refl
 clears-one S (kept r n) (kept q m) h = clears-one S r q (omega arith)
 clears-one S (kept r n) (gave {p = p} q b) h = absurd (n p (rw (clears-one S r q (omega arith)) b))
@@ -266,13 +266,13 @@ clears-one S (gave {k} {p} {u} r a) (gave {p = o} {u = w} q b) h =
     let R = reached S r (omega arith) in
     let x : At (view (R .store)) k p = rw (R .view) a in
     let y : At (view (R .store)) k o = rw (R .view, e) b in
-    let f : p ≡ o = sym (mark-at (R .sound) x) ∙ mark-at (R .sound) y in
+    let f : p ≡ o = sym (mark-at (R .standing) x) ∙ mark-at (R .standing) y in
     rw (e, f)
 
 module _ {s t t′ : QueueWords} {a a′ : Answer} where
   clear-on : Sound s → ClearOn s a t → ClearOn s a′ t′ → Same a t a′ t′
   clear-on S C D =
-      let e : C .cleared ≡ D .cleared = clears-one S (C .clears) (D .clears) (omega arith) in
+      let e : C .cleared ≡ D .cleared = clears-one (S .standing) (C .clears) (D .clears) (omega arith) in
       answered-once (clears-size (D .clears)) (rw e at (C .done)) (D .done)
 
   pub clear-once : ClearClaim s a t → ClearClaim s a′ t′ → (a ≡ a′) × (t ≡ t′)

@@ -19,12 +19,12 @@ use Rattle.wheel.specs.Between.{Between, rule-between, place-level}
 use Rattle.wheel.specs.Next.{slot-below, here-below}
 use Rattle.wheel.specs.Drain.{move-rest, drains-law, drain-law}
 use Rattle.queue.specs.declared.Answer.{Answer}
-use Rattle.queue.specs.Told.{Told, told}
+use Rattle.queue.specs.Told.{Told, told, Hands}
 use Rattle.queue.specs.Told as T
 use Rattle.records.specs.View.{View, withElapsed, withLists}
 use Rattle.records.specs.Records.{keyOf, At, Names}
 use Rattle.queue.specs.CallLaws.{names-one}
-use Rattle.queue.specs.Steps.{QueuePolls, popped, handed, nothing}
+use Rattle.queue.specs.Steps.{QueuePolls, polled, popped, handed, nothing}
 use Rattle.records.specs.Words.{QueueWords, elapsed, view, Sound}
 use Rattle.delay_queue.specs.Claims.{PollClaim}
 use Rattle.promises.specs.Polling.{none-out, freed-beside, one-list, key-of-names}
@@ -217,11 +217,11 @@ polls-head {x = x} (drain {k = k} F due D r) p low m one = absurd (rw (F .lowest
 pub record PollOrder (v : View) (x : Told) (u : View) : Type 0 where
   -- "Poll pops the expired stack if it isn't empty: elapsed, moves and drains stay as they are, counted 0": its head goes first
   pub stack : (r : ℕ) (l : List ℕ) → v .lists expired ≡ r ∷ l
-      → (x ≡ T.out (keyOf v r) (v .value r) (v .deadline r) 0 0) × (u .lists expired ≡ l) × (u .elapsed ≡ v .elapsed)
+      → (Hands x (keyOf v r) (v .value r) (v .deadline r) 0 0) × (u .lists expired ≡ l) × (u .elapsed ≡ v .elapsed)
   -- "At level 0 the head is handed out": what lay at level 0 was the head of its slot
-  pub head : (k w d m n r p : ℕ) → x ≡ T.out k w d m n → Names v k r p → p < 64 → (l : List ℕ) × (v .lists p ≡ r ∷ l) × (u .lists p ≡ l)
+  pub head : (k w d m n r p : ℕ) → Hands x k w d m n → Names v k r p → p < 64 → (l : List ℕ) × (v .lists p ≡ r ∷ l) × (u .lists p ≡ l)
   -- what lay in any slot was the first of its equals there, their list reversed once for each level; the others lie at level 0 now, in that order
-  pub equals : (k w d m n r p : ℕ) → x ≡ T.out k w d m n → Names v k r p → p < slots
+  pub equals : (k w d m n r p : ℕ) → Hands x k w d m n → Names v k r p → p < slots
       → (q : ℕ) × (q < 64) × (turned (levelAt p) (ofDeadline (v .deadline) d (v .lists p)) ≡ r ∷ ofDeadline (v .deadline) d (u .lists q))
 
 module _ {s : QueueWords} (S : Sound s) where
@@ -231,7 +231,7 @@ module _ {s : QueueWords} (S : Sound s) where
 
   module _ {now : ℕ} (not-back : elapsed s ≤ now) where
     order-of : {x : Told} {u : View} → QueuePolls (view s) now x u → PollOrder (view s) x u
-    order-of (popped {r} {l} e) =
+    order-of (handed (popped {r} {l} e)) =
         let v = view s in
         let a : At v r expired = record { timed = omega arith; member = rw e (inl refl) } in
         let away : (k w d m n i p : ℕ) → T.out (keyOf v r) (v .value r) (v .deadline r) 0 0 ≡ T.out k w d m n → Names v k i p → p < slots → ⊥
@@ -246,7 +246,7 @@ module _ {s : QueueWords} (S : Sound s) where
           head = λ k w d m n i p is N h. absurd (away k w d m n i p is N (omega arith));
           equals = λ k w d m n i p is N h. absurd (away k w d m n i p is N h);
         }
-    order-of (handed {r} {m} {n} {e} {L} empty P) =
+    order-of (handed {r} {m} {n} (polled {e = e} {L = L} empty P)) =
         let v = view s in
         let B = freed-beside r (withElapsed e (withLists L v)) in
         let O = polls-order (rule-between (S .rule)) P in
@@ -264,7 +264,7 @@ module _ {s : QueueWords} (S : Sound s) where
               let z = names-it a f N in
               (O .slot, O .low, rw (g, ← z .0, ← z .1, B .lists (O .slot) (omega arith)) (O .order));
         }
-    order-of (nothing empty P) =
+    order-of (nothing (polled empty P)) =
         record {
           stack = λ i j f. absurd (nil≢cons (sym empty ∙ f));
           head = λ k w d m n i p is N h. absurd (none-out is);

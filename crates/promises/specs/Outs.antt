@@ -22,7 +22,7 @@ use Rattle.queue.specs.Told as T
 use Rattle.records.specs.View.{View, withElapsed, withLists, withValue, upd}
 use Rattle.records.specs.Records.{keyOf, At, Names, taken, left, target, placed, freed, packed}
 use Rattle.queue.specs.PollLaws.{left-less}
-use Rattle.queue.specs.Steps.{QueuePolls, popped, handed, nothing}
+use Rattle.queue.specs.Steps.{QueuePolls, polled, popped, handed, nothing}
 use Rattle.records.specs.Words.{QueueWords, view, Sound, slices}
 use Rattle.delay_queue.specs.declared.Call.{Call}
 use Rattle.delay_queue.specs.declared.Call.the-variants as C
@@ -119,19 +119,19 @@ module _ {s : QueueWords} (S : Sound s) where
       record { was = λ p a. let b = waits-before P r p (a .timed) (a .member) in (refl, (b .0, record { timed = b .1; member = b .2 })) }
 
   poll-was : {now : ℕ} {x : Told} {w : View} → view s .elapsed ≤ now → QueuePolls (view s) now x w → (r : ℕ) → Was (view s) w r
-  poll-was h (popped {r = i} {l = l} e) r =
+  poll-was h (handed (popped {r = i} {l = l} e)) r =
       let m : Mem i (view s .lists expired) = rw e (inl refl) in
-      let d : Nodup (i ∷ l) = rw e at (stack.list-nodup (S .whole .stack) expired) in
+      let d : Nodup (i ∷ l) = rw e at (stack.list-nodup (S .standing .whole .stack) expired) in
       let u = withLists (change (view s .lists) expired l) (view s) in
       was-then (was-less (view s) u r refl (λ q k. mem-left (view s .lists) expired i l e q r k)) (was-freed i u (moved-out S i expired m l (d .0)) r)
-  poll-was h (handed {r = i} {e = c} {L = L} e P) r =
+  poll-was h (handed {r = i} (polled {e = c} {L = L} e P)) r =
       let R = wheel-promise S e h P in
       was-then (was-wheel R r) (was-freed i (withElapsed c (withLists L (view s))) (handed-out S R) r)
-  poll-was h (nothing e P) r = was-wheel (wheel-promise S e h P) r
+  poll-was h (nothing (polled e P)) r = was-wheel (wheel-promise S e h P) r
 
   named-so : {w : View} {k r p q : ℕ} → Names w k r p → w .turn r ≡ view s .turn r → At (view s) r q → Names (view s) k r q
   named-so {r = r} {q = q} N t a =
-      record { number = N .number; below = stack.member-below (S .whole .stack) q r (a .member); pending = a; turn = sym t ∙ N .turn }
+      record { number = N .number; below = stack.member-below (S .standing .whole .stack) q r (a .member); pending = a; turn = sym t ∙ N .turn }
 
   named-was : {w : View} {k r p : ℕ} → Was (view s) w r → Names w k r p → (q : ℕ) × Names (view s) k r q
   named-was {p = p} F N = let b = F .was p (N .pending) in (b .1 .0, named-so N (b .0) (b .1 .1))

@@ -16,11 +16,11 @@ use Rattle.wheel.specs.Between.{rule-between}
 use Rattle.wheel.specs.Drain.{heights, amount}
 use Rattle.wheel.specs.Poll.{given, Fair, clockAfter, poll-law}
 use Rattle.queue.specs.declared.Answer.{Answer}
-use Rattle.queue.specs.Told.{Told, told}
+use Rattle.queue.specs.Told.{Told, told, Hands}
 use Rattle.queue.specs.Told as T
 use Rattle.records.specs.View.{View, withElapsed, withLists}
 use Rattle.records.specs.Records.{lastTurn, keyOf, At, Names, freed, numberIn}
-use Rattle.queue.specs.Steps.{QueuePolls, popped, handed, nothing, pending}
+use Rattle.queue.specs.Steps.{QueuePolls, polled, popped, handed, nothing, pending}
 use Rattle.records.specs.Words.{QueueWords, elapsed, view, Sound, upd-other}
 use Rattle.delay_queue.specs.Claims.{PollClaim}
 use Rattle.promises.specs.Runs.{movesOf}
@@ -43,7 +43,7 @@ Due v now = (r : ℕ) × IsPending v r × (v .deadline r ≤ now)
 
 -- "`out key value deadline moves drains`", "`none moves drains`"
 abbrev pub SaysOut : Told → Type 0
-SaysOut x = (k w d m n : ℕ) × (x ≡ T.out k w d m n)
+SaysOut x = (k w d m n : ℕ) × (Hands x k w d m n)
 
 abbrev pub SaysNone : Told → Type 0
 SaysNone x = (m n : ℕ) × (x ≡ T.none m n)
@@ -103,7 +103,7 @@ sum-once y (x ∷ l) d =
 module _ {s : QueueWords} (S : Sound s) where
   -- in two lists at once is nobody
   pub one-list : (i p q : ℕ) → Mem i (view s .lists p) → Mem i (view s .lists q) → p ≡ q
-  one-list i p q m k = sym (stack.member-mark (S .whole .stack) p i m) ∙ stack.member-mark (S .whole .stack) q i k
+  one-list i p q m k = sym (stack.member-mark (S .standing .whole .stack) p i m) ∙ stack.member-mark (S .standing .whole .stack) q i k
 
   -- nobody lies twice in all the lists together
   pub lies-once : (y n : ℕ) → total (λ q x. hits y x) n (view s .lists) ≤ 1
@@ -114,12 +114,12 @@ module _ {s : QueueWords} (S : Sound s) where
       (λ h.
       let b = times-lies n (view s .lists) y h in
       omega (arith, lies-once y n, sum-none y (view s .lists n) (λ m. omega (arith, one-list y (b .0) n (b .2) m))))
-      (λ h. omega (arith, sum-once y (view s .lists n) (stack.list-nodup (S .whole .stack) n)))
+      (λ h. omega (arith, sum-once y (view s .lists n) (stack.list-nodup (S .standing .whole .stack) n)))
 
   -- the key of a pending record names it
   pub key-of-names : {r p : ℕ} → At (view s) r p → Names (view s) (keyOf (view s) r) r p
   key-of-names {r} {p} a =
-      let b = stack.member-below (S .whole .stack) p r (a .member) in
+      let b = stack.member-below (S .standing .whole .stack) p r (a .member) in
       record { number = omega arith; below = b; pending = a; turn = omega arith }
 
 -- ---- a record is freed: below the free list nothing changes, and of the words only its turn
@@ -233,7 +233,7 @@ module _ (v : View) (R : Rule (v .deadline) (v .elapsed) (v .lists)) {now : ℕ}
 
   pub poll-works : {x : Told} {u : View} → QueuePolls v now x u → Polled v now x u
   unfolding heights
-  poll-works (popped {r} {l} e) =
+  poll-works (handed (popped {r} {l} e)) =
       let L = change (v .lists) expired l in
       let B = freed-beside r (withLists L v) in
       let M = freed r (withLists L v) .lists in
@@ -257,10 +257,10 @@ module _ (v : View) (R : Rule (v .deadline) (v .elapsed) (v .lists)) {now : ℕ}
         deadline = B .deadline;
         turn = λ y h. B .turn y h;
       }
-  poll-works (handed {r} {e = e} {L = L} empty P) =
+  poll-works (handed {r} (polled {e = e} {L = L} empty P)) =
       let B = freed-beside r (withElapsed e (withLists L v)) in
       by-wheel empty P _ B (λ y h. B .turn y h)
-  poll-works (nothing {e = e} {L = L} empty P) = by-wheel empty P _ (beside-same 0 (withElapsed e (withLists L v))) (λ y h. refl)
+  poll-works (nothing (polled {e = e} {L = L} empty P)) = by-wheel empty P _ (beside-same 0 (withElapsed e (withLists L v))) (λ y h. refl)
 
 -- ---- the promises of one poll
 
@@ -268,12 +268,12 @@ module _ (v : View) (R : Rule (v .deadline) (v .elapsed) (v .lists)) {now : ℕ}
 pub record PollLeast (v : View) (now : ℕ) (x : Told) (u : View) : Type 0 where
   pub hands-out : SaysOut x ↔ Due v now
   pub otherwise : (Due v now → ⊥) → SaysNone x
-  pub out : (k w d m n : ℕ) → x ≡ T.out k w d m n → HandsLeast v now k w d u
+  pub out : (k w d m n : ℕ) → Hands x k w d m n → HandsLeast v now k w d u
   pub rest : (m n : ℕ) → x ≡ T.none m n → AllStay v u
 
 -- "So after a poll that hands out w, elapsed is the larger of e and 64 x floor(w/64)"; "nothing handed out, elapsed becomes now"
 pub record PollClock (v : View) (now : ℕ) (x : Told) (u : View) : Type 0 where
-  pub out : (k w d m n : ℕ) → x ≡ T.out k w d m n → u .elapsed ≡ max (v .elapsed) (64 * (d / 64))
+  pub out : (k w d m n : ℕ) → Hands x k w d m n → u .elapsed ≡ max (v .elapsed) (64 * (d / 64))
   pub rest : (m n : ℕ) → x ≡ T.none m n → u .elapsed ≡ now
 
 -- the drains that an answer reports

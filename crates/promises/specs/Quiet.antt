@@ -16,7 +16,7 @@ use Rattle.queue.specs.declared.Answer.{Answer}
 use Rattle.queue.specs.Told.{Told}
 use Rattle.records.specs.View.{View, withValue, upd}
 use Rattle.records.specs.Records.{taken, target, placed}
-use Rattle.queue.specs.Steps.{QueuePolls, popped, handed, nothing}
+use Rattle.queue.specs.Steps.{QueuePolls, polled, popped, handed, nothing}
 use Rattle.records.specs.Words.{QueueWords, count, elapsed, view, Sound}
 use Rattle.delay_queue.specs.Claims.{InsertClaim, PollClaim}
 use Rattle.promises.specs.Met.{insert-met, poll-met}
@@ -34,9 +34,9 @@ pub record Quiet (s : QueueWords) (e : ℕ) : Type 0 where
 -- a poll takes it to any time
 quiet-polls : {v : View} {now : ℕ} → ((p : ℕ) → p < free → v .lists p ≡ []) → {y : Told} {u : View} → QueuePolls v now y u
     → (u .elapsed ≡ now) × (u .lists ≡ v .lists)
-quiet-polls E (popped e) = absurd (nil≢cons (sym (E expired (omega arith)) ∙ e))
-quiet-polls E (handed e P) = absurd (Option·some-ne-none _ (polls-one P (idle (λ q h. E q (omega arith))) .got))
-quiet-polls E (nothing e P) = let S = polls-one P (idle (λ q h. E q (omega arith))) in (S .elapsed, S .lists)
+quiet-polls E (handed (popped e)) = absurd (nil≢cons (sym (E expired (omega arith)) ∙ e))
+quiet-polls E (handed (polled e P)) = absurd (Option·some-ne-none _ (polls-one P (idle (λ q h. E q (omega arith))) .got))
+quiet-polls E (nothing (polled e P)) = let S = polls-one P (idle (λ q h. E q (omega arith))) in (S .elapsed, S .lists)
 
 pub quiet-poll : {s t : QueueWords} {a : Answer} {e now : ℕ} → Quiet s e → e ≤ now → PollClaim s now a t → Quiet t now
 quiet-poll {s} {t} Q h P =
@@ -61,7 +61,7 @@ one-quiet = record { sound = one-sound; clock = refl; empty = λ p h. by p h (vi
     by : (p : ℕ) → p < free → (l : List ℕ) → view one .lists p ≡ l → view one .lists p ≡ []
     by p h [] e = e
     by p h (x ∷ l) e =
-        let W = one-sound .whole .stack in
+        let W = one-sound .standing .whole .stack in
         let m : Mem x (view one .lists p) = rw e (inl refl) in
         let f : Mem 0 (view one .lists free) = rw one-free (inl refl) in
         let z : x ≡ 0 = omega (arith, stack.member-below W p x m, one-count) in

@@ -13,7 +13,7 @@ use Rattle.queue.specs.declared.Answer.{Answer}
 use Rattle.queue.specs.Told.{Told, told}
 use Rattle.queue.specs.Told as T
 use Rattle.records.specs.View.{View}
-use Rattle.records.specs.Records.{At, Names, TooFar, OtherBlock, Near, numberIn, turnIn}
+use Rattle.records.specs.Records.{At, Names, TooFar, OtherBlock, Takes, numberIn, turnIn}
 use Rattle.records.specs.Words.{QueueWords, count, elapsed, markOf, view, Sound, past-refl, slices, PastKept}
 use Rattle.queue.specs.Calls.{Refused, Answered, InsertOn}
 use Rattle.records.specs.Code.{key-names}
@@ -100,7 +100,7 @@ names-or-dead {s} S key =
     by-cases (ℕ-discrete (at (s .turns) i) (turnIn key))
     (λ t. inr (i, markOf s i, key-names S key (record { number = refl; below = b; pending = m; turn = t })))
     (λ d. inl (stale d)))
-    (λ m. inl (absent (λ p a. m (omega (arith, mark-at S a))))))
+    (λ m. inl (absent (λ p a. m (omega (arith, mark-at (S .standing) a))))))
     (λ b. inl (beyond (omega arith)))
 
 dead-names : {v : View} {key : ℕ} → NoSuchKey v key → (r p : ℕ) → Names v key r p → ⊥
@@ -133,7 +133,7 @@ module _ {s t : QueueWords} {a : Answer} where
 
   -- 4 and 5
   by-when : (w : ℕ) → (TooFar (elapsed s) w → Refused 4 s a t) → (OtherBlock (elapsed s) w → Refused 5 s a t)
-      → (Near (elapsed s) w → Settled (count s) s a t end)
+      → (Takes (elapsed s) w → Settled (count s) s a t end)
       → Settled (count s) s a t (line 4 (TooFar (elapsed s) w) (line 5 (OtherBlock (elapsed s) w) end))
   by-when w f g h =
       by-deadline (elapsed s) w
@@ -141,7 +141,7 @@ module _ {s t : QueueWords} {a : Answer} where
       (λ x. pass (λ y. omega arith) (stop x (g x)))
       (λ x. pass (λ y. far-not y x) (pass (λ y. y .2 (x (y .0))) (h x)))
     where
-      far-not : TooFar (elapsed s) w → Near (elapsed s) w → ⊥
+      far-not : TooFar (elapsed s) w → Takes (elapsed s) w → ⊥
       far-not y x = omega (arith, x (y .0))
 
   format-settled : {n turn : ℕ} → FormatClaim s n turn a t → Settled n s a t (linesOf (C.Format n turn) s)

@@ -15,7 +15,7 @@ use Rattle.wheel.specs.Sums.{total, total-ext, total-more}
 use Rattle.wheel.specs.Drain.{heights}
 use Rattle.queue.specs.declared.Answer.{Answer}
 use Rattle.queue.specs.declared.Answer.the-variants as A
-use Rattle.queue.specs.Told.{told}
+use Rattle.queue.specs.Told.{told, Hands}
 use Rattle.queue.specs.Told as T
 use Rattle.records.specs.View.{withValue, upd}
 use Rattle.records.specs.Records.{keyOf, At, taken, target, placed}
@@ -45,12 +45,12 @@ alone {s} S c p f = by (view s .lists p) refl
     by [] e = e
     by (x ∷ l) e =
         let m : Mem x (view s .lists p) = rw e (inl refl) in
-        let z : x ≡ 0 = omega (arith, stack.member-below (S .whole .stack) p x m) in
+        let z : x ≡ 0 = omega (arith, stack.member-below (S .standing .whole .stack) p x m) in
         absurd (f (rw z at m))
 
 one-empty : (p : ℕ) → p < free → view one .lists p ≡ []
 one-empty p h =
-    let W = one-sound .whole .stack in
+    let W = one-sound .standing .whole .stack in
     let f : Mem 0 (view one .lists free) = rw one-free (inl refl) in
     alone one-sound one-count p (λ m. omega (arith, stack.member-mark W p 0 m, stack.member-mark W free 0 f))
 
@@ -132,14 +132,14 @@ module _ {s : QueueWords} (S : Sound s) (c : count s ≡ 1) {p now : ℕ} (b : A
 
   -- the only timer, due and at height 1, comes out with one move and one drain
   comes-out : heights (view s .lists) ≡ 1 → {a : Answer} {t : QueueWords} → PollClaim s now a t
-      → told a ≡ T.out (keyOf (view s) 0) (view s .value 0) (view s .deadline 0) 1 1
+      → Hands (told a) (keyOf (view s) 0) (view s .value 0) (view s .deadline 0) 1 1
   comes-out high {a} {t} P =
       let L = poll-least S not-back P in
       let o = L .hands-out .1 (0, (p, b), due) in
       by (L .out (o .0) (o .1) (o .2) (o .3) (o .4) (o .5)) (o .5)
     where
-      by : {k w d m n : ℕ} → HandsLeast (view s) now k w d (view t) → told a ≡ T.out k w d m n
-          → told a ≡ T.out (keyOf (view s) 0) (view s .value 0) (view s .deadline 0) 1 1
+      by : {k w d m n : ℕ} → HandsLeast (view s) now k w d (view t) → Hands (told a) k w d m n
+          → Hands (told a) (keyOf (view s) 0) (view s .value 0) (view s .deadline 0) 1 1
       by {k} {w} {d} {m} {n} H is =
           let z : H .timer ≡ 0 = omega arith in
           let t₀ : view s .turn (H .timer) ≡ view s .turn 0 = ap (view s .turn) z in

@@ -18,7 +18,7 @@ use Rattle.queue.specs.declared.Answer.the-variants as A
 use Rattle.queue.specs.Told.{Told, told}
 use Rattle.queue.specs.Told as T
 use Rattle.records.specs.View.{View}
-use Rattle.queue.specs.Steps.{QueuePolls, popped, handed, nothing, Wakes, sleeps, starts}
+use Rattle.queue.specs.Steps.{QueuePolls, polled, popped, handed, nothing, Wakes, sleeps, starts}
 use Rattle.records.specs.Words.{QueueWords, queueWords, words, count, elapsed, view, Sound, past-refl, slices, PastKept}
 use Rattle.queue.specs.Calls.{Refused, Answered, InsertOn, ResetOn, RemoveOn, PollOn}
 use Rattle.delay_queue.specs.declared.Call.{Call}
@@ -99,9 +99,9 @@ left-so : {s t : QueueWords} {a : Answer} → t ≡ s → Ends (count s) s a s �
 left-so {s} {t} {a} e E = rw e E
 
 pub polls-says : {v : View} {now : ℕ} {x : Told} {u : View} → QueuePolls v now x u → isNo x ≡ false
-polls-says (popped e) = refl
-polls-says (handed e P) = refl
-polls-says (nothing e P) = refl
+polls-says (handed (popped e)) = refl
+polls-says (handed (polled e P)) = refl
+polls-says (nothing (polled e P)) = refl
 
 pub wakes-says : {v : View} {x : Told} → Wakes v x → isNo x ≡ false
 wakes-says (sleeps E) = refl

@@ -8,9 +8,9 @@ use Rattle.records.specs.View.{View, withElapsed, withValue, upd}
 use Rattle.records.specs.Records.{keyOf, Names, taken, left, placed, freed}
 use Rattle.records.specs.Words.{QueueWords, view, Sound}
 use Rattle.queue.specs.declared.Answer.{Answer}
-use Rattle.queue.specs.Told.{Told, told}
+use Rattle.queue.specs.Told.{Told, told, Hands}
 use Rattle.queue.specs.Told as T
-use Rattle.queue.specs.Steps.{QueuePolls, popped, handed, nothing, Wakes, sleeps, starts, pending, Clears}
+use Rattle.queue.specs.Steps.{QueuePolls, polled, popped, handed, nothing, Wakes, sleeps, starts, pending, Clears}
 use Rattle.delay_queue.specs.declared.Call.{Call}
 use Rattle.delay_queue.specs.declared.Call.the-variants as C
 use Rattle.delay_queue.specs.Claims.{fresh, CallClaim}
@@ -47,15 +47,15 @@ call-steps c s a t S A = of (does S c A)
 -- ---- who answers so
 
 poll-no-key : {v : View} {now : ℕ} {x : Told} {w : View} → QueuePolls v now x w → {k : ℕ} → x ≡ T.key k → ⊥
-poll-no-key (popped e) z = let y : _≡_ {A = ℕ} 0 1 = cc in omega arith
-poll-no-key (handed e P) z = let y : _≡_ {A = ℕ} 0 1 = cc in omega arith
-poll-no-key (nothing e P) z = let y : _≡_ {A = ℕ} 0 1 = cc in omega arith
+poll-no-key (handed (popped e)) z = let y : _≡_ {A = ℕ} 0 1 = cc in omega arith
+poll-no-key (handed (polled e P)) z = let y : _≡_ {A = ℕ} 0 1 = cc in omega arith
+poll-no-key (nothing (polled e P)) z = let y : _≡_ {A = ℕ} 0 1 = cc in omega arith
 
 wake-no-key : {v : View} {x : Told} → Wakes v x → {k : ℕ} → x ≡ T.key k → ⊥
 wake-no-key (sleeps E) z = let y : _≡_ {A = ℕ} 0 1 = cc in omega arith
 wake-no-key (starts F) z = let y : _≡_ {A = ℕ} 0 1 = cc in omega arith
 
-wake-no-out : {v : View} {x : Told} → Wakes v x → {k a d m n : ℕ} → x ≡ T.out k a d m n → ⊥
+wake-no-out : {v : View} {x : Told} → Wakes v x → {k a d m n : ℕ} → Hands x k a d m n → ⊥
 wake-no-out (sleeps E) z = let y : _≡_ {A = ℕ} 0 1 = cc in omega arith
 wake-no-out (starts F) z = let y : _≡_ {A = ℕ} 0 1 = cc in omega arith
 
@@ -72,7 +72,7 @@ key-inserts counts z = let y : _≡_ {A = ℕ} 0 1 = cc in absurd (omega arith)
 key-inserts (clears r) z = let y : _≡_ {A = ℕ} 0 1 = cc in absurd (omega arith)
 
 -- a timer is handed out by a poll alone
-pub out-polls : {v : View} {c : Call} {x : Told} {w : View} → Steps v c x w → {k a d m n : ℕ} → x ≡ T.out k a d m n
+pub out-polls : {v : View} {c : Call} {x : Told} {w : View} → Steps v c x w → {k a d m n : ℕ} → Hands x k a d m n
     → (now : ℕ) × (v .elapsed ≤ now) × QueuePolls v now x w
 out-polls refuses z = let y : _≡_ {A = ℕ} 0 1 = cc in absurd (omega arith)
 out-polls formats z = let y : _≡_ {A = ℕ} 0 1 = cc in absurd (omega arith)

@@ -13,7 +13,7 @@ use Rattle.links.specs.Count.{bit}
 use Rattle.stack.specs.Places.{free}
 use Rattle.wheel.specs.Sums.{hits, total-le, lies-times}
 use Rattle.wheel.specs.Poll.{given}
-use Rattle.queue.specs.Told.{Told, told}
+use Rattle.queue.specs.Told.{Told, told, Hands}
 use Rattle.queue.specs.Told as T
 use Rattle.records.specs.View.{View}
 use Rattle.records.specs.Records.{keyOf, At, Names, left, freed}
@@ -67,7 +67,7 @@ Some P (x ∷ l) = P x ⊎ Some P l
 
 -- a poll hands out the key k with the value v and the deadline d
 abbrev pub ComesOut : ℕ → ℕ → ℕ → Asked → Type 0
-ComesOut k v d x = (now m n : ℕ) × (x .call ≡ C.Poll now) × (told (x .answer) ≡ T.out k v d m n)
+ComesOut k v d x = (now m n : ℕ) × (x .call ≡ C.Poll now) × (Hands (told (x .answer)) k v d m n)
 
 -- no remove of the key k is accepted
 abbrev pub NotRemoved : ℕ → Asked → Type 0
@@ -113,7 +113,7 @@ counted-one d c x = by (duePoll d c && not (isNo x))
 -- it waits on, and each accepted poll at which it was due has handed out another; or it comes out; or it is removed
 data Went (v : View) (k y d : ℕ) (c : Call) (x : Told) (w : View) : Type 0 where
   waits : Reaches w k y d → pending w + counted d c x ≤ pending v → Went v k y d c x w
-  comes : {now m n : ℕ} → c ≡ C.Poll now → x ≡ T.out k y d m n → Dead w k → Went v k y d c x w
+  comes : {now m n : ℕ} → c ≡ C.Poll now → Hands x k y d m n → Dead w k → Went v k y d c x w
   leaves : c ≡ C.Remove k → isNo x ≡ false → Dead w k → Went v k y d c x w
 
 module _ {s : QueueWords} (S : Sound s) {k y d : ℕ} (R : Reaches (view s) k y d) where

@@ -22,8 +22,17 @@ use Rattle.records.specs.Records.{packed, Names, Near, taken, left, placed, fre
 use Rattle.queue.specs.Steps.{kept}
 use Rattle.records.specs.Words.{QueueWords, queueWords, count, elapsed, markOf, view, Sound, past-then}
 use Rattle.queue.specs.Calls.{Answered, InsertOn, ResetOn, RemoveOn}
-use Rattle.records.specs.Laws.{Goes, LooseAt, goes-taken, goes-valued, can-leave, goes-left, CanPlace, PlacesTo, goes-placed, CanFree, LeavesTo, goes-freed}
+use Rattle.records.specs.Laws.{Stands, Goes, LooseAt, goes-taken, goes-valued, can-leave, goes-left, CanPlace, PlacesTo, goes-placed, CanFree, LeavesTo, goes-freed}
 use Rattle.records.specs.Code.{DeadlineNo, KeyIs, key-names, names-key}
+
+pub stands-then : {s s₁ s₂ : QueueWords} {v : View} (f : View → View) → Stands s v s₁ → Stands s₁ (f (view s₁)) s₂ → Stands s (f v) s₂
+stands-then f G H =
+    record {
+      standing = H .standing;
+      view = H .view ∙ ap f (G .view);
+      size = H .size ∙ G .size;
+      kept = past-then (G .size) (G .kept) (H .kept);
+    }
 
 pub goes-then : {s s₁ s₂ : QueueWords} {v : View} (f : View → View) → Goes s v s₁ → Goes s₁ (f (view s₁)) s₂ → Goes s (f v) s₂
 goes-then f G H =
@@ -44,10 +53,10 @@ module _ {s : QueueWords} (S : Sound s) (value when : ℕ) where
   free-head = sym (head-free (s .wheel .stack .stacks) (s .wheel .stack .heads))
 
   none-free : s .wheel .stack .stacks .free ≡ nobody → view s .lists free ≡ []
-  none-free z = stack.list-empty (S .whole .stack) free (sym free-head ∙ z)
+  none-free z = stack.list-empty (S .standing .whole .stack) free (sym free-head ∙ z)
 
   some-free : s .wheel .stack .stacks .free ≢ nobody → (r : ℕ) × (l : List ℕ) × (view s .lists free ≡ r ∷ l)
-  some-free d = let c = stack.list-cons (S .whole .stack) free (λ z. d (free-head ∙ z)) in (_, c .0, c .1)
+  some-free d = let c = stack.list-cons (S .standing .whole .stack) free (λ z. d (free-head ∙ z)) in (_, c .0, c .1)
 
   -- no record is free
   pub insert-full : s .wheel .stack .stacks .free ≡ nobody → InsertOn s value when (A.No 3) s
@@ -96,7 +105,7 @@ module _ {s : QueueWords} (S : Sound s) (value when : ℕ) where
       insert-words = (
         omega (arith, item-below),
         omega (arith, item-below),
-        S .turns item item-below .1,
+        S .standing .turns item item-below .1,
       )
 
       abbrev s₂ : QueueWords
@@ -109,7 +118,7 @@ module _ {s : QueueWords} (S : Sound s) (value when : ℕ) where
       near = let e : elapsed s₂ ≡ elapsed s = ap (λ v. v .elapsed) (G₂ .view) in rw e (D .taken z)
 
       pub insert-place : CanPlace t (s .deadlines) item when
-      insert-place = record { whole = G₁ .sound .whole; item = loose₁; word = omega (arith, loose₁ .below, G₁ .sound .fits .room .deadlines); near = near }
+      insert-place = record { whole = G₁ .sound .standing .whole; item = loose₁; word = omega (arith, loose₁ .below, G₁ .sound .standing .fits .room .deadlines); near = near }
 
       pub insert-done : (k : ℕ) → k ≡ packed (at (s .turns) item) item → {u : WheelWords} {ds : List ℕ} → PlacesTo t (s .deadlines) item when u ds
           → InsertOn s value when (A.Key k) (queueWords u (set (s .values) item value) ds (s .turns))
@@ -129,13 +138,13 @@ module _ {s : QueueWords} (S : Sound s) (value when : ℕ) where
 -- ---- reset and remove
 
 pub find-room : {s : QueueWords} → Sound s → (count s ≤ length (s .turns)) × (count s ≤ length (s .wheel .stack .links .marks))
-find-room S = (S .fits .room .turns, S .fits .room .links .marks)
+find-room S = (S .standing .fits .room .turns, S .standing .fits .room .links .marks)
 
 -- a key names one record only, in one place
 pub names-one : {s : QueueWords} → Sound s → {key i p j q : ℕ} → Names (view s) key i p → Names (view s) key j q → (i ≡ j) × (p ≡ q)
 names-one {s} S {key} {i} {p} {j} {q} M N =
     let e : i ≡ j = M .number ∙ sym (N .number) in
-    (e, sym (stack.member-mark (S .whole .stack) p i (M .pending .member)) ∙ ap (markOf s) e ∙ stack.member-mark (S .whole .stack) q j (N .pending .member))
+    (e, sym (stack.member-mark (S .standing .whole .stack) p i (M .pending .member)) ∙ ap (markOf s) e ∙ stack.member-mark (S .standing .whole .stack) q j (N .pending .member))
 
 module _ {s : QueueWords} (S : Sound s) (key when : ℕ) where
   -- the key names nobody
@@ -156,7 +165,7 @@ module _ {s : QueueWords} (S : Sound s) (key when : ℕ) where
     M = key-names S key K
 
     pub found-leaves : CanLeave (s .wheel) i
-    found-leaves = can-leave S (M .pending)
+    found-leaves = can-leave (S .standing) (M .pending)
 
     pub found-words : (i < length (s .values)) × (i < length (s .deadlines)) × (i < length (s .turns))
     found-words = (omega arith, omega arith, omega arith)
@@ -179,7 +188,7 @@ module _ {s : QueueWords} (S : Sound s) (key when : ℕ) where
         near-left = let e : t .elapsed ≡ elapsed s = Q .becomes .elapsed in rw e (D .taken z)
 
         pub reset-place : CanPlace t (s .deadlines) i when
-        reset-place = record { whole = H₁ .sound .whole; item = Q .item; word = found-words .1; near = near-left }
+        reset-place = record { whole = H₁ .sound .standing .whole; item = Q .item; word = found-words .1; near = near-left }
 
         pub reset-done : {u : WheelWords} {ds : List ℕ} → PlacesTo t (s .deadlines) i when u ds
             → ResetOn s key when A.Done (queueWords u (s .values) ds (s .turns))
@@ -197,7 +206,7 @@ module _ {s : QueueWords} (S : Sound s) (key when : ℕ) where
       H₃ = goes-left S (M .pending) Q
 
       pub remove-frees : CanFree t (s .turns) i
-      remove-frees = record { whole = H₃ .sound .whole; item = Q .item; word = found-words .2; turn = S .turns i (K .below) .1 }
+      remove-frees = record { whole = H₃ .sound .standing .whole; item = Q .item; word = found-words .2; turn = S .standing .turns i (K .below) .1 }
 
       pub remove-done : (x w : ℕ) → x ≡ at (s .values) i → w ≡ at (s .deadlines) i → {u : WheelWords} {ts : List ℕ} → LeavesTo t (s .turns) i u ts
           → RemoveOn s key (A.Gone x w) (queueWords u (s .values) (s .deadlines) ts)

@@ -6,7 +6,7 @@ use Rattle.stack.specs.Places.{free}
 use Rattle.queue.specs.declared.Answer.{Answer}
 use Rattle.queue.specs.Told.{Told, told, ok, key, gone, len, no}
 use Rattle.records.specs.View.{View, withElapsed, withValue, upd}
-use Rattle.records.specs.Records.{keyOf, Names, TooFar, OtherBlock, Near, taken, left, placed, freed}
+use Rattle.records.specs.Records.{keyOf, Names, TooFar, OtherBlock, Takes, taken, left, placed, freed}
 use Rattle.queue.specs.Steps.{QueuePolls, Wakes, pending, Clears}
 use Rattle.records.specs.Words.{QueueWords, Sound, PastKept, count, view, elapsed}
 
@@ -27,7 +27,7 @@ pub record InsertOn (s : QueueWords) (value when : ℕ) (a : Answer) (s′ : Que
   pub full : view s .lists free ≡ [] → Refused 3 s a s′
   pub far : (r : ℕ) (l : List ℕ) → view s .lists free ≡ r ∷ l → TooFar (elapsed s) when → Refused 4 s a s′
   pub other : (r : ℕ) (l : List ℕ) → view s .lists free ≡ r ∷ l → OtherBlock (elapsed s) when → Refused 5 s a s′
-  pub done : (r : ℕ) (l : List ℕ) → view s .lists free ≡ r ∷ l → Near (elapsed s) when
+  pub done : (r : ℕ) (l : List ℕ) → view s .lists free ≡ r ∷ l → Takes (elapsed s) when
       → Answered s a (key (keyOf (view s) r)) (placed r when (withValue (upd (view s .value) r value) (taken l (view s)))) s′
 
 -- "reset 2, 6, 4, 5"
@@ -35,7 +35,7 @@ pub record ResetOn (s : QueueWords) (k when : ℕ) (a : Answer) (s′ : QueueWor
   pub dead : ((r p : ℕ) → Names (view s) k r p → ⊥) → Refused 6 s a s′
   pub far : (r p : ℕ) → Names (view s) k r p → TooFar (elapsed s) when → Refused 4 s a s′
   pub other : (r p : ℕ) → Names (view s) k r p → OtherBlock (elapsed s) when → Refused 5 s a s′
-  pub done : (r p : ℕ) → Names (view s) k r p → Near (elapsed s) when → Answered s a ok (placed r when (left p r (view s))) s′
+  pub done : (r p : ℕ) → Names (view s) k r p → Takes (elapsed s) when → Answered s a ok (placed r when (left p r (view s))) s′
 
 -- "remove 2, 6"
 pub record RemoveOn (s : QueueWords) (k : ℕ) (a : Answer) (s′ : QueueWords) : Type 0 where

@@ -29,20 +29,20 @@ use Rattle.wheel.specs.Words.{WheelWords, wheelWords, Becomes, Pops, CanLeave, 
 use Rattle.wheel.specs.Turns.{CanPoll, PollsTo, gotten, popped-empty, popped-cons}
 use Rattle.queue.specs.declared.Answer.{Answer}
 use Rattle.queue.specs.declared.Answer.the-variants as A
-use Rattle.queue.specs.Told.{Told, told, out, wake, never}
+use Rattle.queue.specs.Told.{Told, told, Hands, out, wake, never}
 use Rattle.queue.specs.Told as T
 use Rattle.records.specs.View.{View, view-eq, withElapsed, withLists}
 use Rattle.records.specs.Records.{lastTurn, packed, keyOf, At, left, freed}
-use Rattle.queue.specs.Steps.{QueuePolls, popped, handed, nothing, Wakes, sleeps, starts, pending, Clears, begun, kept, gave}
-use Rattle.records.specs.Words.{QueueWords, queueWords, count, elapsed, markOf, view, Sound, PastKept, past-refl, past-then}
+use Rattle.queue.specs.Steps.{TakesOut, popped, polled, QueuePolls, handed, nothing, Wakes, sleeps, starts, pending, Clears, begun, kept, gave}
+use Rattle.records.specs.Words.{QueueWords, queueWords, count, elapsed, markOf, view, Standing, Sound, PastKept, past-refl, past-then}
 use Rattle.queue.specs.Calls.{PollOn, ClearOn}
-use Rattle.records.specs.Laws.{Goes, LooseAt, loose-out, goes-lists, can-leave, mem-without, goes-left, CanFree, LeavesTo, goes-freed, left-size, freed-size}
-use Rattle.queue.specs.CallLaws.{goes-then}
+use Rattle.records.specs.Laws.{Stands, Goes, LooseAt, with-rule, loose-out, stands-lists, can-leave, mem-without, stands-left, CanFree, LeavesTo, stands-freed, goes-freed, left-size, freed-size}
+use Rattle.queue.specs.CallLaws.{stands-then, goes-then}
 
 -- ---- a loose record is handed out and freed
 
 pub record HandsOut (s : QueueWords) (i moves drains : ℕ) (a : Answer) (s′ : QueueWords) : Type 0 where
-  pub told : told a ≡ out (keyOf (view s) i) (view s .value i) (view s .deadline i) moves drains
+  pub told : Hands (told a) (keyOf (view s) i) (view s .value i) (view s .deadline i) moves drains
   pub goes : Goes s (freed i (view s)) s′
 
 module _ {s : QueueWords} (S : Sound s) {i : ℕ} (o : LooseAt s i) where
@@ -51,11 +51,11 @@ module _ {s : QueueWords} (S : Sound s) {i : ℕ} (o : LooseAt s i) where
     omega arith,
     omega arith,
     omega arith,
-    S .turns i (o .below) .1,
+    S .standing .turns i (o .below) .1,
   )
 
   pub out-frees : CanFree (s .wheel) (s .turns) i
-  out-frees = record { whole = S .whole; item = o; word = out-words .2; turn = S .turns i (o .below) .1 }
+  out-frees = record { whole = S .standing .whole; item = o; word = out-words .2; turn = S .standing .turns i (o .below) .1 }
 
   pub out-done : (moves drains : ℕ) {t : WheelWords} {ts : List ℕ} → LeavesTo (s .wheel) (s .turns) i t ts
       → {k : ℕ} → k ≡ packed (at (s .turns) i) i
@@ -69,8 +69,8 @@ module _ {s : QueueWords} (S : Sound s) (time : ℕ) where
   poll-back h = record { back = λ g. record { told = refl; same = refl }; done = λ g. absurd (omega arith) }
 
   module _ (not-back : elapsed s ≤ time) where
-    polled : {a : Answer} {s′ : QueueWords} → Sound s′ → QueuePolls (view s) time (told a) (view s′) → PastKept (count s) s s′ → PollOn s time a s′
-    polled W r K = record { back = λ h. absurd (omega arith); done = λ h. (W, r, K) }
+    ends : {a : Answer} {s′ : QueueWords} → Sound s′ → QueuePolls (view s) time (told a) (view s′) → PastKept (count s) s s′ → PollOn s time a s′
+    ends W r K = record { back = λ h. absurd (omega arith); done = λ h. (W, r, K) }
 
     module _ {item : ℕ} {t : WheelWords} (Q : Pops (s .wheel) expired item t) where
       abbrev s₁ : QueueWords
@@ -79,10 +79,12 @@ module _ {s : QueueWords} (S : Sound s) (time : ℕ) where
       -- the expired stack has a first
       module _ (some : item ≢ nobody) where
         was : (l : List ℕ) × (view s .lists expired ≡ item ∷ l)
-        was = popped-cons (S .whole) Q some
+        was = popped-cons (S .standing .whole) Q some
 
         G₁ : Goes s (withLists (change (view s .lists) expired (was .0)) (view s)) s₁
-        G₁ = goes-lists S (Q .some item (was .0) (was .1) .2) (rule-less (S .rule) (mem-left (view s .lists) expired item (was .0) (was .1)))
+        G₁ =
+            with-rule (stands-lists (S .standing) (Q .some item (was .0) (was .1) .2))
+            (rule-less (S .rule) (mem-left (view s .lists) expired item (was .0) (was .1)))
 
         pub stack-loose : Sound s₁ × LooseAt s₁ item
         stack-loose = (G₁ .sound, Q .some item (was .0) (was .1) .1)
@@ -90,18 +92,18 @@ module _ {s : QueueWords} (S : Sound s) (time : ℕ) where
         pub poll-popped : {a : Answer} {s′ : QueueWords} → HandsOut s₁ item 0 0 a s′ → PollOn s time a s′
         poll-popped {a} {s′} H =
             let G = goes-then (freed item) G₁ (H .goes) in
-            polled (G .sound) (rw (H .told, G .view) (popped (was .1))) (G .kept)
+            ends (G .sound) (rw (H .told, G .view) (handed (popped (was .1)))) (G .kept)
 
       -- it is empty
       module _ (absent : item ≡ nobody) where
         empty : view s .lists expired ≡ []
-        empty = popped-empty (S .whole) Q absent
+        empty = popped-empty (S .standing .whole) Q absent
 
         B : Becomes (s .wheel) (view s .lists) t
         B = Q .none empty .1
 
         G₂ : Goes s (view s) s₁
-        G₂ = goes-lists S B (S .rule)
+        G₂ = with-rule (stands-lists (S .standing) B) (S .rule)
 
         pub wheel-can : CanPoll t (s .deadlines) time
         wheel-can =
@@ -110,7 +112,7 @@ module _ {s : QueueWords} (S : Sound s) (time : ℕ) where
               rule = G₂ .sound .rule;
               stack = ap (λ L. L expired) (B .lists) ∙ empty;
               not-back = omega (arith, B .elapsed);
-              deadlines = G₂ .sound .fits .room .deadlines;
+              deadlines = G₂ .sound .standing .fits .room .deadlines;
             }
 
         module _ {i m n : ℕ} {u : WheelWords} (R : PollsTo (at (s .deadlines)) time t i m n u) where
@@ -124,18 +126,20 @@ module _ {s : QueueWords} (S : Sound s) (time : ℕ) where
           G₃ =
               record {
                 sound = record {
-                  fits = record {
-                    some = omega (arith, size);
-                    few = omega (arith, size);
-                    room = record {
-                      values = omega (arith, size);
-                      deadlines = omega (arith, size);
-                      links = stack.room (R .whole .stack);
-                      turns = omega (arith, size);
+                  standing = record {
+                    fits = record {
+                      some = omega (arith, size);
+                      few = omega (arith, size);
+                      room = record {
+                        values = omega (arith, size);
+                        deadlines = omega (arith, size);
+                        links = stack.room (R .whole .stack);
+                        turns = omega (arith, size);
+                      };
                     };
+                    whole = R .whole;
+                    turns = λ j h. S .standing .turns j (omega (arith, size));
                   };
-                  whole = R .whole;
-                  turns = λ j h. S .turns j (omega (arith, size));
                   rule = R .rule;
                 };
                 view = view-eq size refl refl refl refl refl;
@@ -152,7 +156,7 @@ module _ {s : QueueWords} (S : Sound s) (time : ℕ) where
           polls o e = rw (B .elapsed, B .lists, e) at (R .polls)
 
           pub poll-none : i ≡ nobody → PollOn s time (A.Nothing m n) s₂
-          poll-none z = polled (G₃ .sound) (rw (G₃ .view) (nothing empty (polls none (rw (eq-eqb i nobody z))))) (G₃ .kept)
+          poll-none z = ends (G₃ .sound) (rw (G₃ .view) (nothing (polled empty (polls none (rw (eq-eqb i nobody z)))))) (G₃ .kept)
 
           pub wheel-loose : i ≢ nobody → Sound s₂ × LooseAt s₂ i
           wheel-loose d = (G₃ .sound, R .loose d)
@@ -160,7 +164,7 @@ module _ {s : QueueWords} (S : Sound s) (time : ℕ) where
           pub poll-handed : i ≢ nobody → {a : Answer} {s′ : QueueWords} → HandsOut s₂ i m n a s′ → PollOn s time a s′
           poll-handed d {a} {s′} H =
               let G = goes-then (freed i) G₃ (H .goes) in
-              polled (G .sound) (rw (H .told, G .view) (handed empty (polls (some i) (rw (ne-eqb i nobody d))))) (G .kept)
+              ends (G .sound) (rw (H .told, G .view) (handed (polled empty (polls (some i) (rw (ne-eqb i nobody d)))))) (G .kept)
 
 -- ---- next wake
 
@@ -194,7 +198,7 @@ pub pending-is : {s : QueueWords} → Sound s → pendingIn (markOf s) (count s)
 unfolding pendingIn pending
 pending-is {s} S =
     let L = view s .lists in
-    let W = S .whole .stack in
+    let W = S .standing .whole .stack in
     let c = cat L free 0 in
     let below : (i : ℕ) → Mem i c → i < count s = λ i m. let r = mem-cat L free 0 i m in stack.member-below W (r .0) i (r .3) in
     let same : (i : ℕ) → i < count s → ltb (markOf s i) free ≡ elem i c
@@ -221,14 +225,14 @@ pending-is {s} S =
 -- a record that is pending leaves; another stays
 pub record ClearsOne (s : QueueWords) (i : ℕ) (s′ : QueueWords) : Type 0 where
   pub stays : ((p : ℕ) → At (view s) i p → ⊥) → s′ ≡ s
-  pub goes : (p : ℕ) → At (view s) i p → Goes s (freed i (left p i (view s))) s′
+  pub goes : (p : ℕ) → At (view s) i p → Stands s (freed i (left p i (view s))) s′
   pub gone : (p : ℕ) → At (view s′) i p → ⊥
   pub others : (j p : ℕ) → At (view s′) j p → At (view s) j p
-  pub sound : Sound s′
+  pub standing : Standing s′
   pub size : count s′ ≡ count s
   pub kept : PastKept (count s) s s′
 
-at-mark : {s : QueueWords} → Sound s → {i : ℕ} → i < count s → markOf s i < free → At (view s) i (markOf s i)
+at-mark : {s : QueueWords} → Standing s → {i : ℕ} → i < count s → markOf s i < free → At (view s) i (markOf s i)
 at-mark S {i} h g = record { timed = g; member = stack.marked-member (S .whole .stack) i h (omega arith) }
 
 -- in a slot or on the expired stack after it, and so before it
@@ -245,7 +249,7 @@ pub left-less : (p i : ℕ) (v : View) (q x : ℕ) → Mem x (left p i v .lists 
 unfolding left
 left-less p i v q x m = ⊎-elim (λ a. rw (a .0) (mem-without i x (v .lists p) (a .1))) (λ a. a .1) (mem-change (v .lists) p (without i (v .lists p)) q x m)
 
-module _ {s : QueueWords} (S : Sound s) {i : ℕ} (h : i < count s) where
+module _ {s : QueueWords} (S : Standing s) {i : ℕ} (h : i < count s) where
   pub clear-stays : free ≤ markOf s i → ClearsOne s i s
   clear-stays g =
       let out : (p : ℕ) → At (view s) i p → ⊥ = λ p a. omega (arith, stack.member-mark (S .whole .stack) p i (a .member)) in
@@ -254,7 +258,7 @@ module _ {s : QueueWords} (S : Sound s) {i : ℕ} (h : i < count s) where
         goes = λ p a. absurd (out p a);
         gone = out;
         others = λ j p a. a;
-        sound = S;
+        standing = S;
         size = refl;
         kept = past-refl (count s) s;
       }
@@ -267,45 +271,45 @@ module _ {s : QueueWords} (S : Sound s) {i : ℕ} (h : i < count s) where
       abbrev s₃ : QueueWords
       s₃ = queueWords t (s .values) (s .deadlines) (s .turns)
 
-      G₄ : Goes s (left (markOf s i) i (view s)) s₃
-      G₄ = goes-left S (at-mark S h g) Q
+      G₄ : Stands s (left (markOf s i) i (view s)) s₃
+      G₄ = stands-left S (at-mark S h g) Q
 
       pub clear-frees : CanFree t (s .turns) i
-      clear-frees = record { whole = G₄ .sound .whole; item = Q .item; word = omega arith; turn = S .turns i h .1 }
+      clear-frees = record { whole = G₄ .standing .whole; item = Q .item; word = omega arith; turn = S .turns i h .1 }
 
       pub clear-goes : {u : WheelWords} {ts : List ℕ} → LeavesTo t (s .turns) i u ts → ClearsOne s i (queueWords u (s .values) (s .deadlines) ts)
       clear-goes {u} {ts} P =
-          let H = goes-freed (G₄ .sound) (Q .item) P in
-          let G = goes-then (freed i) G₄ H in
+          let H = stands-freed (G₄ .standing) (Q .item) P in
+          let G = stands-then (freed i) G₄ H in
           let before : (j p : ℕ) → At (view (queueWords u (s .values) (s .deadlines) ts)) j p → At (view s₃) j p
           = λ j p a. freed-at i (view s₃) j p (rw (H .view) at a) in
           record {
             stays = λ f. absurd (f (markOf s i) (at-mark S h g));
             goes = λ p a. let e : markOf s i ≡ p = stack.member-mark (S .whole .stack) p i (a .member) in rw (← e) G;
-            gone = λ p a. loose-out (G₄ .sound) (Q .item) p (before i p a .member);
+            gone = λ p a. loose-out (G₄ .standing) (Q .item) p (before i p a .member);
             others = λ j p a.
                 let b = rw (G₄ .view) at (before j p a) in
                 record { timed = b .timed; member = left-less (markOf s i) i (view s) p j (b .member) };
-            sound = G .sound;
+            standing = G .standing;
             size = G .size;
             kept = G .kept;
           }
 
 -- the first i records are done
 pub record ClearedSo (s : QueueWords) (i : ℕ) (s′ : QueueWords) : Type 0 where
-  pub sound : Sound s′
+  pub standing : Standing s′
   pub size : count s′ ≡ count s
   pub kept : PastKept (count s) s s′
   pub clears : Clears (view s) i (view s′)
   pub gone : (j : ℕ) → j < i → (p : ℕ) → At (view s′) j p → ⊥
 
-pub clear-none : {s : QueueWords} → Sound s → ClearedSo s 0 s
-clear-none {s} S = record { sound = S; size = refl; kept = past-refl (count s) s; clears = begun; gone = λ j h. absurd (omega arith) }
+pub clear-none : {s : QueueWords} → Standing s → ClearedSo s 0 s
+clear-none {s} S = record { standing = S; size = refl; kept = past-refl (count s) s; clears = begun; gone = λ j h. absurd (omega arith) }
 
 pub clear-turn : {s s₁ s₂ : QueueWords} {i : ℕ} → ClearedSo s i s₁ → i < count s₁ → ClearsOne s₁ i s₂ → ClearedSo s (i + 1) s₂
 clear-turn {s} {s₁} {s₂} {i} C h Q =
     record {
-      sound = Q .sound;
+      standing = Q .standing;
       size = Q .size ∙ C .size;
       kept = past-then (C .size) (C .kept) (Q .kept);
       clears = rw (add-one i) (by (decLt (markOf s₁ i) free));
@@ -313,16 +317,16 @@ clear-turn {s} {s₁} {s₂} {i} C h Q =
     }
   where
     by : Dec (markOf s₁ i < free) → Clears (view s) (suc i) (view s₂)
-    by (yes g) = let a = at-mark (C .sound) h g in rw (Q .goes (markOf s₁ i) a .view) (gave (C .clears) a)
+    by (yes g) = let a = at-mark (C .standing) h g in rw (Q .goes (markOf s₁ i) a .view) (gave (C .clears) a)
     by (no g) =
-        let out : (p : ℕ) → At (view s₁) i p → ⊥ = λ p a. g (omega (arith, stack.member-mark (C .sound .whole .stack) p i (a .member))) in
+        let out : (p : ℕ) → At (view s₁) i p → ⊥ = λ p a. g (omega (arith, stack.member-mark (C .standing .whole .stack) p i (a .member))) in
         rw (Q .stays out) (kept (C .clears) out)
 
 -- nobody is pending, and elapsed is 0
 pub clear-done : {s s₁ : QueueWords} {i : ℕ} → ClearedSo s i s₁ → i ≡ count s
     → ClearOn s A.Done (queueWords (wheelWords 0 (s₁ .wheel .occupied) (s₁ .wheel .stack)) (s₁ .values) (s₁ .deadlines) (s₁ .turns))
 clear-done {s} {s₁} {i} C e =
-    let S = C .sound in
+    let S = C .standing in
     let out : (p x : ℕ) → p < free → Mem x (view s₁ .lists p) → ⊥
     = λ p x h m. C .gone x (omega (arith, stack.member-below (S .whole .stack) p x m)) p (record { timed = h; member = m }) in
     record {
@@ -331,18 +335,20 @@ clear-done {s} {s₁} {i} C e =
       done = record {
         told = refl;
         sound = record {
-          fits = record {
-            some = S .fits .some;
-            few = S .fits .few;
-            room = record {
-              values = S .fits .room .values;
-              deadlines = S .fits .room .deadlines;
-              links = S .fits .room .links;
-              turns = S .fits .room .turns;
+          standing = record {
+            fits = record {
+              some = S .fits .some;
+              few = S .fits .few;
+              room = record {
+                values = S .fits .room .values;
+                deadlines = S .fits .room .deadlines;
+                links = S .fits .room .links;
+                turns = S .fits .room .turns;
+              };
             };
+            whole = record { stack = S .whole .stack; rows = S .whole .rows };
+            turns = S .turns;
           };
-          whole = record { stack = S .whole .stack; rows = S .whole .rows };
-          turns = S .turns;
           rule = record { wheel = λ p x h m. absurd (out p x (omega arith) m); stack = λ x m. absurd (out expired x (omega arith) m) };
         };
         view = refl;
@@ -352,10 +358,13 @@ clear-done {s} {s₁} {i} C e =
 
 -- ---- there are as many records as before
 
+takes-size : {v : View} {now : ℕ} {got : Option ℕ} {m n : ℕ} {u : View} → TakesOut v now got m n u → u .n ≡ v .n
+takes-size (popped e) = refl
+takes-size (polled e P) = refl
+
 pub polls-size : {v : View} {now : ℕ} {x : Told} {u : View} → QueuePolls v now x u → u .n ≡ v .n
-polls-size {v} (popped {r = r} {l = l} e) = freed-size r (withLists (change (v .lists) expired l) v)
-polls-size {v} (handed {r = r} {e = c} {L = L} e P) = freed-size r (withElapsed c (withLists L v))
-polls-size (nothing e P) = refl
+polls-size (handed {r} {u = w} T) = freed-size r w ∙ takes-size T
+polls-size (nothing T) = takes-size T
 
 pub clears-size : {v : View} {k : ℕ} {u : View} → Clears v k u → u .n ≡ v .n
 clears-size begun = refl

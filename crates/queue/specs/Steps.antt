@@ -1,7 +1,7 @@
 -- What poll, next wake, length and clear make of a view, in document 01's words. What stands between quotation marks is its text.
 use mathlib.Core.Path.{_≡_}
 use mathlib.Core.List.{List, [], _∷_}
-use mathlib.Core.Option.{none, some}
+use mathlib.Core.Option.{Option, none, some}
 use Prim.Native.Nat.{ℕ, suc}
 use Rattle.times.specs.Times.{startAt}
 use Rattle.links.specs.Lists.{change}
@@ -13,14 +13,18 @@ use Rattle.records.specs.Records.{keyOf, At, left, freed}
 use Rattle.queue.specs.Told.{Told, out, wake, never}
 use Rattle.queue.specs.Told as T
 
--- "Poll pops the expired stack if it isn't empty: elapsed, moves and drains stay as they are, counted 0. Otherwise .." the wheel is polled
+-- "Poll pops the expired stack if it isn't empty: elapsed, moves and drains stay as they are, counted 0. Otherwise .." the wheel is polled: who is
+-- taken out, if anybody, the moves, the drains, and the view with that record in no list
+pub data TakesOut (v : View) (now : ℕ) : Option ℕ → ℕ → ℕ → View → Type 0 where
+  popped : {r : ℕ} {l : List ℕ} → v .lists expired ≡ r ∷ l → TakesOut v now (some r) 0 0 (withLists (change (v .lists) expired l) v)
+  polled : {got : Option ℕ} {m n e : ℕ} {L : Lists} → v .lists expired ≡ [] → Polls (v .deadline) now (v .elapsed) (v .lists) got m n e L
+      → TakesOut v now got m n (withElapsed e (withLists L v))
+
+-- what becomes of it: a record that is handed out is freed
 pub data QueuePolls (v : View) (now : ℕ) : Told → View → Type 0 where
-  popped : {r : ℕ} {l : List ℕ} → v .lists expired ≡ r ∷ l
-      → QueuePolls v now (out (keyOf v r) (v .value r) (v .deadline r) 0 0) (freed r (withLists (change (v .lists) expired l) v))
-  handed : {r m n e : ℕ} {L : Lists} → v .lists expired ≡ [] → Polls (v .deadline) now (v .elapsed) (v .lists) (some r) m n e L
-      → QueuePolls v now (out (keyOf v r) (v .value r) (v .deadline r) m n) (freed r (withElapsed e (withLists L v)))
-  nothing : {m n e : ℕ} {L : Lists} → v .lists expired ≡ [] → Polls (v .deadline) now (v .elapsed) (v .lists) none m n e L
-      → QueuePolls v now (T.none m n) (withElapsed e (withLists L v))
+  handed : {r m n : ℕ} {u : View} → TakesOut v now (some r) m n u
+      → QueuePolls v now (out (keyOf v r) (v .value r) (v .deadline r) m n) (freed r u)
+  nothing : {m n : ℕ} {u : View} → TakesOut v now none m n u → QueuePolls v now (T.none m n) u
 
 -- "Next wake is `poll_at`: nothing for an empty wheel, else the start of the first slot as above."
 pub data Wakes (v : View) : Told → Type 0 where

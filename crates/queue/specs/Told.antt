@@ -1,4 +1,5 @@
 -- An answer in document 01's words: its number, and its values.
+use mathlib.Core.Path.{_≡_}
 use Prim.Native.Nat.{ℕ}
 use Rattle.queue.specs.declared.Answer.{Answer}
 use Rattle.queue.specs.declared.Answer.the-variants as A
@@ -26,3 +27,7 @@ told (A.Wake t) = wake t
 told A.NoWake = never
 told (A.Length n) = len n
 told (A.No n) = no n
+
+-- the answer hands out this key, value and deadline, with these moves and drains
+abbrev pub Hands : Told → ℕ → ℕ → ℕ → ℕ → ℕ → Type 0
+Hands x k v d moves drains = x ≡ out k v d moves drains

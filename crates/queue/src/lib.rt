@@ -3,7 +3,7 @@ ghost use mathlib.Core.Path.{_≡_};
 ghost use Prim.Native.Nat.{_≤_, _<_};
 ghost use lib.ListN.{length};
 ghost use Rattle.lent.specs.Lent.{old};
-ghost use Rattle.records.specs.Words.{lent, before, after, count, Sound};
+ghost use Rattle.records.specs.Words.{lent, before, after, count, Standing, Sound};
 ghost use Rattle.queue.specs.Calls.{InsertOn, ResetOn, RemoveOn, PollOn, ClearOn};
 ghost use Rattle.records.specs.Laws.{LooseAt};
 ghost use Rattle.queue.specs.PollLaws.{HandsOut, pendingIn, ClearsOne};
@@ -324,7 +324,7 @@ fn clear_one(
     marks: &mut [u16],
     item: u16,
 )
-    requires { ⌜ Sound (lent elapsed rows tops heads values deadlines nexts prevs turns marks) ⌝ }
+    requires { ⌜ Standing (lent elapsed rows tops heads values deadlines nexts prevs turns marks) ⌝ }
     requires { ⌜ item < count (lent elapsed rows tops heads values deadlines nexts prevs turns marks) ⌝ }
     ensures { λ _. ⌜
         ClearsOne (before elapsed rows tops heads values deadlines nexts prevs turns marks)
@@ -350,7 +350,7 @@ pub fn clear(
     turns: &mut [u64],
     marks: &mut [u16],
 ) -> Answer
-    requires { ⌜ Sound (lent elapsed rows tops heads values deadlines nexts prevs turns marks) ⌝ }
+    requires { ⌜ Standing (lent elapsed rows tops heads values deadlines nexts prevs turns marks) ⌝ }
     ensures { λ r. ⌜
         ClearOn (before elapsed rows tops heads values deadlines nexts prevs turns marks)
         r (after 0 rows tops heads values deadlines nexts prevs turns marks) ⌝ }

@@ -1,4 +1,4 @@
--- The cases of the table, none left out: a deadline is too far, in another block, or near; a key names a record or it does not.
+-- The cases of the table, none left out: a deadline is too far, in another block, or taken; a key names a record or it does not.
 use mathlib.Core.Path.{refl}
 use mathlib.Core.Logic.{by-cases}
 use Prim.Native.Nat.{ℕ, _-_}
@@ -7,11 +7,11 @@ use native.Mathlib.Omega.{arith}
 use Rattle.times.specs.Times.{maxDuration, block}
 use Rattle.links.specs.Links.{at}
 use Rattle.stack.specs.Places.{free}
-use Rattle.records.specs.Records.{turnIn, numberIn, Names, TooFar, OtherBlock, Near}
+use Rattle.records.specs.Records.{turnIn, numberIn, Names, TooFar, OtherBlock, Takes}
 use Rattle.records.specs.Words.{QueueWords, count, markOf, view, Sound}
 use Rattle.records.specs.Code.{key-names, names-key, find-turn}
 
-pub by-deadline : {P : Type 0} (e w : ℕ) → (TooFar e w → P) → (OtherBlock e w → P) → (Near e w → P) → P
+pub by-deadline : {P : Type 0} (e w : ℕ) → (TooFar e w → P) → (OtherBlock e w → P) → (Takes e w → P) → P
 by-deadline e w f g h =
     by-cases (decLt e w)
     (λ l.

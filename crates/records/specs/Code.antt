@@ -15,17 +15,17 @@ use Rattle.stack.specs.Asked.{not-below, is-below}
 use Rattle.stack.specs.Laws as stack
 use Rattle.records.specs.declared.Found.{Found}
 use Rattle.records.specs.declared.Found.the-variants as F
-use Rattle.records.specs.Records.{turnIn, numberIn, At, Names, TooFar, OtherBlock, Near}
+use Rattle.records.specs.Records.{turnIn, numberIn, At, Names, TooFar, OtherBlock, Takes}
 use Rattle.records.specs.Words.{QueueWords, count, markOf, view, Sound}
 
 -- ---- refusals 4 and 5
 
--- 4 where the deadline is too far, 5 where it lies in another block, and 0 just where it is near
+-- 4 where the deadline is too far, 5 where it lies in another block, and 0 just where it is taken
 pub record DeadlineNo (e w r : ℕ) : Type 0 where
   pub far : TooFar e w → r ≡ 4
   pub other : OtherBlock e w → r ≡ 5
-  pub near : Near e w → r ≡ 0
-  pub taken : r ≡ 0 → Near e w
+  pub near : Takes e w → r ≡ 0
+  pub taken : r ≡ 0 → Takes e w
 
 module _ (e w : ℕ) where
   pub no-past : w ≤ e → DeadlineNo e w 0
@@ -68,7 +68,7 @@ module _ {s : QueueWords} (S : Sound s) (key : ℕ) where
       record {
         number = K .number;
         below = K .below;
-        pending = record { timed = K .pending; member = stack.marked-member (S .whole .stack) i (K .below) (omega (arith, K .pending)) };
+        pending = record { timed = K .pending; member = stack.marked-member (S .standing .whole .stack) i (K .below) (omega (arith, K .pending)) };
         turn = K .turn;
       }
 
@@ -77,7 +77,7 @@ module _ {s : QueueWords} (S : Sound s) (key : ℕ) where
       record {
         number = N .number;
         below = N .below;
-        pending = omega (arith, stack.member-mark (S .whole .stack) p i (N .pending .member), N .pending .timed);
+        pending = omega (arith, stack.member-mark (S .standing .whole .stack) p i (N .pending .member), N .pending .timed);
         turn = N .turn;
       }
 

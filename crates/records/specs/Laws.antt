@@ -1,6 +1,6 @@
 -- One record at a time: taken from the free list, given a value, placed, unlinked, freed. Each takes a sound store to a sound store, and its view to what
--- document 01 makes of it. A record on its way is in no list, as a retired one is.
-use mathlib.Core.Path.{_≡_, refl, sym, ap, _∙_}
+-- document 01 makes of it; unlinked and freed also where the store only stands. A record on its way is in no list, as a retired one is.
+use mathlib.Core.Path.{_≡_, refl, sym, ap, _∙_, subst}
 use mathlib.Core.Logic.{_≢_, inl, inr, ⊎-elim, by-cases}
 use mathlib.Core.List.{List, [], _∷_}
 use Prim.Native.Nat.{ℕ, _+_, _^_, _≤_, _<_, max}
@@ -23,31 +23,47 @@ use Rattle.wheel.specs.Words.{WheelWords, WheelWhole, Becomes, LooseIn, CanPush
 use Rattle.wheel.specs.Turns.{CanInsert}
 use Rattle.records.specs.View.{View, viewOf, view-eq, withLists, withValue, upd}
 use Rattle.records.specs.Records.{lastTurn, At, Near, taken, left, target, placed, freed}
-use Rattle.records.specs.Words.{QueueWords, queueWords, count, elapsed, markOf, view, Sound, PastKept, past-refl, upd-same, upd-other, at-set}
+use Rattle.records.specs.Words.{QueueWords, queueWords, count, elapsed, markOf, view, Standing, Sound, PastKept, past-refl, upd-same, upd-other, at-set}
 
--- the store is sound and has the view v now, N and words past it are kept
+-- the store stands and has the view v now, N and words past it are kept
+pub record Stands (s : QueueWords) (v : View) (s′ : QueueWords) : Type 0 where
+  pub standing : Standing s′
+  pub view : view s′ ≡ v
+  pub size : count s′ ≡ count s
+  pub kept : PastKept (count s) s s′
+
+-- and it is sound
 pub record Goes (s : QueueWords) (v : View) (s′ : QueueWords) : Type 0 where
   pub sound : Sound s′
   pub view : view s′ ≡ v
   pub size : count s′ ≡ count s
   pub kept : PastKept (count s) s s′
 
+pub with-rule : {s s′ : QueueWords} {v : View} → Stands s v s′ → Rule (v .deadline) (v .elapsed) (v .lists) → Goes s v s′
+with-rule P R =
+    record {
+      sound = record { standing = P .standing; rule = subst (λ (u : View). Rule (u .deadline) (u .elapsed) (u .lists)) (sym (P .view)) R };
+      view = P .view;
+      size = P .size;
+      kept = P .kept;
+    }
+
 -- the record i is there and in no list
 abbrev pub LooseAt : QueueWords → ℕ → Type 0
 LooseAt s i = LooseIn (s .wheel) i
 
-pub loose-out : {s : QueueWords} → Sound s → {i : ℕ} → LooseAt s i → (p : ℕ) → Mem i (view s .lists p) → ⊥
+pub loose-out : {s : QueueWords} → Standing s → {i : ℕ} → LooseAt s i → (p : ℕ) → Mem i (view s .lists p) → ⊥
 loose-out S {i} o p m =
     omega (arith, stack.member-mark (S .whole .stack) p i m, stack.member-place (S .whole .stack) p i m)
 
--- ---- the lists and the words of the records change: what is left to show is that turns are in range, and the rule
+-- ---- the lists and the words of the records change: what is left to show is that turns are in range
 
-goes : {s : QueueWords} → Sound s → {L : Lists} {t : WheelWords} → Becomes (s .wheel) L t → {vs ds ts : List ℕ} → Kept (count s) (s .values) vs
+stands : {s : QueueWords} → Standing s → {L : Lists} {t : WheelWords} → Becomes (s .wheel) L t → {vs ds ts : List ℕ} → Kept (count s) (s .values) vs
     → Kept (count s) (s .deadlines) ds → Kept (count s) (s .turns) ts → {v d k : ℕ → ℕ} → at vs ≡ v → at ds ≡ d → at ts ≡ k
-    → ((i : ℕ) → i < count s → (0 < k i) × (k i < 2 ^ 48)) → Rule d (elapsed s) L → Goes s (viewOf (count s) (elapsed s) L v d k) (queueWords t vs ds ts)
-goes S B vals dues terms ev ed et turns R =
+    → ((i : ℕ) → i < count s → (0 < k i) × (k i < 2 ^ 48)) → Stands s (viewOf (count s) (elapsed s) L v d k) (queueWords t vs ds ts)
+stands S B vals dues terms ev ed et turns =
     record {
-      sound = record {
+      standing = record {
         fits = record {
           some = omega arith;
           few = omega arith;
@@ -55,20 +71,16 @@ goes S B vals dues terms ev ed et turns R =
         };
         whole = B .whole;
         turns = λ i h. rw (ap (λ f. f i) et) (turns i (omega arith));
-        rule = rw (ed, B .elapsed, B .lists) R;
       };
       view = view-eq (B .kept .size) (B .elapsed) (B .lists) ev ed et;
       size = B .kept .size;
       kept = record { links = B .kept .links; values = vals; deadlines = dues; turns = terms };
     }
 
--- the lists change, and nothing else: the rule follows from the lists below the free one
-module _ {s : QueueWords} (S : Sound s) {L : Lists} {t : WheelWords} (B : Becomes (s .wheel) L t) where
-  abbrev shifted : QueueWords
-  shifted = queueWords t (s .values) (s .deadlines) (s .turns)
-
-  pub goes-lists : Rule (at (s .deadlines)) (elapsed s) L → Goes s (withLists L (view s)) shifted
-  goes-lists R = goes S B (kept-refl _ _) (kept-refl _ _) (kept-refl _ _) refl refl refl (S .turns) R
+-- the lists change, and nothing else
+pub stands-lists : {s : QueueWords} → Standing s → {L : Lists} {t : WheelWords} → Becomes (s .wheel) L t
+    → Stands s (withLists L (view s)) (queueWords t (s .values) (s .deadlines) (s .turns))
+stands-lists S B = stands S B (kept-refl _ _) (kept-refl _ _) (kept-refl _ _) refl refl refl (S .turns)
 
 -- the rule looks at slots and the expired stack alone
 rule-beside : {d : ℕ → ℕ} {e : ℕ} {L : Lists} → Rule d e L → (l : List ℕ) → Rule d e (change L free l)
@@ -82,22 +94,26 @@ rule-beside {d} {e} {L} R l =
 
 pub goes-taken : {s : QueueWords} (S : Sound s) (l : List ℕ) {t : WheelWords} → Becomes (s .wheel) (change (view s .lists) free l) t
     → Goes s (taken l (view s)) (queueWords t (s .values) (s .deadlines) (s .turns))
-goes-taken S l B = goes-lists S B (rule-beside (S .rule) l)
+goes-taken S l B = with-rule (stands-lists (S .standing) B) (rule-beside (S .rule) l)
 
 -- ---- given a value
 
 pub goes-valued : {s : QueueWords} → Sound s → (i x : ℕ) → i < count s
     → Goes s (withValue (upd (view s .value) i x) (view s)) (queueWords (s .wheel) (set (s .values) i x) (s .deadlines) (s .turns))
 goes-valued {s} S i x h =
-    goes S (record { whole = S .whole; lists = refl; elapsed = refl; kept = stack.kept-refl (s .wheel .stack) }) (kept-set (count s) (s .values) i x h) (kept-refl _ _) (kept-refl _ _)
-    (at-set (s .values) i x (omega arith)) refl refl (S .turns) (S .rule)
+    let T = S .standing in
+    let same : Becomes (s .wheel) (view s .lists) (s .wheel)
+    = record { whole = T .whole; lists = refl; elapsed = refl; kept = stack.kept-refl (s .wheel .stack) } in
+    with-rule
+    (stands T same (kept-set (count s) (s .values) i x h) (kept-refl _ _) (kept-refl _ _) (at-set (s .values) i x (omega arith)) refl refl (T .turns))
+    (S .rule)
 
 -- ---- unlinked from the list of p
 
-pub mark-at : {s : QueueWords} → Sound s → {i p : ℕ} → At (view s) i p → markOf s i ≡ p
+pub mark-at : {s : QueueWords} → Standing s → {i p : ℕ} → At (view s) i p → markOf s i ≡ p
 mark-at S {i} {p} a = stack.member-mark (S .whole .stack) p i (a .member)
 
-pub can-leave : {s : QueueWords} → Sound s → {i p : ℕ} → At (view s) i p → CanLeave (s .wheel) i
+pub can-leave : {s : QueueWords} → Standing s → {i p : ℕ} → At (view s) i p → CanLeave (s .wheel) i
 can-leave S {i} {p} a =
     record {
       whole = S .whole;
@@ -112,12 +128,17 @@ mem-without i x (y ∷ l) m =
     (λ e. inr (rw (eq-eqb y i e) at m))
     (λ d. ⊎-elim inl (λ k. inr (mem-without i x l k)) (rw (ne-eqb y i d) at m))
 
+pub stands-left : {s : QueueWords} (S : Standing s) {i p : ℕ} → At (view s) i p → {t : WheelWords} → Leaves (s .wheel) i t
+    → Stands s (left p i (view s)) (queueWords t (s .values) (s .deadlines) (s .turns))
+unfolding left
+stands-left S a Q = stands-lists S (rw (mark-at S a) at (Q .becomes))
+
 pub goes-left : {s : QueueWords} (S : Sound s) {i p : ℕ} → At (view s) i p → {t : WheelWords} → Leaves (s .wheel) i t
     → Goes s (left p i (view s)) (queueWords t (s .values) (s .deadlines) (s .turns))
 unfolding left
 goes-left {s} S {i} {p} a Q =
     let L = view s .lists in
-    goes-lists S (rw (mark-at S a) at (Q .becomes)) (rule-less (S .rule) (λ q x m.
+    with-rule (stands-left (S .standing) a Q) (rule-less (S .rule) (λ q x m.
     by-cases (ℕ-discrete q p)
     (λ e. rw e (mem-without i x (L p) (rw (e, change-same) at m)))
     (λ d. rw (change-other L p (without i (L p)) q d) at m)))
@@ -214,9 +235,11 @@ goes-placed {s} S {i} o when near P =
     let L : Lists = change (view s .lists) p (put p i (view s .lists p)) in
     let same : w ≢ elapsed s → block w ≡ block (elapsed s)
     = λ z. let a : w ≡ when = omega (arith, z) in rw a (near (omega (arith, z))) in
-    let R : Rule (upd (at (s .deadlines)) i w) (elapsed s) L = rule-placed (S .rule) i w (loose-out S o) (omega arith) same in
-    goes S (P .becomes) (kept-refl _ _) (rw (P .deadlines) (kept-set (count s) (s .deadlines) i w (o .below))) (kept-refl _ _)
-    refl (ap at (P .deadlines) ∙ at-set (s .deadlines) i w (omega arith)) refl (S .turns) R
+    let R : Rule (upd (at (s .deadlines)) i w) (elapsed s) L = rule-placed (S .rule) i w (loose-out (S .standing) o) (omega arith) same in
+    with-rule
+    (stands (S .standing) (P .becomes) (kept-refl _ _) (rw (P .deadlines) (kept-set (count s) (s .deadlines) i w (o .below))) (kept-refl _ _)
+    refl (ap at (P .deadlines) ∙ at-set (s .deadlines) i w (omega arith)) refl (S .standing .turns))
+    R
 
 -- ---- freed
 
@@ -224,26 +247,37 @@ pub record LeavesTo (t : WheelWords) (ts : List ℕ) (i : ℕ) (t′ : WheelWord
   pub retired : at ts i ≡ lastTurn → (t′ ≡ t) × (ts′ ≡ ts)
   pub given : at ts i ≢ lastTurn → Becomes t (change (listsIn t) free (put free i (listsIn t free))) t′ × (ts′ ≡ set ts i (at ts i + 1))
 
-pub goes-freed : {s : QueueWords} (S : Sound s) {i : ℕ} → LooseAt s i → {t : WheelWords} {ts : List ℕ} → LeavesTo (s .wheel) (s .turns) i t ts
-    → Goes s (freed i (view s)) (queueWords t (s .values) (s .deadlines) ts)
+pub stands-freed : {s : QueueWords} (S : Standing s) {i : ℕ} → LooseAt s i → {t : WheelWords} {ts : List ℕ} → LeavesTo (s .wheel) (s .turns) i t ts
+    → Stands s (freed i (view s)) (queueWords t (s .values) (s .deadlines) ts)
 unfolding freed
-goes-freed {s} S {i} o {t} {ts} P =
+stands-freed {s} S {i} o {t} {ts} P =
     by-cases (ℕ-discrete (at (s .turns) i) lastTurn)
     (λ z.
     let r = P .retired z in
     let e : queueWords t (s .values) (s .deadlines) ts ≡ s = λ j. queueWords (r .0 j) (s .values) (s .deadlines) (r .1 j) in
-    rw (eq-eqb (at (s .turns) i) lastTurn z) (rw e (record { sound = S; view = refl; size = refl; kept = past-refl (count s) s })))
+    rw (eq-eqb (at (s .turns) i) lastTurn z) (rw e (record { standing = S; view = refl; size = refl; kept = past-refl (count s) s })))
     (λ z.
     let r = P .given z in
     let x : ℕ = at (s .turns) i + 1 in
     rw (ne-eqb (at (s .turns) i) lastTurn z)
-    (goes S (r .0) (kept-refl _ _) (kept-refl _ _) (rw (r .1) (kept-set (count s) (s .turns) i x (o .below)))
+    (stands S (r .0) (kept-refl _ _) (kept-refl _ _) (rw (r .1) (kept-set (count s) (s .turns) i x (o .below)))
     refl refl (ap at (r .1) ∙ at-set (s .turns) i x (omega arith))
     (λ j g.
     by-cases (ℕ-discrete j i)
     (λ (q : j ≡ i). rw (q, upd-same) (omega (arith, S .turns i (o .below))))
-    (λ q. rw (upd-other (at (s .turns)) i x j q) (S .turns j g)))
-    (rule-beside (S .rule) (put free i (view s .lists free)))))
+    (λ q. rw (upd-other (at (s .turns)) i x j q) (S .turns j g)))))
+
+-- who is freed leaves slots and expired stack as they are
+rule-freed : (v : View) → Rule (v .deadline) (v .elapsed) (v .lists) → (i : ℕ) → let u = freed i v in Rule (u .deadline) (u .elapsed) (u .lists)
+unfolding freed
+rule-freed v R i =
+    by-cases (ℕ-discrete (v .turn i) lastTurn)
+    (λ z. rw (eq-eqb (v .turn i) lastTurn z) R)
+    (λ z. rw (ne-eqb (v .turn i) lastTurn z) (rule-beside R (put free i (v .lists free))))
+
+pub goes-freed : {s : QueueWords} (S : Sound s) {i : ℕ} → LooseAt s i → {t : WheelWords} {ts : List ℕ} → LeavesTo (s .wheel) (s .turns) i t ts
+    → Goes s (freed i (view s)) (queueWords t (s .values) (s .deadlines) ts)
+goes-freed {s} S {i} o P = with-rule (stands-freed (S .standing) o P) (rule-freed (view s) (S .rule) i)
 
 pub record CanFree (t : WheelWords) (ts : List ℕ) (i : ℕ) : Type 0 where
   pub whole : WheelWhole t

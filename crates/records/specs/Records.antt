@@ -56,6 +56,10 @@ OtherBlock e w = (e < w) × (w - e ≤ maxDuration) × (block w ≢ block e)
 abbrev pub Near : ℕ → ℕ → Type 0
 Near e w = e < w → block w ≡ block e
 
+-- the deadline w is taken at elapsed e: no refusal of a deadline is given
+abbrev pub Takes : ℕ → ℕ → Type 0
+Takes e w = Near e w
+
 -- ---- one record moves
 
 -- the head of the free list is taken, and l is what is left of it

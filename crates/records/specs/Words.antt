@@ -66,11 +66,15 @@ abbrev pub slices : QueueWords → Slices
 slices s = record { values = s .values; deadlines = s .deadlines; links = s .wheel .stack .links; turns = s .turns }
 
 -- "A store is sound when every record is in exactly one place .., links agree both ways, occupied bits name exactly the non-empty slots, marks tell the
--- true place, all pending deadlines obey the rules below, and N and turns are in range."
-pub record Sound (s : QueueWords) : Type 0 where
+-- true place, .. and N and turns are in range": all of it but the deadlines
+pub record Standing (s : QueueWords) : Type 0 where
   pub fits : Fits (slices s) (count s)
   pub whole : WheelWhole (s .wheel)
   pub turns : (i : ℕ) → i < count s → (0 < at (s .turns) i) × (at (s .turns) i < 2 ^ 48)
+
+-- ".. all pending deadlines obey the rules below"
+pub record Sound (s : QueueWords) : Type 0 where
+  pub standing : Standing s
   pub rule : Rule (at (s .deadlines)) (elapsed s) (listsIn (s .wheel))
 
 -- "Words of a slice past what N records need are never changed by any call": those, and all lengths
@@ -127,8 +131,8 @@ words-same l m n e = ext-getD 0 m l n (λ i h. ap (λ f. f i) e)
 pub view-fixed : {s s′ : QueueWords} → Sound s → Sound s′ → view s′ ≡ view s → PastKept (count s) s s′ → s′ ≡ s
 view-fixed {s} {s′} S S′ e K =
     let l : listsIn (s′ .wheel) ≡ listsIn (s .wheel) = ap (λ v. v .lists) e in
-    let t : s′ .wheel .stack ≡ s .wheel .stack = stack.lists-fixed (S .whole .stack) (S′ .whole .stack) l (record { size = ap (λ v. v .n) e; links = K .links }) in
-    let o : s′ .wheel .occupied ≡ s .wheel .occupied = rows-fixed (S .whole .rows) (rw l at (S′ .whole .rows)) in
+    let t : s′ .wheel .stack ≡ s .wheel .stack = stack.lists-fixed (S .standing .whole .stack) (S′ .standing .whole .stack) l (record { size = ap (λ v. v .n) e; links = K .links }) in
+    let o : s′ .wheel .occupied ≡ s .wheel .occupied = rows-fixed (S .standing .whole .rows) (rw l at (S′ .standing .whole .rows)) in
     let c : elapsed s′ ≡ elapsed s = ap (λ v. v .elapsed) e in
     let a = words-same (s .values) (s′ .values) (K .values .size) (ap (λ v. v .value) e) in
     let b = words-same (s .deadlines) (s′ .deadlines) (K .deadlines .size) (ap (λ v. v .deadline) e) in

@@ -16,7 +16,7 @@ use Rattle.links.specs.Laws as links
 use Rattle.links.specs.Fixed.{whole-fixed}
 use Rattle.stack.specs.Places.{slotPlace, places, put}
 use Rattle.stack.specs.Heads.{Shape, slotHead, slot-head, upd-head, count-with, shape-with, head-past, stacks-fixed, rows-fixed}
-use Rattle.stack.specs.Words.{StackWords, words-eq, count, headAt, markOf, withHead, push, remove, pop, CanPop, CanPopSlot, judged}
+use Rattle.stack.specs.Words.{StackWords, words-eq, count, headAt, markOf, withHead, push, remove, pop, CanPop, CanPushSlot, CanPopSlot, judged}
 
 -- six rows of 64 heads, and every record is in exactly one list, or loose
 pub record Whole (t : StackWords) : Type 0 where
@@ -115,8 +115,8 @@ module _ {t : StackWords} (W : Whole t) where
     here : slotHead (t .heads) k s ≡ headAt t (slotPlace k s)
     here = slot-head k s hk hs (t .stacks) (t .heads)
 
-    pub can-push-slot : (i : ℕ) → i < count t → CanJoin (t .links) i (slotHead (t .heads) k s)
-    can-push-slot i hi = rw here (can-push (slotPlace k s) i (omega arith) hi .1)
+    pub can-push-slot : (i : ℕ) → i < count t → CanPushSlot (t .heads) (t .links) k s i
+    can-push-slot i hi = record { level = hk; slot = hs; linked = rw here (can-push (slotPlace k s) i (omega arith) hi .1) }
 
     pub can-pop-slot : CanPopSlot (t .heads) (t .links) k s
     can-pop-slot =

@@ -93,6 +93,12 @@ pub record CanPop (t : StackWords) (p : ℕ) : Type 0 where
   pub marked : headAt t p ≢ nobody → markOf t (headAt t p) < places
   pub linked : headAt t p ≢ nobody → CanCut (t .links) (headAt t p)
 
+-- s is a slot of level k, and i can come to its head
+pub record CanPushSlot (hh : List (List ℕ)) (ls : Links) (k s i : ℕ) : Type 0 where
+  pub level : k < 6
+  pub slot : s < 64
+  pub linked : CanJoin ls i (slotHead hh k s)
+
 -- s is a slot of level k, and its head can leave it
 pub record CanPopSlot (hh : List (List ℕ)) (ls : Links) (k s : ℕ) : Type 0 where
   pub level : k < 6

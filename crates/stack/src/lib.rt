@@ -3,11 +3,11 @@ ghost use mathlib.Core.Path.{_≡_};
 ghost use Prim.Native.Nat.{_<_};
 ghost use lib.Dec.{ltb};
 ghost use Rattle.lent.specs.Lent.{old, new};
-ghost use Rattle.links.specs.Links.{Room, CanJoin, lent as linked};
+ghost use Rattle.links.specs.Links.{Room, lent as linked};
 ghost use Rattle.stack.specs.Places.{slots, free, places, slotPlace, levelAt, slotAt};
 ghost use Rattle.stack.specs.Heads.{headOf, rowsWith, stacksWith, slotHead};
 ghost use Rattle.stack.specs.Words.{stacksOf, lent, before, after, Slotwise, count, headAt};
-ghost use Rattle.stack.specs.Words.{push, remove, pop, judged, CanPush, CanRemove, CanPop, CanPopSlot};
+ghost use Rattle.stack.specs.Words.{push, remove, pop, judged, CanPush, CanRemove, CanPop, CanPushSlot, CanPopSlot};
 ghost use Rattle.stack.specs.Format.{formattedOf};
 
 // A place is a number: slot s of level k is 64 k + s, and the two lists that are no slot follow. A record's mark is its place, or nobody.
@@ -164,7 +164,7 @@ pub fn push_slot(
     slot: usize,
     item: u16,
 )
-    requires { ⌜ (level < 6) × (slot < 64) × CanJoin (linked nexts prevs marks) item (slotHead (now heads) level slot) ⌝ }
+    requires { ⌜ CanPushSlot (now heads) (linked nexts prevs marks) level slot item ⌝ }
     ensures { λ _. ⌜ Slotwise heads nexts prevs marks (λ t t′. t′ ≡ push t (slotPlace level slot) item) ⌝ }
 {
     let head = heads[level][slot];

@@ -14,7 +14,7 @@ use Rattle.links.specs.Lists.{nobody, Mem, without, change, change-same}
 use Rattle.lent.specs.Lent.{Lent, Turned, old, new}
 use Rattle.links.specs.Links.{at, CanJoin, CanCut}
 use Rattle.stack.specs.Places.{slotPlace, slots, places, put, levelAt, slotAt}
-use Rattle.stack.specs.Words.{StackWords, push, pop, remove, words as stacked, count as countIn, headAt as headIn, markOf as markIn, CanPopSlot}
+use Rattle.stack.specs.Words.{StackWords, push, pop, remove, words as stacked, count as countIn, headAt as headIn, markOf as markIn, CanPushSlot, CanPopSlot}
 use Rattle.stack.specs.Heads.{slotHead, slot-head}
 use Rattle.stack.specs.Laws as stack
 use Rattle.wheel.specs.Wheel.{Lists, arrive}
@@ -98,8 +98,8 @@ module _ {t : WheelWords} {k i : ℕ} (C : CanAdd t k i) (w s : ℕ) (es : s ≡
   pub add-slot : (k < 6) × (s < 64)
   add-slot = omega (arith, slot-lt w k)
 
-  pub add-push : (k < 6) × (s < 64) × CanJoin (t .stack .links) i (slotHead (t .stack .heads) k s)
-  add-push = (add-slot .0, add-slot .1, stack.can-push-slot (C .whole .stack) k s (add-slot .0) (add-slot .1) i (C .item .below))
+  pub add-push : CanPushSlot (t .stack .heads) (t .stack .links) k s i
+  add-push = stack.can-push-slot (C .whole .stack) k s (add-slot .0) (add-slot .1) i (C .item .below)
 
 put-filled : (p i : ℕ) (l : List ℕ) → true ≡ filled (put p i l)
 unfolding put

@@ -42,7 +42,7 @@ returns c =
 clear-requires : tie.Need-clear-requires
 clear-requires c κs =
     let else1 = to-else1 c in
-    is-sound (else1 .before .is-sound .ensures) (else1 .if1 .left)
+    is-sound (else1 .before .is-sound .ensures) (else1 .if1 .left) .standing
 
 packed-requires : tie.Need-packed-requires
 packed-requires c κs = search needs

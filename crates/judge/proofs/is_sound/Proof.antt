@@ -21,16 +21,16 @@ to-start c =
     a .before .before .before
 
 returns : tie.Need-returns
-returns c = tells-no (λ S. omega (arith, S .fits .some))
+returns c = tells-no (λ S. omega (arith, S .standing .fits .some))
 
 returns-2 : tie.Need-returns-2
-returns-2 c = tells-no (λ S. omega (arith, S .fits .few))
+returns-2 c = tells-no (λ S. omega (arith, S .standing .fits .few))
 
 has-room-requires : tie.Need-has-room-requires
 has-room-requires c κs = search needs
 
 returns-3 : tie.Need-returns-3
-returns-3 c = tells-no (λ S. c .before .has-room .ensures .no (not-true _ (c .if3 .taken)) (S .fits .room))
+returns-3 c = tells-no (λ S. c .before .has-room .ensures .no (not-true _ (c .if3 .taken)) (S .standing .fits .room))
 
 is-whole-requires : tie.Need-is-whole-requires
 is-whole-requires c κs =

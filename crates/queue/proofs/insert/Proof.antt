@@ -43,7 +43,7 @@ returns-2 c =
 pop-requires : tie.Need-pop-requires
 pop-requires c κs =
     let start = to-start (to-else2 c .before .before .before) in
-    (start .pre .whole, omega arith, omega arith)
+    (start .pre .standing .whole, omega arith, omega arith)
 
 cast-values : tie.Need-cast-values
 cast-values c = search needs

@@ -55,7 +55,7 @@ returns : tie.Need-returns
 returns c = poll-back (to-start (c .before) .pre) _ (c .if1 .taken)
 
 pop-requires : tie.Need-pop-requires
-pop-requires c κs = (to-start (to-else1 c .before) .pre .whole, omega arith, omega arith)
+pop-requires c κs = (to-start (to-else1 c .before) .pre .standing .whole, omega arith, omega arith)
 
 hand-out-requires : tie.Need-hand-out-requires
 hand-out-requires c κs =

@@ -58,7 +58,7 @@ returns : tie.Need-returns
 returns c =
     let j = joined c in
     let s = start (j .before) in
-    push-slot-is _ _ (s .pre .0) (s .pre .1) _ _ _ _ (j .before .slot-place .ensures) refl (j .join .ensures)
+    push-slot-is _ _ (s .pre .level) (s .pre .slot) _ _ _ _ (j .before .slot-place .ensures) refl (j .join .ensures)
 
 pub push-slot-spec : {M : Type 1} → statement M
 push-slot-spec =
