@@ -4,7 +4,7 @@ ghost use mathlib.Core.Path.{_≡_};
 ghost use mathlib.Core.List.{[], _∷_};
 ghost use Prim.Native.Nat.{_+_, _*_, _≤_};
 ghost use lib.ListN.{length, drop};
-ghost use Rattle.lent.specs.Lent.{old, new};
+ghost use Rattle.contracts.specs.Lent.{old, new};
 ghost use Rattle.decimals.specs.Text.{Decimal, Spaced};
 ghost use Rattle.answering.specs.Text.{put, PutClaim, WriteClaim, BadClaim};
 ghost use Rattle.answering.specs.Parts.{Before};

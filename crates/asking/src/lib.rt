@@ -2,7 +2,7 @@
 use delay_queue::Call;
 ghost use mathlib.Core.Path.{_≡_};
 ghost use mathlib.Core.List.{_∷_};
-ghost use Rattle.lent.specs.Lent.{old};
+ghost use Rattle.contracts.specs.Lent.{old};
 ghost use Rattle.asking.specs.Text.{ReadClaim};
 ghost use Rattle.asking.specs.Parts.{NumberOf, EndsAt, Holds, callOf};
 

@@ -5,7 +5,7 @@ use asking::Line;
 use asking::read_line;
 use delay_queue::Heads;
 use wheel::Wheel;
-ghost use Rattle.lent.specs.Lent.{old, new};
+ghost use Rattle.contracts.specs.Lent.{old, new};
 ghost use Rattle.records.specs.Store.{before, after};
 ghost use Rattle.bench.specs.Line.{LineClaim};
 

@@ -4,7 +4,7 @@ use libc::STDOUT_FILENO;
 use wheel::Wheel;
 ghost use Prim.Native.Nat.{_≤_};
 ghost use lib.ListN.{length};
-ghost use Rattle.lent.specs.Lent.{old};
+ghost use Rattle.contracts.specs.Lent.{old};
 
 // How many bytes wait to be written, and whether all writes went well.
 pub struct Pen {

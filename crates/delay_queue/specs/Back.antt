@@ -18,7 +18,7 @@ use Rattle.queue.specs.Steps.{Wakes}
 use Rattle.queue.specs.Calls.{WakeOn, LengthOn}
 use Rattle.queue.specs.PollLaws.{pendingIn, pending-is}
 use Rattle.records.specs.Words.{QueueWords, words, Sound, count, elapsed, markOf, view}
-use Rattle.judge.specs.Judge.{Tells}
+use Rattle.contracts.specs.Tells.{Tells}
 use Rattle.delay_queue.specs.declared.Call.{Call}
 use Rattle.delay_queue.specs.Claims.{Judging, CallClaim}
 

@@ -9,7 +9,7 @@ use lib.ListN.{length, set, replicate, getD-replicate, length-set}
 use borrow.Author.Tests.{lt-ltb, le-ltb}
 use Rattle.row.specs.RowLaws.{row-none}
 use Rattle.links.specs.Lists.{Mem, nobody, change, change-other}
-use Rattle.lent.specs.Lent.{Turned, new as left}
+use Rattle.contracts.specs.Lent.{Turned, new as left}
 use Rattle.links.specs.Links.{at}
 use Rattle.stack.specs.Places.{slotPlace, expired, free}
 use Rattle.stack.specs.Words.{StackWords}

@@ -6,7 +6,7 @@ ghost use mathlib.Core.Path.{_≡_};
 ghost use Prim.Native.Nat.{_≤_, _<_};
 ghost use lib.ListN.{length};
 ghost use Rattle.stack.specs.Format.{over};
-ghost use Rattle.lent.specs.Lent.{old, new};
+ghost use Rattle.contracts.specs.Lent.{old, new};
 ghost use Rattle.records.specs.Slices.{Fits, lent, before as slices};
 ghost use Rattle.records.specs.Store.{before, after, wheelOf};
 ghost use Rattle.delay_queue.specs.Claims.{InRange, FormatClaim, InsertClaim, ResetClaim, RemoveClaim};

@@ -1,15 +1,14 @@
 // Whether a store is sound: what every call but format judges first.
 use wheel::Wheel;
-ghost use mathlib.Core.Path.{_≡_};
-ghost use Prim.Native.Nat.{_≤_, _<_};
+ghost use Prim.Native.Nat.{_≤_};
 ghost use lib.ListN.{length};
-ghost use Rattle.row.specs.Row.{rowOf};
-ghost use Rattle.lent.specs.Lent.{old};
+ghost use Rattle.contracts.specs.Lent.{old};
+ghost use Rattle.contracts.specs.Tells.{Tells};
 ghost use Rattle.records.specs.Slices.{Room, before as slices};
 ghost use Rattle.records.specs.Words.{Sound};
 ghost use Rattle.records.specs.Store.{before};
 ghost use Rattle.wheel.specs.Wheel.{OnWheel};
-ghost use Rattle.judge.specs.Judge.{Tells, held, RowsAgree, RecordAgrees, RecordsAgree};
+ghost use Rattle.judge.specs.Judge.{RecordAgrees, RecordsAgree};
 
 // Whether the slices are long enough for n records.
 pub fn has_room(
@@ -40,36 +39,6 @@ pub fn has_room(
         return false;
     }
     k <= marks.len()
-}
-
-// The row of the slots of the level that have a head.
-fn row_of(heads: &[[u16; 64]; 6], level: usize) -> u64
-    requires { ⌜ level < 6 ⌝ }
-    ensures { λ r. ⌜ r ≡ rowOf (held (old heads) level) ⌝ }
-{
-    let mut bits = 0u64;
-    let mut slot: usize = 0;
-    while slot < 64 {
-        if heads[level][slot] != links::NOBODY {
-            bits = row::set(bits, slot);
-        }
-        slot += 1;
-    }
-    bits
-}
-
-// Whether the occupied rows name exactly the slots that have a head.
-fn rows_agree(occupied: [u64; 6], heads: &[[u16; 64]; 6]) -> bool
-    ensures { λ r. ⌜ Tells (RowsAgree occupied (old heads)) r ⌝ }
-{
-    let mut level: usize = 0;
-    while level < 6 {
-        if occupied[level] != row_of(heads, level) {
-            return false;
-        }
-        level += 1;
-    }
-    true
 }
 
 // Whether a timer with the deadline belongs in the slot `place`.
@@ -146,12 +115,9 @@ pub fn is_sound(
     if !has_room(n, values, deadlines, nexts, prevs, turns, marks) {
         return false;
     }
+    let rows = state.occupied;
     let tops = [n, stacks.expired, stacks.free];
-    if !stack::is_whole(&tops, &heads, nexts, prevs, marks) {
-        return false;
-    }
-    let occupied = state.occupied;
-    if !rows_agree(occupied, &heads) {
+    if !wheel::is_whole(state.elapsed, &rows, &tops, &heads, nexts, prevs, marks) {
         return false;
     }
     records_agree(state.elapsed, n, deadlines, turns, marks)

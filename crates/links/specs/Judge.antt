@@ -90,10 +90,10 @@ not-is : (b : Bool) → b ≢ true → b ≡ false
 not-is true q = absurd (q refl)
 not-is false q = refl
 
-wrong-left : {m : ℕ} → Wrong ≡ Left m → ⊥
+pub wrong-left : {m : ℕ} → Wrong ≡ Left m → ⊥
 wrong-left e = let z : _≡_ {A = ℕ} 0 1 = cc in omega arith
 
-left-inj : (m k : ℕ) → Left m ≡ Left k → m ≡ k
+pub left-inj : (m k : ℕ) → Left m ≡ Left k → m ≡ k
 left-inj m k e = cc
 
 -- a walk that goes on, and one that leaves just so much, was not wrong
@@ -173,16 +173,14 @@ module _ (s : Net) (n : ℕ) where
   unfolding scanAll
   all-go P p left m h e = rw (step-down P p h, add-one, e)
 
-  -- a wrong list, and no list wrong: what the judge says
-  pub all-wrong : (P p left : ℕ) → p < P → scan (s .nx) (s .pv) (s .mk) n p left nobody (s .hd p) ≡ Wrong
-      → scanAll s n (P - p) p left ≡ scanAll s n P 0 n → judge s P n ≡ false
-  unfolding judge scanAll
-  all-wrong P p left h e g = rw (← g, step-down P p h, e)
+  -- a wrong list, and the end
+  pub all-wrong : (P p left : ℕ) → p < P → scan (s .nx) (s .pv) (s .mk) n p left nobody (s .hd p) ≡ Wrong → scanAll s n (P - p) p left ≡ Wrong
+  unfolding scanAll
+  all-wrong P p left h e = rw (step-down P p h, e)
 
-  pub all-end : (P p left c : ℕ) → P ≤ p → scanAll s n (P - p) p left ≡ scanAll s n P 0 n → c ≡ looseIn (s .nx) (s .pv) (s .mk) n
-      → judge s P n ≡ eqb left c
-  unfolding judge scanAll
-  all-end P p left c h g e = let z : P - p ≡ 0 = omega arith in rw (← g, z, e)
+  pub all-end : (P p left : ℕ) → P ≤ p → scanAll s n (P - p) p left ≡ Left left
+  unfolding scanAll
+  all-end P p left h = let z : P - p ≡ 0 = omega arith in rw z
 
 -- ---- what a scan passes is a list, and a list is passed
 

@@ -8,7 +8,7 @@ use lib.ListN.{length, getD, set}
 use lib.Dec.{eqb}
 use Rattle.links.specs.Lists.{nobody}
 use Rattle.links.specs.Family.{Net}
-use Rattle.lent.specs.Lent.{Lent, Turned, old, new}
+use Rattle.contracts.specs.Lent.{Lent, Turned, old, new}
 
 pub record Links : Type 0 where
   pub nexts : List ℕ

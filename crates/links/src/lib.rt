@@ -1,6 +1,6 @@
 // The links of the records: doubly linked lists of record numbers in lent slices. The heads are the caller's.
 ghost use mathlib.Core.Path.{_≡_};
-ghost use Rattle.lent.specs.Lent.{old, new};
+ghost use Rattle.contracts.specs.Lent.{old, new};
 ghost use Rattle.links.specs.Links.{lent, before, after, setN, joined, cutOut, headAfter};
 ghost use Rattle.links.specs.Links.{Room, Inside, CanJoin, CanCut};
 ghost use Rattle.links.specs.Judge.{walkOf, bare, looseOf};

@@ -1,4 +1,5 @@
 -- Whether a store is sound, and whether format takes what it is given, is decided.
+use mathlib.Core.Path.{_≡_}
 use mathlib.Core.Logic.{by-cases, Dec·and}
 use mathlib.Core.Bool.{true, Bool-discrete}
 use mathlib.Core.List.{List, []}
@@ -12,9 +13,13 @@ use Rattle.links.specs.Links.{at}
 use Rattle.stack.specs.Places.{slots, expired}
 use Rattle.stack.specs.Heads.{Shape}
 use Rattle.stack.specs.Words.{judged}
+use Rattle.stack.specs.Judge.{held}
+use Rattle.stack.specs.Laws as stack
 use Rattle.wheel.specs.Wheel.{placeFor, OnWheel}
 use Rattle.records.specs.Words.{QueueWords, count, elapsed, markOf, Sound, slices}
-use Rattle.judge.specs.Judge.{held, RowsAgree, RecordAgrees, Judged, sound-judged, judged-sound}
+use Rattle.wheel.specs.Words.{WheelWords, WheelWhole}
+use Rattle.wheel.specs.Judged.{CanJudge, whole-row, whole-from}
+use Rattle.judge.specs.Judge.{RecordAgrees, sound-judged, judged-sound}
 use Rattle.delay_queue.specs.Claims.{InRange}
 use Rattle.records.specs.Slices.{Slices, Room, limit, Fits}
 
@@ -66,11 +71,12 @@ shape-dec hh =
     (λ x. record { rows = x .0; wide = x .1 })
     (λ H. (H .rows, H .wide))
 
-rows-dec : (occ : List ℕ) (hh : List (List ℕ)) → Dec (RowsAgree occ hh)
-rows-dec occ hh =
-    by-dec (Dec·and (ℕ-discrete (length occ) 6) (below-dec (λ k. ℕ-discrete (at occ k) (rowOf (held hh k))) 6))
-    (λ x. record { six = x .0; row = x .1 })
-    (λ R. (R .six, R .row))
+whole-dec : {t : WheelWords} → CanJudge t → Dec (WheelWhole t)
+whole-dec {t} C =
+    by-dec
+    (Dec·and (Bool-discrete (judged (t .stack)) true) (below-dec (λ k. ℕ-discrete (at (t .occupied) k) (rowOf (held (t .stack .heads) k))) 6))
+    (λ x. whole-from C (x .0) (x .1))
+    (λ W. (stack.whole-judged (W .stack), whole-row W))
 
 wheel-dec : (p e w : ℕ) → Dec (OnWheel p e w)
 wheel-dec p e w =
@@ -86,18 +92,15 @@ agrees-dec e w t m =
     (λ x. record { some = x .0 .0; last = x .0 .1; wheel = x .1 .0; stack = x .1 .1 })
     (λ R. ((R .some, R .last), (R .wheel, R .stack)))
 
-judged-dec : (s : QueueWords) → Dec (Judged s)
-judged-dec s =
-    by-dec
-    (Dec·and (fits-dec s (count s))
-    (Dec·and (Bool-discrete (judged (s .wheel .stack)) true)
-    (Dec·and (rows-dec (s .wheel .occupied) (s .wheel .stack .heads))
-    (below-dec (λ i. agrees-dec (elapsed s) (at (s .deadlines) i) (at (s .turns) i) (markOf s i)) (count s)))))
-    (λ x. record { fits = x .0; lists = x .1 .0; rows = x .1 .1 .0; records = x .1 .1 .1 })
-    (λ J. (J .fits, (J .lists, (J .rows, J .records))))
-
 pub sound-dec : (s : QueueWords) → Dec (Sound s)
 sound-dec s =
-    by-dec (Dec·and (shape-dec (s .wheel .stack .heads)) (judged-dec s))
-    (λ x. judged-sound (x .0) (x .1))
-    (λ S. (S .standing .whole .stack .shape, sound-judged S))
+    by (Dec·and (Dec·and (shape-dec (s .wheel .stack .heads)) (ℕ-discrete (length (s .wheel .occupied)) 6)) (fits-dec s (count s)))
+  where
+    by : Dec ((Shape (s .wheel .stack .heads) × (length (s .wheel .occupied) ≡ 6)) × Fits (slices s) (count s)) → Dec (Sound s)
+    by (yes x) =
+        by-dec
+        (Dec·and (whole-dec (record { six = x .0 .1; shape = x .0 .0; room = x .1 .room .links; few = omega arith }))
+        (below-dec (λ i. agrees-dec (elapsed s) (at (s .deadlines) i) (at (s .turns) i) (markOf s i)) (count s)))
+        (λ y. judged-sound (record { fits = x .1; whole = y .0; records = y .1 }))
+        (λ S. (S .standing .whole, sound-judged S .records))
+    by (no f) = no (λ S. f ((S .standing .whole .stack .shape, S .standing .whole .rows .six), S .standing .fits))

@@ -2,7 +2,7 @@
 ghost use mathlib.Core.Path.{_≡_};
 ghost use Prim.Native.Nat.{_≤_, _<_};
 ghost use lib.ListN.{length};
-ghost use Rattle.lent.specs.Lent.{old};
+ghost use Rattle.contracts.specs.Lent.{old};
 ghost use Rattle.records.specs.Words.{lent, before, after, count, Standing, Sound};
 ghost use Rattle.queue.specs.Calls.{InsertOn, ResetOn, RemoveOn, PollOn, ClearOn};
 ghost use Rattle.records.specs.Laws.{LooseAt};

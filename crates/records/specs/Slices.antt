@@ -2,7 +2,7 @@
 use mathlib.Core.List.{List}
 use Prim.Native.Nat.{ℕ, _≤_, _<_}
 use lib.ListN.{length}
-use Rattle.lent.specs.Lent.{Lent, Turned, old}
+use Rattle.contracts.specs.Lent.{Lent, Turned, old}
 use Rattle.links.specs.Links.{Links, links}
 use Rattle.links.specs.Links as linked
 

@@ -1,7 +1,7 @@
 -- The words of a store as the public calls have them: the wheel and the heads by value, handed in and handed back, the slices lent.
 use mathlib.Core.List.{List}
 use Prim.Native.Nat.{ℕ}
-use Rattle.lent.specs.Lent.{Turned, old, new}
+use Rattle.contracts.specs.Lent.{Turned, old, new}
 use Rattle.stack.specs.Words.{stacksOf}
 use Rattle.wheel.specs.declared.Wheel.{Wheel}
 use Rattle.records.specs.Words.{QueueWords, words}

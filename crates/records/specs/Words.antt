@@ -7,7 +7,7 @@ use native.Mathlib.Decide.{ℕ-discrete}
 use lib.ListN.{length, set}
 use lib.Seq.{ext-getD, getD-set-same, getD-set-other}
 use borrow.Author.Tests.{eq-eqb, ne-eqb}
-use Rattle.lent.specs.Lent.{Lent, Turned, old, new}
+use Rattle.contracts.specs.Lent.{Lent, Turned, old, new}
 use Rattle.links.specs.Links.{links, at}
 use Rattle.stack.specs.Words.{stackWords}
 use Rattle.links.specs.Laws.{Kept, LinksKept, kept-refl, kept-trans, links-refl, links-trans}

@@ -2,7 +2,7 @@
 ghost use mathlib.Core.Path.{_≡_};
 ghost use Prim.Native.Nat.{_^_, _≤_, _<_};
 ghost use lib.ListN.{length};
-ghost use Rattle.lent.specs.Lent.{old, new};
+ghost use Rattle.contracts.specs.Lent.{old, new};
 ghost use Rattle.wheel.specs.Words.{lent, before, after};
 ghost use Rattle.records.specs.Records.{packed, turnIn, numberIn};
 ghost use Rattle.records.specs.Laws.{PlacesTo, CanPlace, LeavesTo, CanFree};

@@ -2,3 +2,4 @@
 pub mod Row
 pub mod RowLaws
 pub mod RowCode
+pub mod RowBuilt

@@ -9,7 +9,7 @@ use wheel::Wheel;
 ghost use mathlib.Core.Path.{_≡_};
 ghost use Prim.Native.Nat.{_≤_, _<_};
 ghost use lib.ListN.{length};
-ghost use Rattle.lent.specs.Lent.{old};
+ghost use Rattle.contracts.specs.Lent.{old};
 
 // Whether each answer is followed by the contents of the lists, how many bytes of an unfinished line are kept, how many bytes wait
 // to be written, the store, and whether all writes went well.

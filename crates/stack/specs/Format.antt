@@ -12,7 +12,7 @@ use Rattle.links.specs.Lists.{nobody, Mem, firstD, change, change-same, change-
 use Rattle.links.specs.Segments.{Seg}
 use Rattle.links.specs.Family.{Net, Member, Fam}
 use Rattle.links.specs.Walk.{fam-lists}
-use Rattle.lent.specs.Lent.{Turned, old}
+use Rattle.contracts.specs.Lent.{Turned, old}
 use Rattle.links.specs.Links.{links, at, net, Room}
 use Rattle.links.specs.Laws.{Kept, LinksKept, kept-refl, kept-trans, kept-set, room-kept}
 use Rattle.stack.specs.declared.Stacks.{Stacks}

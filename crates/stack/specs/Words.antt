@@ -7,7 +7,7 @@ use Prim.Native.Nat.{ℕ, _<_}
 use lib.Dec.{eqb}
 use borrow.Author.Tests.{eq-eqb, ne-eqb}
 use Rattle.links.specs.Lists.{nobody}
-use Rattle.lent.specs.Lent.{Lent, Turned, old, new}
+use Rattle.contracts.specs.Lent.{Lent, Turned, old, new}
 use Rattle.links.specs.Links.{Links, links, at, net, joined, cutOut, headAfter, CanJoin, CanCut}
 use Rattle.links.specs.Judge.{judge}
 use Rattle.stack.specs.declared.Stacks.{Stacks}

@@ -1,13 +1,15 @@
 // The lists of the places: the slots of the six levels, the expired stack and the free list.
+use links::Walk;
 ghost use mathlib.Core.Path.{_≡_};
 ghost use Prim.Native.Nat.{_<_};
 ghost use lib.Dec.{ltb};
-ghost use Rattle.lent.specs.Lent.{old, new};
+ghost use Rattle.contracts.specs.Lent.{old, new};
 ghost use Rattle.links.specs.Links.{Room, lent as linked};
 ghost use Rattle.stack.specs.Places.{slots, free, places, slotPlace, levelAt, slotAt};
 ghost use Rattle.stack.specs.Heads.{headOf, rowsWith, stacksWith, slotHead};
 ghost use Rattle.stack.specs.Words.{stacksOf, lent, before, after, Slotwise, count, headAt};
-ghost use Rattle.stack.specs.Words.{push, remove, pop, judged, CanPush, CanRemove, CanPop, CanPushSlot, CanPopSlot};
+ghost use Rattle.stack.specs.Words.{push, remove, pop, CanPush, CanRemove, CanPop, CanPushSlot, CanPopSlot};
+ghost use Rattle.stack.specs.Judge.{WalksLevel, rest};
 ghost use Rattle.stack.specs.Format.{formattedOf};
 
 // A place is a number: slot s of level k is 64 k + s, and the two lists that are no slot follow. A record's mark is its place, or nobody.
@@ -193,24 +195,74 @@ pub fn pop_slot(
     item
 }
 
-// Whether heads, links and marks hold the lists of the places, and every record is in exactly one list or loose.
-pub fn is_whole(
+// What a walk of the lists of one level finds, and which of its slots have a head, as a row of flags.
+pub struct Level {
+    pub walk: Walk,
+    pub filled: u64,
+}
+
+// Walks the lists of the level. Each head is looked at once.
+pub fn walk_level(
     tops: &[u16; 3],
     heads: &[[u16; 64]; 6],
     nexts: &[u16],
     prevs: &[u16],
     marks: &[u16],
-) -> bool
+    level: usize,
+    room: u16,
+) -> Level
+    requires { ⌜ level < 6 ⌝ }
     requires { ⌜ Room (count (lent tops heads nexts prevs marks)) (linked nexts prevs marks) ⌝ }
-    ensures { λ r. ⌜ r ≡ judged (before tops heads nexts prevs marks) ⌝ }
+    ensures { λ r. ⌜ WalksLevel (before tops heads nexts prevs marks) level room (r .walk) (r .filled) ⌝ }
 {
     let n = tops[0];
-    let mut left = n;
-    let mut place = 0u16;
+    let mut left = room;
+    let mut filled = 0u64;
+    let mut slot: usize = 0;
+    while slot < 64 {
+        let head = heads[level][slot];
+        if head != links::NOBODY {
+            let walk = links::walk_list(
+                nexts,
+                prevs,
+                marks,
+                n,
+                slot_place(level, slot),
+                head,
+                left,
+            );
+            let Walk::Left(l) = walk else {
+                return Level { walk, filled };
+            };
+            left = l;
+            filled = row::set(filled, slot);
+        }
+        slot += 1;
+    }
+    Level {
+        walk: Walk::Left(left),
+        filled,
+    }
+}
+
+// Whether the lists that are no slots are whole too, and the records that are left are just the loose ones.
+pub fn walk_rest(
+    tops: &[u16; 3],
+    heads: &[[u16; 64]; 6],
+    nexts: &[u16],
+    prevs: &[u16],
+    marks: &[u16],
+    room: u16,
+) -> bool
+    requires { ⌜ Room (count (lent tops heads nexts prevs marks)) (linked nexts prevs marks) ⌝ }
+    ensures { λ r. ⌜ r ≡ rest (before tops heads nexts prevs marks) room ⌝ }
+{
+    let n = tops[0];
+    let mut left = room;
+    let mut place = SLOTS;
     while place < PLACES {
         let head = head_of(tops, heads, place);
-        let links::Walk::Left(l) = links::walk_list(nexts, prevs, marks, n, place, head, left)
-        else {
+        let Walk::Left(l) = links::walk_list(nexts, prevs, marks, n, place, head, left) else {
             return false;
         };
         left = l;

@@ -9,3 +9,4 @@ pub mod Rows
 pub mod Words
 pub mod Expiration
 pub mod Turns
+pub mod Judged

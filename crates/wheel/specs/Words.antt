@@ -11,7 +11,7 @@ use Rattle.times.specs.Times.{slotOf}
 use Rattle.times.specs.Quotients.{slot-lt}
 use Rattle.row.specs.Row.{flagAt}
 use Rattle.links.specs.Lists.{nobody, Mem, without, change, change-same}
-use Rattle.lent.specs.Lent.{Lent, Turned, old, new}
+use Rattle.contracts.specs.Lent.{Lent, Turned, old, new}
 use Rattle.links.specs.Links.{at, CanJoin, CanCut}
 use Rattle.stack.specs.Places.{slotPlace, slots, places, put, levelAt, slotAt}
 use Rattle.stack.specs.Words.{StackWords, push, pop, remove, words as stacked, count as countIn, headAt as headIn, markOf as markIn, CanPushSlot, CanPopSlot}

@@ -6,7 +6,8 @@ use stack::Stacks;
 ghost use mathlib.Core.Path.{_≡_};
 ghost use Prim.Native.Nat.{_-_, _≤_, _<_};
 ghost use Rattle.times.specs.Times.{levelOf};
-ghost use Rattle.lent.specs.Lent.{old};
+ghost use Rattle.contracts.specs.Lent.{old};
+ghost use Rattle.contracts.specs.Tells.{Tells};
 ghost use Rattle.links.specs.Links.{at};
 ghost use Rattle.stack.specs.Places.{slotPlace, slots, places};
 ghost use Rattle.wheel.specs.Wheel.{Lists};
@@ -14,6 +15,7 @@ ghost use Rattle.wheel.specs.Rows.{Rows};
 ghost use Rattle.wheel.specs.Expiration.{NotPassed, NextIs, WakeIs};
 ghost use Rattle.wheel.specs.Words.{lent, before, after, WheelWhole, Arrives, Comes, Pops, Leaves};
 ghost use Rattle.wheel.specs.Words.{CanAdd, CanPush, CanPop, CanLeave};
+ghost use Rattle.wheel.specs.Judged.{CanJudge};
 ghost use Rattle.wheel.specs.Turns.{CanInsert, CanMove, MovesOne, DrainsTo, CanPoll, PollsTo};
 
 // Elapsed, the occupied row of each level, and the list layer's state, as the caller keeps them.
@@ -370,4 +372,34 @@ pub fn poll(
         moves,
         drains,
     }
+}
+
+// Whether every list is whole, and the rows name exactly the slots that have a head.
+pub fn is_whole(
+    elapsed: u64,
+    rows: &[u64; 6],
+    tops: &[u16; 3],
+    heads: &[[u16; 64]; 6],
+    nexts: &[u16],
+    prevs: &[u16],
+    marks: &[u16],
+) -> bool
+    requires { ⌜ CanJudge (lent elapsed rows tops heads nexts prevs marks) ⌝ }
+    ensures { λ r. ⌜ Tells (WheelWhole (before elapsed rows tops heads nexts prevs marks)) r ⌝ }
+{
+    let mut left = tops[0];
+    let mut level: usize = 0;
+    while level < times::NUM_LEVELS {
+        let seen = stack::walk_level(tops, heads, nexts, prevs, marks, level, left);
+        let walk = seen.walk;
+        let links::Walk::Left(l) = walk else {
+            return false;
+        };
+        if seen.filled != rows[level] {
+            return false;
+        }
+        left = l;
+        level += 1;
+    }
+    stack::walk_rest(tops, heads, nexts, prevs, marks, left)
 }

@@ -5,7 +5,8 @@ use native.Mathlib.Omega.{arith}
 use borrow.Author.Tests.{eqb-true, eqb-false, not-true, not-false}
 use Rattle.times.specs.Levels.{level-is}
 use Rattle.times.specs.Quotients.{slot-lt}
-use Rattle.judge.specs.Judge.{tells-no, place-told}
+use Rattle.contracts.specs.Tells.{tells-no}
+use Rattle.judge.specs.Judge.{place-told}
 use Rattle.judge.proofs.is_place.Statement.{statement}
 use Rattle.judge.proofs.is_place.Tie as tie
 

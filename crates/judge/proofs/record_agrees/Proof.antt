@@ -2,7 +2,8 @@
 use borrow.Author.Needs.{needs}
 use native.Mathlib.Omega.{arith}
 use Rattle.stack.specs.Asked.{below, past}
-use Rattle.judge.specs.Judge.{tells-yes, tells-no, record-slot, record-stack, record-aside}
+use Rattle.contracts.specs.Tells.{tells-yes, tells-no}
+use Rattle.judge.specs.Judge.{record-slot, record-stack, record-aside}
 use Rattle.judge.proofs.record_agrees.Statement.{statement}
 use Rattle.judge.proofs.record_agrees.Tie as tie
 

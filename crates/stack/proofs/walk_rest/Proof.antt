@@ -1,22 +1,21 @@
--- `is_whole` meets its contract: what the walk of the places finds from here is what it finds from the start (`judge-go`, and a law for each
--- way out).
+-- `walk_rest` meets its contract: what the walk of the places finds from here is what it finds from the first that is no slot (`judge-go`, and a
+-- law for each way out).
 use borrow.Author.Needs.{needs}
-use mathlib.Core.Path.{_≡_, refl, sym, _∙_}
+use mathlib.Core.Path.{_≡_, refl, _∙_}
 use Prim.Native.Nat.{_≤_, _-_}
 use native.Mathlib.Omega.{arith}
-use Rattle.links.specs.Links.{at}
-use Rattle.stack.specs.Places.{places}
+use Rattle.stack.specs.Places.{slots, places}
 use Rattle.stack.specs.Words.{words}
-use Rattle.stack.specs.Judge.{from, judge-go, judge-wrong, judge-end}
-use Rattle.stack.proofs.is_whole.Statement.{statement}
-use Rattle.stack.proofs.is_whole.Tie as tie
+use Rattle.stack.specs.Judge.{from, judge-go, judge-wrong, rest-wrong, rest-end}
+use Rattle.stack.proofs.walk_rest.Statement.{statement}
+use Rattle.stack.proofs.walk_rest.Tie as tie
 
 abbrev Inv-loop : tie.InvT-loop
-Inv-loop tops heads nexts prevs marks n left₀ place₀ left place =
-    (place ≤ places) × (from (words tops heads nexts prevs marks) place left ≡ from (words tops heads nexts prevs marks) 0 (at tops 0))
+Inv-loop tops heads nexts prevs marks room n left₀ place₀ left place =
+    (place ≤ places) × (from (words tops heads nexts prevs marks) slots room ≡ from (words tops heads nexts prevs marks) place left)
 
 abbrev μ-loop : tie.MeasureT-loop
-μ-loop tops heads nexts prevs marks n left₀ place₀ left place = places - place
+μ-loop tops heads nexts prevs marks room n left₀ place₀ left place = places - place
 
 abbrev turn : tie.After-walk-list Inv-loop μ-loop → tie.In-loop Inv-loop μ-loop
 turn c = c .before .before
@@ -49,7 +48,8 @@ returns : tie.Need-returns Inv-loop μ-loop
 returns c =
     let w = wrong c in
     let t = turn w in
-    judge-wrong _ _ _ _ _ (t .loop-test .taken) (w .before .head-of .ensures) (w .walk-list .ensures) (c .enum-told .given .1) (t .before .loop .inv .1)
+    rest-wrong _ _ _ _ (t .before .loop .inv .1)
+    (judge-wrong _ _ _ _ _ (t .loop-test .taken) (w .before .head-of .ensures) (w .walk-list .ensures) (c .enum-told .given .1))
 
 add-place : tie.Need-add-place Inv-loop μ-loop
 add-place c = search needs
@@ -62,16 +62,16 @@ loop-again c =
     let w = go c in
     let t = turn w in
     let e = judge-go _ _ _ _ _ (t .loop-test .taken) (w .before .head-of .ensures) (w .walk-list .ensures) _ (c .before .l .given .1) in
-    (omega arith, sym e ∙ t .before .loop .inv .1)
+    (omega arith, t .before .loop .inv .1 ∙ e)
 
 count-loose-requires : tie.Need-count-loose-requires Inv-loop μ-loop
 count-loose-requires c κs = search needs
 
 returns-2 : tie.Need-returns-2 Inv-loop μ-loop
-returns-2 c = judge-end _ _ _ _ (c .before .loop-test .left) (c .before .before .loop .inv .1) (c .count-loose .ensures)
+returns-2 c = rest-end _ _ _ _ _ (c .before .before .loop .inv .1) (c .before .loop-test .left) (c .count-loose .ensures)
 
-pub is-whole-spec : {M : Type 1} → statement M
-is-whole-spec =
+pub walk-rest-spec : {M : Type 1} → statement M
+walk-rest-spec =
     tie.close
     (tie.spec
     Inv-loop

@@ -1,0 +1,1 @@
+// Words that the contracts of all crates use: see specs/.

@@ -1,1 +1,0 @@
-// What contracts say of a parameter that is lent: see specs/.
