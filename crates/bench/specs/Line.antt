@@ -1,21 +1,13 @@
 -- One step of the bench: a line, the store and what is written before it; the store and what is written after it.
-use mathlib.Core.Path.{_≡_, subst}
-use mathlib.Core.Logic.{by-cases}
+use mathlib.Core.Path.{_≡_}
 use mathlib.Core.List.{List}
-use Prim.Native.Nat.{ℕ, _≤_}
-use native.Mathlib.Decide.{decLe}
-use lib.ListN.{length}
-use Rattle.wheel.specs.declared.Wheel.{Wheel}
+use Prim.Native.Nat.{ℕ}
 use Rattle.queue.specs.declared.Answer.{Answer}
-use Rattle.records.specs.Words.{QueueWords, words}
+use Rattle.records.specs.Words.{QueueWords}
 use Rattle.delay_queue.specs.declared.Call.{Call}
 use Rattle.delay_queue.specs.Claims.{CallClaim}
-use Rattle.asking.specs.declared.Line.{Line}
-use Rattle.asking.specs.declared.Line.the-variants as L
-use Rattle.asking.specs.Text.{Says, ReadClaim}
+use Rattle.asking.specs.Text.{Says}
 use Rattle.answering.specs.Text.{WriteClaim, BadClaim}
-use Rattle.asking.specs.Asking.{one-call}
-use Rattle.answering.specs.Answering.{within}
 
 -- what was asked is done, and its answer is written
 pub record Answers (c : Call) (s : QueueWords) (o : List ℕ) (at : ℕ) (s′ : QueueWords) (o′ : List ℕ) (end : ℕ) : Type 0 where
@@ -27,24 +19,3 @@ pub record Answers (c : Call) (s : QueueWords) (o : List ℕ) (at : ℕ) (s′ :
 pub record LineClaim (l : List ℕ) (s : QueueWords) (o : List ℕ) (at : ℕ) (s′ : QueueWords) (o′ : List ℕ) (end : ℕ) : Type 0 where
   pub asks : (c : Call) → Says l c → Answers c s o at s′ o′ end
   pub bad : ((c : Call) → Says l c → ⊥) → (s′ ≡ s) × BadClaim o at end o′
-
-module _ {l o : List ℕ} {s : QueueWords} {at : ℕ} {o′ : List ℕ} {end : ℕ} where
-  -- the line was read as a call
-  pub line-asks : {s′ : QueueWords} {r : Line} (c : Call) → ReadClaim l r → r ≡ L.Asks c → (a : Answer) → CallClaim c s a s′ → WriteClaim a o at end o′ → LineClaim l s o at s′ o′ end
-  line-asks {s′} c R e a x w =
-      let y : Says l c = R .asks c .0 e in
-      record {
-        asks = λ d z. record { answer = a; done = subst (λ (k : Call). CallClaim k s a s′) (one-call y z) x; written = w };
-        bad = λ f. absurd (f c y);
-      }
-
--- it says no call
-pub line-bad : {l o o′ : List ℕ} {at end : ℕ} {r : Line} (w : Wheel) {hh hh′ : List (List ℕ)} (vs ds ns ps ts ms : List ℕ) → ReadClaim l r → r ≡ L.Bad → hh′ ≡ hh
-    → BadClaim o at end o′ → LineClaim l (words w hh vs ds ns ps ts ms) o at (words w hh′ vs ds ns ps ts ms) o′ end
-line-bad w vs ds ns ps ts ms R e q x =
-    record { asks = λ c z. absurd (R .bad .0 e c z); bad = λ f. (λ i. words w (q i) vs ds ns ps ts ms, x) }
-
--- the place that comes back lies within what was lent
-pub line-within : {l o o′ : List ℕ} {s s′ : QueueWords} {at end : ℕ} → LineClaim l s o at s′ o′ end → at ≤ length o → end ≤ length o
-line-within {l} {o} {o′} {s} {s′} {at} {end} C h =
-    by-cases (decLe end (length o)) (λ k. k) (λ k. absurd (k (within (C .bad (λ c x. k (within (C .asks c x .written) h .1)) .1) h .1)))

@@ -1,5 +1,2 @@
 -- Decimals and numbers split by one space. `Text` has the definitions.
 pub mod Text
-pub mod Decimals
-pub mod Spacing
-pub mod Plain

@@ -1,31 +1,13 @@
--- Format: which number it answers, and that what it makes is sound and fresh.
-use mathlib.Core.Path.{_≡_, refl, sym, ap, _∙_, fun-ext}
-use mathlib.Core.Logic.{_≢_, by-cases}
-use mathlib.Core.List.{List, []}
-use Prim.Native.Nat.{ℕ, _+_, _≤_, _<_}
-use native.Mathlib.Decide.{decLt}
-use native.Mathlib.Omega.{arith}
-use lib.ListN.{length, set, replicate, getD-replicate, length-set}
-use borrow.Author.Tests.{lt-ltb, le-ltb}
-use Rattle.row.specs.RowLaws.{row-none}
-use Rattle.links.specs.Lists.{Mem, nobody, change, change-other}
+-- Format: which number it answers, and the words that it makes.
+use mathlib.Core.Path.{_≡_}
+use mathlib.Core.List.{List}
+use Prim.Native.Nat.{ℕ}
+use lib.ListN.{replicate}
 use Rattle.contracts.specs.Lent.{Turned, new as left}
-use Rattle.links.specs.Links.{at}
-use Rattle.stack.specs.Places.{slotPlace, expired, free}
-use Rattle.stack.specs.Words.{StackWords}
-use Rattle.stack.specs.Format.{over, over-step, over-at, over-kept, length-over, range, formatted, format-kept, format-whole, format-lists}
-use Rattle.stack.specs.Laws as stack
-use Rattle.wheel.specs.declared.Wheel.{Wheel}
-use Rattle.wheel.specs.Rows.{filled, flags}
+use Rattle.stack.specs.Format.{over, range, formatted}
 use Rattle.wheel.specs.Words.{wheelWords}
-use Rattle.queue.specs.declared.Answer.{Answer}
-use Rattle.queue.specs.declared.Answer.the-variants as A
-use Rattle.queue.specs.Told.{told}
-use Rattle.records.specs.View.{view-eq}
-use Rattle.records.specs.Slices.{Slices, slicesOf, Fits, before as given}
-use Rattle.records.specs.Words.{QueueWords, queueWords, words, parts, slices, Sound}
-use Rattle.delay_queue.specs.Claims.{InRange, first, Formatted, FormatClaim}
-use Rattle.delay_queue.specs.Back.{Goes}
+use Rattle.records.specs.Slices.{Slices, before as given}
+use Rattle.records.specs.Words.{QueueWords, parts}
 
 -- ---- the number
 
@@ -35,48 +17,6 @@ pub record FormatNo (fits range : Type 0) (r : ℕ) : Type 0 where
   pub outside : fits → (range → ⊥) → r ≡ 8
   pub near : fits → range → r ≡ 0
   pub taken : r ≡ 0 → fits × range
-
-module _ {fits range : Type 0} where
-  pub no-one : (fits → ⊥) → FormatNo fits range 1
-  no-one f = record { short = λ g. refl; outside = λ x g. absurd (f x); near = λ x. absurd (f x); taken = λ z. absurd (omega arith) }
-
-  pub no-eight : fits → (range → ⊥) → FormatNo fits range 8
-  no-eight x f = record { short = λ g. absurd (g x); outside = λ y g. refl; near = λ y z. absurd (f z); taken = λ z. absurd (omega arith) }
-
-  pub no-none : fits → range → FormatNo fits range 0
-  no-none x y = record { short = λ g. absurd (g x); outside = λ z g. absurd (g y); near = λ z w. refl; taken = λ z. (x, y) }
-
--- ---- n words become x
-
--- the loop: the first i do
-pub record FilledSo (n x : ℕ) (l : List ℕ) (i : ℕ) (m : List ℕ) : Type 0 where
-  pub within : i ≤ n
-  pub words : m ≡ over i (λ j. x) l
-  pub size : length m ≡ length l
-
-module _ (n x : ℕ) (l : List ℕ) where
-  pub fill-begun : FilledSo n x l 0 l
-  unfolding over
-  fill-begun = record { within = omega arith; words = refl; size = refl }
-
-  pub fill-next : {i : ℕ} {m : List ℕ} → FilledSo n x l i m → i < n → FilledSo n x l (i + 1) (set m i x)
-  fill-next {i} {m} F h =
-      record {
-        within = omega arith;
-        words = ap (λ k. set k i x) (F .words) ∙ sym (over-step i (λ j. x) l);
-        size = length-set m i x ∙ F .size;
-      }
-
-  pub fill-end : {i : ℕ} {m : List ℕ} → FilledSo n x l i m → n ≤ i → m ≡ over n (λ j. x) l
-  fill-end {i} F h = let e : i ≡ n = omega arith in F .words ∙ ap (λ k. over k (λ j. x) l) e
-
-  pub over-first : n ≤ length l → at (over n (λ j. x) l) ≡ first n x (at l)
-  unfolding first
-  over-first h =
-      fun-ext (λ i.
-      by-cases (decLt i n)
-      (λ g. rw (lt-ltb i n g) (over-at n (λ j. x) l h i g))
-      (λ g. rw (le-ltb i n (omega arith)) (over-kept n n (λ j. x) l (omega arith) .past i (omega arith))))
 
 -- ---- the store
 
@@ -88,102 +28,9 @@ pub record Makes (n turn : ℕ) (l : Slices) (s′ : QueueWords) : Type 0 where
   pub turns : s′ .turns ≡ over n (λ i. turn) (l .turns)
 
 -- of the words that `make` is lent
-module _ (n turn : ℕ) (tops : Turned (List ℕ)) (heads : Turned (List (List ℕ))) (values deadlines nexts prevs turns marks : Turned (List ℕ)) where
+module _ (n turn : ℕ) (tops : Turned (List ℕ)) (heads : Turned (List (List ℕ)))
+    (values deadlines nexts prevs turns marks : Turned (List ℕ)) where
   abbrev pub MakesOf : Type 0
   MakesOf =
       Makes n turn (given values deadlines nexts prevs turns marks)
       (parts 0 (replicate 6 0) (left tops) (left heads) (left values) (left deadlines) (left nexts) (left prevs) (left turns) (left marks))
-
-module _ (s : QueueWords) {n turn : ℕ} (F : Fits (slices s) n) (T : InRange turn) where
-  abbrev made : StackWords
-  made = formatted n (s .wheel .stack .links .nexts) (s .wheel .stack .links .prevs) (s .wheel .stack .links .marks)
-
-  abbrev new : QueueWords
-  new = queueWords (wheelWords 0 (replicate 6 0) made) (over n (λ i. 0) (s .values)) (over n (λ i. 0) (s .deadlines)) (over n (λ i. turn) (s .turns))
-
-  small : n ≤ nobody
-  small = omega arith
-
-  whole : stack.Whole made
-  whole = format-whole n _ _ _ (F .some) small (F .room .links)
-
-  is : stack.lists made ≡ change (λ p. []) free (range n 0)
-  is = format-lists n _ _ _ (F .some) small (F .room .links)
-
-  -- no slot and no expired stack has a member
-  empty : (p : ℕ) → p < free → stack.lists made p ≡ []
-  empty p h = ap (λ L. L p) is ∙ change-other (λ q. []) free (range n 0) p (omega arith)
-
-  nobody-in : (p x : ℕ) → p < free → Mem x (stack.lists made p) → ⊥
-  nobody-in p x h m = rw (empty p h) at m
-
-  sized : made .stacks .n ≡ n
-  unfolding formatted
-  sized = refl
-
-  new-sound : Sound new
-  new-sound =
-      record {
-        standing = record {
-          fits = record {
-            some = rw sized (F .some);
-            few = rw sized (F .few);
-            room = record {
-              values = omega (arith, sized, length-over n (λ i. 0) (s .values));
-              deadlines = omega (arith, sized, length-over n (λ i. 0) (s .deadlines));
-              links = stack.room whole;
-              turns = omega (arith, sized, length-over n (λ i. turn) (s .turns));
-            };
-          };
-          whole = record {
-            stack = whole;
-            rows = record {
-              six = refl;
-              row = λ k hk.
-                  getD-replicate {A = ℕ} 6 k 0 0 hk
-                  ∙ sym (row-none (flags (stack.lists made) k) 64 (λ j hj. ap filled (empty (slotPlace k j) (omega arith))));
-            };
-          };
-          turns = λ i h. let e : at (over n (λ j. turn) (s .turns)) i ≡ turn = over-at n (λ j. turn) (s .turns) (F .room .turns) i (omega (arith, sized)) in (omega arith, omega arith);
-        };
-        rule = record { wheel = λ p x h m. absurd (nobody-in p x (omega arith) m); stack = λ x m. absurd (nobody-in expired x (omega arith) m) };
-      }
-
-  pub formats : {s′ : QueueWords} → Makes n turn (slices s) s′ → {a : Answer} → a ≡ A.Done → Formatted s n turn a s′
-  formats {s′} M {a} e =
-      let q : s′ ≡ new = λ i. queueWords (M .wheel i) (M .values i) (M .deadlines i) (M .turns i) in
-      rw q (record {
-        told = ap told e;
-        sound = new-sound;
-        view = view-eq sized refl is (over-first n 0 (s .values) (F .room .values)) (over-first n 0 (s .deadlines) (F .room .deadlines)) (over-first n turn (s .turns) (F .room .turns));
-        kept = record {
-          links = format-kept n _ _ _ (F .some) small (F .room .links);
-          values = over-kept n n (λ i. 0) (s .values) (omega arith);
-          deadlines = over-kept n n (λ i. 0) (s .deadlines) (omega arith);
-          turns = over-kept n n (λ i. turn) (s .turns) (omega arith);
-        };
-      })
-
--- ---- the call
-
-module _ (s : QueueWords) (n turn : ℕ) where
-  format-no : {r : ℕ} {a : Answer} {s′ : QueueWords} → FormatNo (Fits (slices s) n) (InRange turn) r → r ≢ 0 → a ≡ A.No r → s′ ≡ s
-      → FormatClaim s n turn a s′
-  format-no {r} N d e q =
-      record {
-        short = λ f. record { told = ap told (e ∙ ap A.No (N .short f)); same = q };
-        outside = λ F f. record { told = ap told (e ∙ ap A.No (N .outside F f)); same = q };
-        done = λ F T. absurd (d (N .near F T));
-      }
-
-  pub format-done : {r : ℕ} {a : Answer} {s′ : QueueWords} → FormatNo (Fits (slices s) n) (InRange turn) r → r ≡ 0
-      → Makes n turn (slices s) s′ → a ≡ A.Done → FormatClaim s n turn a s′
-  format-done N z M e =
-      let t = N .taken z in
-      record { short = λ f. absurd (f (t .0)); outside = λ F f. absurd (f (t .1)); done = λ F T. formats s F T M e }
-
-pub format-refused : (vs ds ns ps ts ms : List ℕ) {n turn r : ℕ} {a : Answer} {w w′ : Wheel} {hh hh′ : List (List ℕ)}
-    → FormatNo (Fits (slicesOf vs ds ns ps ts ms) n) (InRange turn) r → r ≢ 0 → Goes a w′ hh′ (A.No r) w hh
-    → FormatClaim (words w hh vs ds ns ps ts ms) n turn a (words w′ hh′ vs ds ns ps ts ms)
-format-refused vs ds ns ps ts ms {n} {turn} {w = w} {hh = hh} N d G =
-    format-no (words w hh vs ds ns ps ts ms) n turn N d (G .0) (λ i. words (G .1 i) (G .2 i) vs ds ns ps ts ms)

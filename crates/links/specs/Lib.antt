@@ -1,12 +1,8 @@
 pub mod Lists
 pub mod Segments
 pub mod Family
-pub mod Change
-pub mod Insert
-pub mod Remove
 pub mod Count
 pub mod Walk
 pub mod Judge
 pub mod Links
-pub mod Laws
-pub mod Fixed
+pub mod Whole

@@ -1,5 +1,4 @@
 -- The words of the links, as lists, and what the functions make of them. The heads are the caller's: a function from a place to its head.
-use mathlib.Core.Path.{_≡_, refl, ap}
 use mathlib.Core.Logic.{_≢_}
 use mathlib.Core.List.{List}
 use mathlib.Core.Bool.{cond}
@@ -29,10 +28,6 @@ module _ (nexts prevs marks : Turned (List ℕ)) where
   abbrev pub after : Links
   after = links (new nexts) (new prevs) (new marks)
 
--- two are equal by their parts
-pub links-eq : {b c d b′ c′ d′ : List ℕ} → b ≡ b′ → c ≡ c′ → d ≡ d′ → links b c d ≡ links b′ c′ d′
-links-eq q r s = λ i. record { nexts = q i; prevs = r i; marks = s i }
-
 -- what stands at an index
 abbrev pub at : List ℕ → ℕ → ℕ
 at l i = getD l i 0
@@ -54,12 +49,6 @@ cutOut s i =
     links (set (setN (s .nexts) (at (s .prevs) i) (at (s .nexts) i)) i nobody)
     (set (setN (s .prevs) (at (s .nexts) i) (at (s .prevs) i)) i nobody)
     (set (s .marks) i nobody)
-
--- the same, store by store
-pub cut-is : (s : Links) (i : ℕ) {a b : List ℕ} → a ≡ setN (s .nexts) (at (s .prevs) i) (at (s .nexts) i) → b ≡ setN (s .prevs) (at (s .nexts) i) (at (s .prevs) i)
-    → links (set a i nobody) (set b i nobody) (set (s .marks) i nobody) ≡ cutOut s i
-unfolding cutOut
-cut-is s i e f = links-eq (ap (λ (l : List ℕ). set l i nobody) e) (ap (λ (l : List ℕ). set l i nobody) f) refl
 
 -- the head, h before, of the list that i leaves
 unfoldable pub headAfter : Links → ℕ → ℕ → ℕ

@@ -1,15 +1,12 @@
 pub mod Cleared
-pub mod Decided
 pub mod Does
 pub mod Keys
-pub mod KeysGone
 pub mod KeysOne
 pub mod KeysReach
 pub mod KeysStay
 pub mod Looking
 pub mod Met
 pub mod Mornings
-pub mod Moves
 pub mod Once
 pub mod Order
 pub mod Outs
@@ -20,5 +17,4 @@ pub mod Refused
 pub mod Runs
 pub mod Shown
 pub mod Step
-pub mod Steps
 pub mod Waiting

@@ -6,11 +6,11 @@ use Prim.Native.Nat.{ℕ, _+_}
 use Rattle.queue.specs.declared.Answer.{Answer}
 use Rattle.queue.specs.Told.{Told, told}
 use Rattle.queue.specs.Told as T
-use Rattle.records.specs.Words.{QueueWords, Sound}
+use Rattle.records.specs.Words.{QueueWords}
 use Rattle.delay_queue.specs.declared.Call.{Call}
 use Rattle.delay_queue.specs.declared.Call.the-variants as C
 use Rattle.delay_queue.specs.Claims.{CallClaim}
-use Rattle.promises.specs.Step.{isNo, step-sound}
+use Rattle.promises.specs.Step.{isNo}
 
 -- a call with its answer
 pub record Asked : Type 0 where
@@ -20,11 +20,6 @@ pub record Asked : Type 0 where
 pub data Runs : QueueWords → List Asked → QueueWords → Type 0 where
   rest : {s : QueueWords} → Runs s [] s
   next : {s t u : QueueWords} {x : Asked} {l : List Asked} → CallClaim (x .call) s (x .answer) t → Runs t l u → Runs s (x ∷ l) u
-
--- "Every call on a sound store leaves a sound one": so does a run
-pub run-sound : {s t : QueueWords} {l : List Asked} → Sound s → Runs s l t → Sound t
-run-sound S rest = S
-run-sound S (next {s} {t} {x = x} c r) = run-sound (step-sound (x .call) s (x .answer) t c S) r
 
 -- ---- which calls a run has
 

@@ -1,5 +1,4 @@
 pub mod Told
 pub mod Steps
 pub mod Calls
-pub mod CallLaws
-pub mod PollLaws
+pub mod Inner

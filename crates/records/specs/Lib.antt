@@ -3,6 +3,5 @@ pub mod Slices
 pub mod Records
 pub mod Words
 pub mod Store
-pub mod Laws
-pub mod Code
-pub mod Cases
+pub mod Inner
+pub mod Found

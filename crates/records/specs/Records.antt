@@ -83,4 +83,5 @@ placed r when v =
 
 -- "A record that leaves (polled, removed, cleared) has its turn raised by one and is taken next. At turn 2^48-1 it is retired instead."
 unfoldable pub freed : ℕ → View → View
-freed r v = cond (eqb (v .turn r) lastTurn) v (withLists (change (v .lists) free (put free r (v .lists free))) (withTurn (upd (v .turn) r (v .turn r + 1)) v))
+freed r v = cond (eqb (v .turn r) lastTurn) v (withLists (change (v .lists) free (put free r (v .lists free)))
+    (withTurn (upd (v .turn) r (v .turn r + 1)) v))

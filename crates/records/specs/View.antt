@@ -1,5 +1,4 @@
 -- A store as document 01 speaks of it: elapsed, the list of each place, and each record's value, deadline and turn.
-use mathlib.Core.Path.{_≡_}
 use mathlib.Core.Bool.{cond}
 use Prim.Native.Nat.{ℕ}
 use lib.Dec.{eqb}
@@ -31,11 +30,6 @@ withDeadline f v = viewOf (v .n) (v .elapsed) (v .lists) (v .value) f (v .turn)
 
 abbrev pub withTurn : (ℕ → ℕ) → View → View
 withTurn f v = viewOf (v .n) (v .elapsed) (v .lists) (v .value) (v .deadline) f
-
--- two are equal by their parts
-pub view-eq : {n n′ e e′ : ℕ} {L L′ : Lists} {v v′ d d′ t t′ : ℕ → ℕ} → n ≡ n′ → e ≡ e′ → L ≡ L′ → v ≡ v′ → d ≡ d′ → t ≡ t′
-    → viewOf n e L v d t ≡ viewOf n′ e′ L′ v′ d′ t′
-view-eq a b c f g h = λ i. record { n = a i; elapsed = b i; lists = c i; value = f i; deadline = g i; turn = h i }
 
 -- f with x at i
 unfoldable pub upd : (ℕ → ℕ) → ℕ → ℕ → ℕ → ℕ

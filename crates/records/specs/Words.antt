@@ -1,22 +1,14 @@
 -- The words of a store, when they are sound, their view, and what is kept of them.
-use mathlib.Core.Path.{_≡_, refl, sym, ap, _∙_, subst, fun-ext}
-use mathlib.Core.Logic.{_≢_, by-cases}
 use mathlib.Core.List.{List}
 use Prim.Native.Nat.{ℕ, _^_, _<_}
-use native.Mathlib.Decide.{ℕ-discrete}
-use lib.ListN.{length, set}
-use lib.Seq.{ext-getD, getD-set-same, getD-set-other}
-use borrow.Author.Tests.{eq-eqb, ne-eqb}
 use Rattle.contracts.specs.Lent.{Lent, Turned, old, new}
 use Rattle.links.specs.Links.{links, at}
 use Rattle.stack.specs.Words.{stackWords}
-use Rattle.links.specs.Laws.{Kept, LinksKept, kept-refl, kept-trans, links-refl, links-trans}
-use Rattle.stack.specs.Laws as stack
+use Rattle.links.specs.Whole.{Kept, LinksKept}
 use Rattle.wheel.specs.Wheel.{Rule}
 use Rattle.wheel.specs.declared.Wheel.{Wheel}
-use Rattle.wheel.specs.Rows.{rows-fixed}
 use Rattle.wheel.specs.Words.{WheelWords, wheelWords, WheelWhole, words as wheeled, lists as listsIn, count as countIn, markOf as markIn}
-use Rattle.records.specs.View.{View, viewOf, upd}
+use Rattle.records.specs.View.{View, viewOf}
 use Rattle.records.specs.Slices.{Slices, Fits}
 
 pub record QueueWords : Type 0 where
@@ -41,7 +33,8 @@ module _ (elapsed : ℕ) where
   module _ (rows tops : Lent (List ℕ)) (heads : Lent (List (List ℕ))) (values deadlines nexts prevs turns marks : Lent (List ℕ)) where
     abbrev pub lent : QueueWords
     lent =
-        parts elapsed (rows .now) (tops .now) (heads .now) (values .now) (deadlines .now) (nexts .now) (prevs .now) (turns .now) (marks .now)
+        parts elapsed (rows .now) (tops .now) (heads .now) (values .now) (deadlines .now) (nexts .now) (prevs .now) (turns .now)
+        (marks .now)
 
   module _ (rows tops : Turned (List ℕ)) (heads : Turned (List (List ℕ))) (values deadlines nexts prevs turns marks : Turned (List ℕ)) where
     abbrev pub before : QueueWords
@@ -83,58 +76,3 @@ pub record PastKept (n : ℕ) (s s′ : QueueWords) : Type 0 where
   pub values : Kept n (s .values) (s′ .values)
   pub deadlines : Kept n (s .deadlines) (s′ .deadlines)
   pub turns : Kept n (s .turns) (s′ .turns)
-
-pub past-refl : (n : ℕ) (s : QueueWords) → PastKept n s s
-past-refl n s =
-    record {
-      links = links-refl n (s .wheel .stack .links);
-      values = kept-refl n (s .values);
-      deadlines = kept-refl n (s .deadlines);
-      turns = kept-refl n (s .turns);
-    }
-
-pub past-trans : {n : ℕ} {s t u : QueueWords} → PastKept n s t → PastKept n t u → PastKept n s u
-past-trans A B =
-    record {
-      links = links-trans (A .links) (B .links);
-      values = kept-trans (A .values) (B .values);
-      deadlines = kept-trans (A .deadlines) (B .deadlines);
-      turns = kept-trans (A .turns) (B .turns);
-    }
-
--- one store after the other, of as many records
-pub past-then : {s t u : QueueWords} → count t ≡ count s → PastKept (count s) s t → PastKept (count t) t u → PastKept (count s) s u
-past-then {s} {t} {u} e A B = past-trans A (subst (λ n. PastKept n t u) e B)
-
--- ---- a store in a slice, as a change of what stands at an index
-
-pub upd-same : (f : ℕ → ℕ) (i x : ℕ) → upd f i x i ≡ x
-unfolding upd
-upd-same f i x = rw (eq-eqb i i refl)
-
-pub upd-other : (f : ℕ → ℕ) (i x j : ℕ) → j ≢ i → upd f i x j ≡ f j
-unfolding upd
-upd-other f i x j d = rw (ne-eqb j i d)
-
-pub at-set : (l : List ℕ) (i x : ℕ) → i < length l → at (set l i x) ≡ upd (at l) i x
-at-set l i x h =
-    fun-ext (λ j.
-    by-cases (ℕ-discrete j i)
-    (λ e. rw e (getD-set-same l i x 0 h ∙ sym (upd-same (at l) i x)))
-    (λ d. getD-set-other l i j x 0 d ∙ sym (upd-other (at l) i x j d)))
-
--- ---- a view, and the words past N, fix the words of a sound store
-
-words-same : (l m : List ℕ) → length m ≡ length l → at m ≡ at l → m ≡ l
-words-same l m n e = ext-getD 0 m l n (λ i h. ap (λ f. f i) e)
-
-pub view-fixed : {s s′ : QueueWords} → Sound s → Sound s′ → view s′ ≡ view s → PastKept (count s) s s′ → s′ ≡ s
-view-fixed {s} {s′} S S′ e K =
-    let l : listsIn (s′ .wheel) ≡ listsIn (s .wheel) = ap (λ v. v .lists) e in
-    let t : s′ .wheel .stack ≡ s .wheel .stack = stack.lists-fixed (S .standing .whole .stack) (S′ .standing .whole .stack) l (record { size = ap (λ v. v .n) e; links = K .links }) in
-    let o : s′ .wheel .occupied ≡ s .wheel .occupied = rows-fixed (S .standing .whole .rows) (rw l at (S′ .standing .whole .rows)) in
-    let c : elapsed s′ ≡ elapsed s = ap (λ v. v .elapsed) e in
-    let a = words-same (s .values) (s′ .values) (K .values .size) (ap (λ v. v .value) e) in
-    let b = words-same (s .deadlines) (s′ .deadlines) (K .deadlines .size) (ap (λ v. v .deadline) e) in
-    let f = words-same (s .turns) (s′ .turns) (K .turns .size) (ap (λ v. v .turn) e) in
-    λ i. queueWords (wheelWords (c i) (o i) (t i)) (a i) (b i) (f i)

@@ -5,8 +5,8 @@ ghost use lib.ListN.{length};
 ghost use Rattle.contracts.specs.Lent.{old, new};
 ghost use Rattle.wheel.specs.Words.{lent, before, after};
 ghost use Rattle.records.specs.Records.{packed, turnIn, numberIn};
-ghost use Rattle.records.specs.Laws.{PlacesTo, CanPlace, LeavesTo, CanFree};
-ghost use Rattle.records.specs.Code.{DeadlineNo, FindIs};
+ghost use Rattle.records.specs.Inner.{PlacesTo, CanPlace, LeavesTo, CanFree};
+ghost use Rattle.records.specs.Found.{DeadlineNo, FindIs};
 
 // The last turn: a record that leaves at it is retired.
 pub const LAST_TURN: u64 = (1 << 48) - 1;

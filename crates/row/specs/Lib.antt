@@ -1,5 +1,2 @@
 -- The occupied row of a level: its definitions, the laws of rows, and the laws that the code cites.
 pub mod Row
-pub mod RowLaws
-pub mod RowCode
-pub mod RowBuilt

@@ -1,30 +1,22 @@
--- The judge level by level and place by place, in the words of the code's loops.
-use mathlib.Core.Path.{_≡_, refl, sym, ap, _∙_, subst}
-use mathlib.Core.Logic.{_≢_}
-use mathlib.Core.Bool.{Bool, true, false, not}
+-- What the walks of the judge say, level by level.
+use mathlib.Core.Path.{_≡_}
+use mathlib.Core.Bool.{Bool, not}
 use mathlib.Core.List.{List}
-use Prim.Native.Nat.{ℕ, _+_, _-_, _≤_, _<_}
-use native.Mathlib.Omega.{arith}
+use Prim.Native.Nat.{ℕ, _+_, _-_}
 use lib.Dec.{eqb}
-use borrow.Author.Tests.{eq-eqb, ne-eqb}
-use Rattle.row.specs.Row.{flagAt, rowOf, flagged}
-use Rattle.row.specs.RowBuilt.{HasBelow, row-begun, row-taken, row-passed, row-done}
+use Rattle.row.specs.Row.{rowOf}
 use Rattle.links.specs.Lists.{nobody}
 use Rattle.links.specs.declared.Walk.{Walk}
 use Rattle.links.specs.declared.Walk.the-variants.{Wrong, Left}
-use Rattle.links.specs.Links.{at, net}
-use Rattle.links.specs.Judge.{scan, scanAll, judge, looseOf, leaves, scan-end, wrong-left, left-inj, all-go, all-wrong, all-end}
+use Rattle.links.specs.Links.{net}
+use Rattle.links.specs.Judge.{scanAll, looseOf, leaves}
 use Rattle.stack.specs.Places.{slotPlace, slots, places}
-use Rattle.stack.specs.Heads.{slotHead, slot-head}
-use Rattle.stack.specs.Words.{StackWords, headAt, count, judged}
+use Rattle.stack.specs.Heads.{slotHead}
+use Rattle.stack.specs.Words.{StackWords, headAt, count}
 
 -- what the walk of the places from p on finds, with so much room left
 unfoldable pub from : StackWords → ℕ → ℕ → Walk
 from t p left = scanAll (net (headAt t) (t .links)) (count t) (places - p) p left
-
--- the walk of one list
-abbrev pub walked : StackWords → ℕ → ℕ → ℕ → Walk
-walked t p left h = scan (at (t .links .nexts)) (at (t .links .prevs)) (at (t .links .marks)) (count t) p left 65535 h
 
 -- the flags that the heads of level k have
 abbrev pub held : List (List ℕ) → ℕ → ℕ → Bool
@@ -39,105 +31,3 @@ pub record WalksLevel (t : StackWords) (k left : ℕ) (w : Walk) (x : ℕ) : Typ
 -- what the judge says once the slots are passed
 unfoldable pub rest : StackWords → ℕ → Bool
 rest t left = leaves (from t slots left) (looseOf (t .links) (count t))
-
--- ---- place by place
-
-module _ (t : StackWords) (p left : ℕ) where
-  module _ (h : ℕ) (w : Walk) (hp : p < places) (e : h ≡ headAt t p) (f : w ≡ walked t p left h) where
-    here : walked t p left (headAt t p) ≡ w
-    here = ap (walked t p left) (sym e) ∙ sym f
-
-    pub judge-go : (m : ℕ) → w ≡ Left m → from t p left ≡ from t (p + 1) m
-    unfolding from
-    judge-go m k = all-go (net (headAt t) (t .links)) (count t) places p left m hp (here ∙ k)
-
-    pub judge-wrong : w ≡ Wrong → from t p left ≡ Wrong
-    unfolding from
-    judge-wrong k = all-wrong (net (headAt t) (t .links)) (count t) places p left hp (here ∙ k)
-
-  -- a place with no head
-  pub judge-none : p < places → headAt t p ≡ nobody → from t p left ≡ from t (p + 1) left
-  judge-none hp z = judge-go (headAt t p) (Left left) hp refl (sym (scan-end _ _ _ (count t) p left nobody (headAt t p) z)) left refl
-
-  pub judge-end : places ≤ p → from t p left ≡ Left left
-  unfolding from
-  judge-end hp = all-end (net (headAt t) (t .links)) (count t) places p left hp
-
--- ---- the slots of a level
-
--- some slots of level k are passed
-pub record WalkedSo (t : StackWords) (k left₀ s left x : ℕ) : Type 0 where
-  pub within : s ≤ 64
-  pub goes : from t (slotPlace k 0) left₀ ≡ from t (slotPlace k s) left
-  pub has : HasBelow (held (t .heads) k) s x
-
-module _ (t : StackWords) (k : ℕ) (hk : k < 6) where
-  pub level-begun : (left₀ : ℕ) → WalkedSo t k left₀ 0 left₀ 0
-  level-begun left₀ = record { within = omega arith; goes = refl; has = row-begun }
-
-  module _ {left₀ s left x : ℕ} (S : WalkedSo t k left₀ s left x) (hs : s < 64) where
-    head-here : slotHead (t .heads) k s ≡ headAt t (slotPlace k s)
-    head-here = slot-head k s hk hs (t .stacks) (t .heads)
-
-    next : slotPlace k s + 1 ≡ slotPlace k (s + 1)
-    next = omega arith
-
-    pub level-passed : slotHead (t .heads) k s ≡ nobody → WalkedSo t k left₀ (s + 1) left x
-    level-passed z =
-        record {
-          within = omega arith;
-          goes = S .goes ∙ judge-none t (slotPlace k s) left (omega arith) (sym head-here ∙ z) ∙ ap (λ p. from t p left) next;
-          has = row-passed (S .has) (ap not (eq-eqb (slotHead (t .heads) k s) nobody z));
-        }
-
-    module _ {w : Walk} {p : ℕ} (ep : p ≡ slotPlace k s) (g : w ≡ walked t p left (slotHead (t .heads) k s)) where
-      f : w ≡ walked t (slotPlace k s) left (slotHead (t .heads) k s)
-      f = g ∙ ap (λ q. walked t q left (slotHead (t .heads) k s)) ep
-
-      pub level-taken : slotHead (t .heads) k s ≢ nobody → (m : ℕ) → w ≡ Left m → {y : ℕ} → y ≡ rowOf (flagged (flagAt x) s true) → WalkedSo t k left₀ (s + 1) m y
-      level-taken d m e ey =
-          record {
-            within = omega arith;
-            goes =
-                S .goes ∙ judge-go t (slotPlace k s) left (slotHead (t .heads) k s) w (omega arith) head-here f m e
-                ∙ ap (λ p. from t p m) next;
-            has = subst (HasBelow (held (t .heads) k) (s + 1)) (sym ey) (row-taken (S .has) hs (ap not (ne-eqb (slotHead (t .heads) k s) nobody d)));
-          }
-
-      pub level-wrong : w ≡ Wrong → WalksLevel t k left₀ w x
-      level-wrong e =
-          record {
-            wrong = λ _. S .goes ∙ judge-wrong t (slotPlace k s) left (slotHead (t .heads) k s) w (omega arith) head-here f e;
-            goes = λ m z. absurd (wrong-left (sym e ∙ z));
-            filled = λ m z. absurd (wrong-left (sym e ∙ z));
-          }
-
-  pub level-done : {left₀ s left x : ℕ} → WalkedSo t k left₀ s left x → 64 ≤ s → WalksLevel t k left₀ (Left left) x
-  level-done {left₀} {s} {left} S h =
-      let e : slotPlace k s ≡ slotPlace (k + 1) 0 = omega arith in
-      record {
-        wrong = λ z. absurd (wrong-left (sym z));
-        goes = λ m z. S .goes ∙ ap (λ p. from t p left) e ∙ ap (from t (slotPlace (k + 1) 0)) (left-inj left m z);
-        filled = λ m z. row-done (S .has) h;
-      }
-
--- ---- the two that are no slots
-
-module _ (t : StackWords) (left₀ : ℕ) where
-  pub rest-wrong : (p left : ℕ) → from t slots left₀ ≡ from t p left → from t p left ≡ Wrong → false ≡ rest t left₀
-  unfolding rest
-  rest-wrong p left g e = rw (g, e)
-
-  pub rest-end : (p left c : ℕ) → from t slots left₀ ≡ from t p left → places ≤ p → c ≡ looseOf (t .links) (count t) → eqb left c ≡ rest t left₀
-  unfolding rest
-  rest-end p left c g h e = rw (g, judge-end t p left h, e)
-
--- ---- the judge, level by level
-
-pub rest-judged : (t : StackWords) (left : ℕ) → from t 0 (count t) ≡ from t slots left → rest t left ≡ judged t
-unfolding rest judged from judge
-rest-judged t left g = ap (λ w. leaves w (looseOf (t .links) (count t))) (sym g)
-
-pub level-judged : (t : StackWords) → from t 0 (count t) ≡ Wrong → judged t ≡ false
-unfolding judged from judge
-level-judged t e = ap (λ w. leaves w (looseOf (t .links) (count t))) e

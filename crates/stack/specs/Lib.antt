@@ -1,7 +1,6 @@
 pub mod Places
-pub mod Asked
 pub mod Heads
 pub mod Words
 pub mod Judge
-pub mod Laws
+pub mod Whole
 pub mod Format

@@ -1,27 +1,11 @@
--- The judge of the wheel, level by level: every list is whole, and the rows are those of the lists.
-use mathlib.Core.Path.{_≡_, refl, sym, ap, _∙_}
-use mathlib.Core.Logic.{_≢_, by-cases}
-use mathlib.Core.Bool.{Bool, true, false, true≢false}
-use Prim.Native.Nat.{ℕ, _+_, _≤_, _<_}
-use native.Mathlib.Decide.{ℕ-discrete}
-use native.Mathlib.Omega.{arith}
+-- What the judge of the wheel asks.
+use mathlib.Core.Path.{_≡_}
+use Prim.Native.Nat.{_≤_}
 use lib.ListN.{length}
-use borrow.Author.Count.{below-more}
-use borrow.Author.Tests.{eq-eqb, ne-eqb}
-use Rattle.contracts.specs.Tells.{Tells, tells-no}
-use Rattle.row.specs.Row.{rowOf}
-use Rattle.row.specs.RowLaws.{row-ext}
 use Rattle.links.specs.Lists.{nobody}
-use Rattle.links.specs.declared.Walk.{Walk}
-use Rattle.links.specs.declared.Walk.the-variants.{Wrong, Left}
-use Rattle.links.specs.Links.{at, Room}
-use Rattle.stack.specs.Places.{slotPlace, slots}
-use Rattle.stack.specs.Heads.{Shape, slotHead, slot-head}
-use Rattle.stack.specs.Words.{judged}
-use Rattle.stack.specs.Judge.{from, held, WalksLevel, rest, rest-judged, level-judged}
-use Rattle.stack.specs.Laws as stack
-use Rattle.wheel.specs.Rows.{flags}
-use Rattle.wheel.specs.Words.{WheelWords, count, headAt, lists, WheelWhole}
+use Rattle.links.specs.Links.{Room}
+use Rattle.stack.specs.Heads.{Shape}
+use Rattle.wheel.specs.Words.{WheelWords, count}
 
 -- what the types of rows and heads say, and that the slices of the links are long enough
 pub record CanJudge (t : WheelWords) : Type 0 where
@@ -29,72 +13,3 @@ pub record CanJudge (t : WheelWords) : Type 0 where
   pub shape : Shape (t .stack .heads)
   pub room : Room (count t) (t .stack .links)
   pub few : count t ≤ nobody
-
--- a slot has a head just where its list is not empty
-head-filled : (t : WheelWords) → stack.Whole (t .stack) → (k j : ℕ) → k < 6 → j < 64 → held (t .stack .heads) k j ≡ flags (lists t) k j
-head-filled t W k j hk hj =
-    let p = slotPlace k j in
-    let h : slotHead (t .stack .heads) k j ≡ headAt t p = slot-head k j hk hj (t .stack .stacks) (t .stack .heads) in
-    by-cases (ℕ-discrete (headAt t p) nobody)
-    (λ z. rw (h, eq-eqb (headAt t p) nobody z, stack.list-empty W p z))
-    (λ z. let r = stack.list-cons W p z in rw (h, ne-eqb (headAt t p) nobody z, r .1))
-
--- the row of a whole wheel is that of its heads
-pub whole-row : {t : WheelWords} → WheelWhole t → (k : ℕ) → k < 6 → at (t .occupied) k ≡ rowOf (held (t .stack .heads) k)
-whole-row {t} W k hk =
-    W .rows .row k hk ∙ row-ext (flags (lists t) k) (held (t .stack .heads) k) 64 (λ j hj. sym (head-filled t (W .stack) k j hk hj))
-
--- and the other way: lists that the judge passes, and rows that are those of the heads
-pub whole-from : {t : WheelWords} → CanJudge t → judged (t .stack) ≡ true → ((k : ℕ) → k < 6 → at (t .occupied) k ≡ rowOf (held (t .stack .heads) k)) → WheelWhole t
-whole-from {t} C e f =
-    let W = stack.judged-whole (C .few) (C .shape) (C .room) e in
-    record {
-      stack = W;
-      rows = record {
-        six = C .six;
-        row = λ k hk. f k hk ∙ row-ext (held (t .stack .heads) k) (flags (lists t) k) 64 (λ j hj. head-filled t W k j hk hj);
-      };
-    }
-
--- some levels are passed
-pub record JudgedSo (t : WheelWords) (level left : ℕ) : Type 0 where
-  pub within : level ≤ 6
-  pub goes : from (t .stack) 0 (count t) ≡ from (t .stack) (slotPlace level 0) left
-  pub rows : (k : ℕ) → k < level → at (t .occupied) k ≡ rowOf (held (t .stack .heads) k)
-
-pub judge-begun : (t : WheelWords) → JudgedSo t 0 (count t)
-judge-begun t = record { within = omega arith; goes = refl; rows = λ k h. absurd (omega arith) }
-
-module _ {t : WheelWords} {level left : ℕ} (S : JudgedSo t level left) where
-  module _ (h : level < 6) {w : Walk} {x : ℕ} (L : WalksLevel (t .stack) level left w x) where
-    -- a list is wrong
-    pub judge-wrong : w ≡ Wrong → Tells (WheelWhole t) false
-    judge-wrong e =
-        tells-no (λ W. true≢false (sym (stack.whole-judged (W .stack)) ∙ level-judged (t .stack) (S .goes ∙ L .wrong e)))
-
-    module _ (m : ℕ) (e : w ≡ Left m) where
-      -- a row is not that of the heads
-      pub judge-other : x ≢ at (t .occupied) level → Tells (WheelWhole t) false
-      judge-other d = tells-no (λ W. d (L .filled m e ∙ sym (whole-row W level h)))
-
-      pub judge-next : x ≡ at (t .occupied) level → JudgedSo t (level + 1) m
-      judge-next f =
-          record {
-            within = omega arith;
-            goes = S .goes ∙ L .goes m e;
-            rows = below-more _ level (S .rows) (sym f ∙ L .filled m e);
-          }
-
-  -- all levels are
-  module _ (C : CanJudge t) (h : 6 ≤ level) {b : Bool} (e : b ≡ rest (t .stack) left) where
-    is-judged : b ≡ judged (t .stack)
-    is-judged =
-        let z : slotPlace level 0 ≡ slots = omega (arith, S .within) in
-        e ∙ rest-judged (t .stack) left (S .goes ∙ ap (λ p. from (t .stack) p left) z)
-
-    pub judge-end : Tells (WheelWhole t) b
-    judge-end =
-        record {
-          yes = λ q. whole-from C (sym is-judged ∙ q) (λ k hk. S .rows k (omega arith));
-          no = λ q W. true≢false (sym (stack.whole-judged (W .stack)) ∙ sym is-judged ∙ q);
-        }

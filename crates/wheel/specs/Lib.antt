@@ -1,10 +1,8 @@
 pub mod Wheel
 pub mod Sums
 pub mod Between
-pub mod Next
 pub mod Drain
 pub mod Poll
-pub mod One
 pub mod Rows
 pub mod Words
 pub mod Expiration

@@ -67,6 +67,7 @@ pub data Polls (d : ℕ → ℕ) (now : ℕ) : ℕ → Lists → Option ℕ → 
   out : {e s x : ℕ} {L : Lists} {l : List ℕ} → FirstSlot e L 0 s → startAt e 0 s ≤ now → L (slotPlace 0 s) ≡ x ∷ l
       → Polls d now e L (some x) 0 0 e (change L (slotPlace 0 s) l)
   -- "At a higher level the slot is drained ..; elapsed becomes the slot start; it looks again."
-  drain : {e k s m : ℕ} {L M : Lists} {got : Option ℕ} {moves drains e′ : ℕ} {N : Lists} → FirstSlot e L (suc k) s → startAt e (suc k) s ≤ now
+  drain : {e k s m : ℕ} {L M : Lists} {got : Option ℕ} {moves drains e′ : ℕ} {N : Lists} → FirstSlot e L (suc k) s
+      → startAt e (suc k) s ≤ now
       → Drains d k (slotPlace (suc k) s) L m M → Polls d now (startAt e (suc k) s) M got moves drains e′ N
       → Polls d now e L got (m + moves) (suc drains) e′ N

@@ -1,24 +1,14 @@
 -- The words of this layer, when they are whole, and what a function leaves of them.
-use mathlib.Core.Path.{_≡_, refl, sym, ap, _∙_, subst}
-use mathlib.Core.Logic.{_≢_, inl, by-cases}
-use mathlib.Core.Bool.{true, false}
-use mathlib.Core.List.{List, [], _∷_, nil≢cons}
-use Prim.Native.Nat.{ℕ, _/_, _%_, _≤_, _<_}
-use native.Mathlib.Decide.{ℕ-discrete}
-use native.Mathlib.Omega.{arith}
-use lib.ListN.{set}
-use Rattle.times.specs.Times.{slotOf}
-use Rattle.times.specs.Quotients.{slot-lt}
-use Rattle.row.specs.Row.{flagAt}
-use Rattle.links.specs.Lists.{nobody, Mem, without, change, change-same}
+use mathlib.Core.Path.{_≡_}
+use mathlib.Core.List.{List, [], _∷_}
+use Prim.Native.Nat.{ℕ, _≤_, _<_}
+use Rattle.links.specs.Lists.{nobody, without, change}
 use Rattle.contracts.specs.Lent.{Lent, Turned, old, new}
-use Rattle.links.specs.Links.{at, CanJoin, CanCut}
-use Rattle.stack.specs.Places.{slotPlace, slots, places, put, levelAt, slotAt}
-use Rattle.stack.specs.Words.{StackWords, push, pop, remove, words as stacked, count as countIn, headAt as headIn, markOf as markIn, CanPushSlot, CanPopSlot}
-use Rattle.stack.specs.Heads.{slotHead, slot-head}
-use Rattle.stack.specs.Laws as stack
+use Rattle.stack.specs.Places.{slots, places, put}
+use Rattle.stack.specs.Words.{StackWords, words as stacked, count as countIn, markOf as markIn}
+use Rattle.stack.specs.Whole as stack
 use Rattle.wheel.specs.Wheel.{Lists, arrive}
-use Rattle.wheel.specs.Rows.{filled, flagRow, withFlag, Rows, flag-is, rows-flagged, rows-kept, rows-aside}
+use Rattle.wheel.specs.Rows.{Rows}
 
 pub record WheelWords : Type 0 where
   pub elapsed : ℕ
@@ -50,9 +40,6 @@ count t = countIn (t .stack)
 abbrev pub markOf : WheelWords → ℕ → ℕ
 markOf t i = markIn (t .stack) i
 
-abbrev pub headAt : WheelWords → ℕ → ℕ
-headAt t p = headIn (t .stack) p
-
 -- the list of each place
 abbrev pub lists : WheelWords → Lists
 lists t = stack.lists (t .stack)
@@ -74,11 +61,6 @@ pub record LooseIn (t : WheelWords) (i : ℕ) : Type 0 where
   pub below : i < count t
   pub loose : markOf t i ≡ nobody
 
--- one list changes, and the rows are those of the lists then
-becomes : {t : WheelWords} {p : ℕ} {l : List ℕ} {u : StackWords} {occ : List ℕ} → stack.Changes (t .stack) p l u → Rows occ (change (lists t) p l)
-    → Becomes t (change (lists t) p l) (wheelWords (t .elapsed) occ u)
-becomes C R = record { whole = record { stack = C .whole; rows = rw (C .lists) R }; lists = C .lists; elapsed = refl; kept = C .kept }
-
 -- i, with the deadline w, joins its slot of level k
 abbrev pub Arrives : WheelWords → ℕ → ℕ → ℕ → WheelWords → Type 0
 Arrives t k w i t′ = Becomes t (arrive k w i (lists t)) t′
@@ -94,49 +76,6 @@ pub record CanAdd (t : WheelWords) (k i : ℕ) : Type 0 where
   pub level : k < 6
   pub item : LooseIn t i
 
-module _ {t : WheelWords} {k i : ℕ} (C : CanAdd t k i) (w s : ℕ) (es : s ≡ slotOf w k) where
-  pub add-slot : (k < 6) × (s < 64)
-  add-slot = omega (arith, slot-lt w k)
-
-  pub add-push : CanPushSlot (t .stack .heads) (t .stack .links) k s i
-  add-push = stack.can-push-slot (C .whole .stack) k s (add-slot .0) (add-slot .1) i (C .item .below)
-
-put-filled : (p i : ℕ) (l : List ℕ) → true ≡ filled (put p i l)
-unfolding put
-put-filled p i l = refl
-
-pub add-law : {t : WheelWords} {k i : ℕ} → CanAdd t k i → (w s : ℕ) {x : ℕ} {u : StackWords} → s ≡ slotOf w k
-    → u ≡ push (t .stack) (slotPlace k s) i → x ≡ flagRow (t .occupied) k s true → Arrives t k w i (wheelWords (t .elapsed) (set (t .occupied) k x) u)
-unfolding arrive
-add-law {t} {k} {i} C w s es eu ex =
-    let hs : s < 64 = omega (arith, slot-lt w k) in
-    let p : ℕ = slotPlace k s in
-    rw (← es, ex) (becomes (rw eu (stack.push-law (C .whole .stack) p i (omega arith) (C .item .below) (C .item .loose)))
-    (rows-flagged (C .whole .rows) k s true (put p i (lists t p)) (C .level) hs (put-filled p i (lists t p))))
-
--- ---- an entry leaves its list, where l is left
-
-module _ {t : WheelWords} (W : WheelWhole t) {p : ℕ} {l : List ℕ} {u : StackWords} (C : stack.Changes (t .stack) p l u) where
-  left-list : stack.lists u p ≡ l
-  left-list = rw (C .lists) (change-same (lists t) p l)
-
-  -- it is no slot
-  pub left-aside : slots ≤ p → Becomes t (change (lists t) p l) (wheelWords (t .elapsed) (t .occupied) u)
-  left-aside h = becomes C (rows-aside (W .rows) p l h)
-
-  -- it still has a head
-  pub left-some : filled (lists t p) ≡ true → headIn u p ≢ nobody → Becomes t (change (lists t) p l) (wheelWords (t .elapsed) (t .occupied) u)
-  left-some f h =
-      let r = stack.list-cons (C .whole) p h in
-      becomes C (rows-kept (W .rows) p l (ap filled (sym left-list ∙ r .1) ∙ sym f))
-
-  -- it has none, and its flag is cleared
-  pub left-none : (k s : ℕ) {occ : List ℕ} → k < 6 → s < 64 → p ≡ slotPlace k s → headIn u p ≡ nobody → occ ≡ withFlag (t .occupied) k s false
-      → Becomes t (change (lists t) p l) (wheelWords (t .elapsed) occ u)
-  left-none k s hk hs ep h eo =
-      let e : l ≡ [] = sym left-list ∙ stack.list-empty (C .whole) p h in
-      becomes C (rw (eo, ep) (rows-flagged (W .rows) k s false l hk hs (ap filled (sym e))))
-
 -- ---- the head of a list leaves it
 
 -- item is the head of p, which leaves it and is loose; from an empty list nobody does
@@ -144,95 +83,11 @@ pub record Pops (t : WheelWords) (p item : ℕ) (t′ : WheelWords) : Type 0 whe
   pub none : lists t p ≡ [] → (item ≡ nobody) × Becomes t (lists t) t′
   pub some : (x : ℕ) (l : List ℕ) → lists t p ≡ x ∷ l → (item ≡ x) × LooseIn t′ x × Becomes t (change (lists t) p l) t′
 
-module _ {t : WheelWords} (W : WheelWhole t) (p item : ℕ) (ei : item ≡ headAt t p) {u : StackWords} (eu : u ≡ pop (t .stack) p) where
-  -- nobody was there
-  pub popped-none : item ≡ nobody → Pops t p item (wheelWords (t .elapsed) (t .occupied) u)
-  popped-none z =
-      let e : lists t p ≡ [] = stack.list-empty (W .stack) p (sym ei ∙ z) in
-      let y : u ≡ t .stack = eu ∙ stack.pop-empty (W .stack) p e .1 in
-      record {
-        none = λ g. (z, rw y (record { whole = W; lists = refl; elapsed = refl; kept = stack.kept-refl (t .stack) }));
-        some = λ x l g. absurd (nil≢cons (sym e ∙ g));
-      }
-
-  module _ (some : item ≢ nobody) where
-    was : (l : List ℕ) × (lists t p ≡ item ∷ l)
-    was = rw (← ei) at (stack.list-cons (W .stack) p (λ z. some (ei ∙ z)))
-
-    change-here : stack.Changes (t .stack) p (was .0) u
-    change-here = subst (stack.Changes (t .stack) p (was .0)) (sym eu) (stack.pop-law (W .stack) p item (was .0) (was .1) .1)
-
-    item-below : item < count t
-    item-below = stack.member-below (W .stack) p item (rw (was .1) (inl refl))
-
-    -- whatever occupied rows it is left with
-    pops : {occ : List ℕ} → Becomes t (change (lists t) p (was .0)) (wheelWords (t .elapsed) occ u) → Pops t p item (wheelWords (t .elapsed) occ u)
-    pops B =
-        record {
-          none = λ g. absurd (nil≢cons (sym g ∙ was .1));
-          some = λ x l g.
-              let e : item ∷ was .0 ≡ x ∷ l = sym (was .1) ∙ g in
-              let a : item ≡ x = cc in
-              let b : was .0 ≡ l = cc in (
-                a,
-                rw (← a) (record {
-                  below = omega (arith, item-below);
-                  loose = rw eu (stack.pop-mark (W .stack) p item (was .0) (was .1));
-                }),
-                rw b at B,
-              );
-        }
-
-    -- p is no slot
-    popped-aside : slots ≤ p → Pops t p item (wheelWords (t .elapsed) (t .occupied) u)
-    popped-aside h = pops (left-aside W change-here h)
-
-    -- more are left
-    pub popped-more : headIn u p ≢ nobody → Pops t p item (wheelWords (t .elapsed) (t .occupied) u)
-    popped-more h = pops (left-some W change-here (ap filled (was .1)) h)
-
-    -- it was the last of slot s of level k, whose flag is set until now
-    module _ (k s : ℕ) (hk : k < 6) (hs : s < 64) (ep : p ≡ slotPlace k s) where
-      pub popped-flag : flagAt (at (t .occupied) k) s ≡ true
-      popped-flag = flag-is (W .rows) k s hk hs ∙ rw (← ep) (ap filled (was .1))
-
-      pub popped-last : headIn u p ≡ nobody → {occ : List ℕ} → occ ≡ withFlag (t .occupied) k s false → Pops t p item (wheelWords (t .elapsed) occ u)
-      popped-last h eo = pops (left-none W change-here k s hk hs ep h eo)
-
--- p is no slot
-pub pops-aside : {t : WheelWords} → WheelWhole t → (p item : ℕ) → item ≡ headAt t p → {u : StackWords} → u ≡ pop (t .stack) p → slots ≤ p
-    → Pops t p item (wheelWords (t .elapsed) (t .occupied) u)
-pops-aside W p item ei eu h = by-cases (ℕ-discrete item nobody) (popped-none W p item ei eu) (λ d. popped-aside W p item ei eu d h)
-
 -- of a slot
 pub record CanPop (t : WheelWords) (k s : ℕ) : Type 0 where
   pub whole : WheelWhole t
   pub level : k < 6
   pub slot : s < 64
-
-pub pop-asks : {t : WheelWords} {k s : ℕ} → CanPop t k s → CanPopSlot (t .stack .heads) (t .stack .links) k s
-pop-asks {t} {k} {s} C = stack.can-pop-slot (C .whole .stack) k s (C .level) (C .slot)
-
--- the three ways in the words of the code, which looks at the slot's head and at no place
-module _ {t : WheelWords} {k s : ℕ} (C : CanPop t k s) {item : ℕ} (ei : item ≡ slotHead (t .stack .heads) k s) {u : StackWords} (eu : u ≡ pop (t .stack) (slotPlace k s)) where
-  head-here : (v : StackWords) → slotHead (v .heads) k s ≡ headIn v (slotPlace k s)
-  head-here v = slot-head k s (C .level) (C .slot) (v .stacks) (v .heads)
-
-  pub slot-none : item ≡ nobody → Pops t (slotPlace k s) item (wheelWords (t .elapsed) (t .occupied) u)
-  slot-none z = popped-none (C .whole) (slotPlace k s) item (ei ∙ head-here (t .stack)) eu z
-
-  module _ (some : item ≢ nobody) where
-    pub slot-more : slotHead (u .heads) k s ≢ nobody → Pops t (slotPlace k s) item (wheelWords (t .elapsed) (t .occupied) u)
-    slot-more h = popped-more (C .whole) (slotPlace k s) item (ei ∙ head-here (t .stack)) eu some (λ z. h (head-here u ∙ z))
-
-    pub slot-flag : flagAt (at (t .occupied) k) s ≡ true
-    slot-flag = popped-flag (C .whole) (slotPlace k s) item (ei ∙ head-here (t .stack)) eu some k s (C .level) (C .slot) refl
-
-    pub slot-last : slotHead (u .heads) k s ≡ nobody → {x : ℕ} → x ≡ flagRow (t .occupied) k s false
-        → Pops t (slotPlace k s) item (wheelWords (t .elapsed) (set (t .occupied) k x) u)
-    slot-last h ex =
-        popped-last (C .whole) (slotPlace k s) item (ei ∙ head-here (t .stack)) eu some k s (C .level) (C .slot) refl (sym (head-here u) ∙ h)
-        (ap (set (t .occupied) k) ex)
 
 -- ---- a record comes to a list that is no slot
 
@@ -241,14 +96,6 @@ pub record CanPush (t : WheelWords) (p i : ℕ) : Type 0 where
   pub aside : slots ≤ p
   pub place : p < places
   pub item : LooseIn t i
-
-pub push-aside : {t : WheelWords} {p i : ℕ} → CanPush t p i → {u : StackWords} → u ≡ push (t .stack) p i
-    → Becomes t (change (lists t) p (put p i (lists t p))) (wheelWords (t .elapsed) (t .occupied) u)
-push-aside {t} {p} {i} C eu =
-    left-aside (C .whole) (rw eu (stack.push-law (C .whole .stack) p i (C .place) (C .item .below) (C .item .loose))) (C .aside)
-
-pub push-asks : {t : WheelWords} {p i : ℕ} → CanPush t p i → (p < places) × CanJoin (t .stack .links) i (headAt t p)
-push-asks {t} {p} {i} C = stack.can-push (C .whole .stack) p i (C .place) (C .item .below)
 
 -- ---- a record leaves whatever list it is in
 
@@ -261,48 +108,3 @@ pub record CanLeave (t : WheelWords) (i : ℕ) : Type 0 where
 pub record Leaves (t : WheelWords) (i : ℕ) (t′ : WheelWords) : Type 0 where
   pub item : LooseIn t′ i
   pub becomes : Becomes t (change (lists t) (markOf t i) (without i (lists t (markOf t i)))) t′
-
-pub leave-asks : {t : WheelWords} {i : ℕ} → CanLeave t i → (markOf t i < places) × CanCut (t .stack .links) i
-leave-asks {t} {i} C = stack.can-remove (C .whole .stack) i (C .below) (C .listed)
-
-module _ {t : WheelWords} {i : ℕ} (C : CanLeave t i) {u : StackWords} (eu : u ≡ remove (t .stack) i) where
-  abbrev from : ℕ
-  from = markOf t i
-
-  left-here : stack.Changes (t .stack) from (without i (lists t from)) u
-  left-here = rw eu (stack.remove-law (C .whole .stack) i (C .below) (C .listed))
-
-  was-filled : filled (lists t from) ≡ true
-  was-filled = by (lists t from) (stack.marked-member (C .whole .stack) i (C .below) (C .listed))
-    where
-      by : (l : List ℕ) → Mem i l → filled l ≡ true
-      by [] m = absurd m
-      by (x ∷ l) m = refl
-
-  leaves : {occ : List ℕ} → Becomes t (change (lists t) from (without i (lists t from))) (wheelWords (t .elapsed) occ u) → Leaves t i (wheelWords (t .elapsed) occ u)
-  leaves B =
-      record {
-        item = record {
-          below = omega arith;
-          loose = rw eu (stack.remove-mark (C .whole .stack) i (C .below) .0);
-        };
-        becomes = B;
-      }
-
-  pub leaves-aside : slots ≤ from → Leaves t i (wheelWords (t .elapsed) (t .occupied) u)
-  leaves-aside h = leaves (left-aside (C .whole) left-here h)
-
-  -- from a slot of level k
-  module _ (k s : ℕ) (hk : k < 6) (hs : s < 64) (e : from ≡ slotPlace k s) where
-    head-there : headIn u from ≡ slotHead (u .heads) k s
-    head-there = rw e (sym (slot-head k s hk hs (u .stacks) (u .heads)))
-
-    pub leaves-more : slotHead (u .heads) k s ≢ nobody → Leaves t i (wheelWords (t .elapsed) (t .occupied) u)
-    leaves-more h = leaves (left-some (C .whole) left-here was-filled (λ z. h (sym head-there ∙ z)))
-
-    pub leaves-flag : flagAt (at (t .occupied) k) s ≡ true
-    leaves-flag = flag-is (C .whole .rows) k s hk hs ∙ rw e at was-filled
-
-    pub leaves-last : slotHead (u .heads) k s ≡ nobody → {x : ℕ} → x ≡ flagRow (t .occupied) k s false
-        → Leaves t i (wheelWords (t .elapsed) (set (t .occupied) k x) u)
-    leaves-last h ex = leaves (left-none (C .whole) left-here k s hk hs e (head-there ∙ h) (ap (set (t .occupied) k) ex))

@@ -6,7 +6,7 @@ use native.Mathlib.Numerals.{add-one}
 use native.Mathlib.Omega.{arith}
 use lib.ListN.{length, getD, set, length-set}
 use lib.Seq.{paste, paste-zero, paste-suc}
-use Rattle.answering.specs.Writing.{pasted}
+use Rattle.answering.proofs.laws.Writing.{pasted}
 use Rattle.answering.proofs.copy.Statement.{statement}
 use Rattle.answering.proofs.copy.Tie as tie
 

@@ -5,8 +5,8 @@ use Prim.Native.Nat.{_≤_, _<_}
 use native.Mathlib.Omega.{arith}
 use lib.ListN.{length, length-set}
 use Rattle.answering.specs.Parts.{Before}
-use Rattle.decimals.specs.Decimals.{Tail, tail-none, tail-short, tail-more, tail-end}
-use Rattle.answering.specs.Writing.{push}
+use Rattle.decimals.proofs.laws.Decimals.{Tail, tail-none, tail-short, tail-more, tail-end}
+use Rattle.answering.proofs.laws.Writing.{push}
 use Rattle.answering.proofs.decimal_before.Statement.{statement}
 use Rattle.answering.proofs.decimal_before.Tie as tie
 

@@ -5,8 +5,8 @@ use Prim.Native.Nat.{ℕ, _+_, _*_, _≤_, _<_}
 use native.Mathlib.Omega.{arith}
 use lib.ListN.{length, length-set}
 use Rattle.answering.specs.Parts.{Before}
-use Rattle.decimals.specs.Decimals.{at-most-20}
-use Rattle.answering.specs.Writing.{Later, none-yet, one-more}
+use Rattle.decimals.proofs.laws.Decimals.{at-most-20}
+use Rattle.answering.proofs.laws.Writing.{Later, none-yet, one-more}
 use Rattle.answering.proofs.numbers_before.Statement.{statement}
 use Rattle.answering.proofs.numbers_before.Tie as tie
 

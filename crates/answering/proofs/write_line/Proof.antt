@@ -4,8 +4,8 @@ use mathlib.Core.List.{List}
 use Prim.Native.Nat.{ℕ, _-_, _≤_}
 use native.Mathlib.Omega.{arith}
 use lib.ListN.{length}
-use Rattle.decimals.specs.Spacing.{at-most-21}
-use Rattle.answering.specs.Writing.{Made, made, no-room, placed}
+use Rattle.decimals.proofs.laws.Spacing.{at-most-21}
+use Rattle.answering.proofs.laws.Writing.{Made, made, no-room, placed}
 use Rattle.answering.proofs.write_line.Statement.{statement}
 use Rattle.answering.proofs.write_line.Tie as tie
 

@@ -1,7 +1,7 @@
 -- `call_of` finds the call by its letter and its numbers (`here`), and where the letter is that of no call with these numbers there is none (`nowhere`).
 use borrow.Author.Needs.{needs}
 use Rattle.delay_queue.specs.declared.Call.the-variants as C
-use Rattle.asking.specs.Finding.{here, nowhere}
+use Rattle.asking.proofs.laws.Finding.{here, nowhere}
 use Rattle.asking.proofs.call_of.Statement.{statement}
 use Rattle.asking.proofs.call_of.Tie as tie
 

@@ -1,7 +1,7 @@
 -- `fields_in` finds the numbers: none in nothing, and any others behind a space (`no-space`, `a-space`).
 use borrow.Author.Needs.{needs}
 use native.Mathlib.Omega.{arith}
-use Rattle.asking.specs.Reading.{no-numbers, no-space, a-space}
+use Rattle.asking.proofs.laws.Reading.{no-numbers, no-space, a-space}
 use Rattle.asking.proofs.fields_in.Statement.{statement}
 use Rattle.asking.proofs.fields_in.Tie as tie
 

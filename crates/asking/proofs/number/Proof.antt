@@ -4,7 +4,7 @@ use mathlib.Core.Logic.{⊎-elim}
 use Prim.Native.Nat.{_-_}
 use native.Mathlib.Omega.{arith}
 use lib.ListN.{length}
-use Rattle.asking.specs.Reading.{Front, front-none, front-more, front-end, front-odd, front-big}
+use Rattle.asking.proofs.laws.Reading.{Front, front-none, front-more, front-end, front-odd, front-big}
 use Rattle.asking.proofs.number.Statement.{statement}
 use Rattle.asking.proofs.number.Tie as tie
 

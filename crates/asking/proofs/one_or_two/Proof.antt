@@ -2,7 +2,7 @@
 use borrow.Author.Needs.{needs}
 use native.Mathlib.Omega.{arith}
 use lib.ListN.{length-take}
-use Rattle.asking.specs.Reading.{first-bad, only-one, second-bad, both}
+use Rattle.asking.proofs.laws.Reading.{first-bad, only-one, second-bad, both}
 use Rattle.asking.proofs.one_or_two.Statement.{statement}
 use Rattle.asking.proofs.one_or_two.Tie as tie
 

@@ -1,7 +1,7 @@
 -- `read_line` keeps the claim on reading: nothing is asked by an empty or a long line, and `whole-line` has the letter and the numbers of any other.
 use borrow.Author.Needs.{needs}
 use native.Mathlib.Omega.{arith}
-use Rattle.asking.specs.Finding.{empty-line, long-line, whole-line}
+use Rattle.asking.proofs.laws.Finding.{empty-line, long-line, whole-line}
 use Rattle.asking.proofs.read_line.Statement.{statement}
 use Rattle.asking.proofs.read_line.Tie as tie
 

@@ -1,6 +1,6 @@
 -- `answer_line` meets its claim: read, done and written, or `bad` written and nothing else touched.
 use borrow.Author.Needs.{needs}
-use Rattle.bench.specs.Line.{line-asks, line-bad}
+use Rattle.bench.proofs.laws.Line.{line-asks, line-bad}
 use Rattle.bench.proofs.answer_line.Statement.{statement}
 use Rattle.bench.proofs.answer_line.Tie as tie
 

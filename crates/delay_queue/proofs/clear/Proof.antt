@@ -1,7 +1,7 @@
 -- `clear` meets its claim: the judge's answer decides, and on a sound store it is what `queue::clear` does.
 use borrow.Author.Needs.{needs}
 use Rattle.queue.specs.Calls.{ClearOn}
-use Rattle.delay_queue.specs.Back.{back, turned-down, is-sound, taken-up}
+use Rattle.delay_queue.proofs.laws.Back.{back, turned-down, is-sound, taken-up}
 use Rattle.delay_queue.proofs.clear.Statement.{statement}
 use Rattle.delay_queue.proofs.clear.Tie as tie
 

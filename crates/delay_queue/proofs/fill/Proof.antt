@@ -1,7 +1,7 @@
 -- `fill` meets its contract: the words passed are x (`fill-next`).
 use borrow.Author.Needs.{needs}
 use Prim.Native.Nat.{_-_}
-use Rattle.delay_queue.specs.Format.{FilledSo, fill-begun, fill-next, fill-end}
+use Rattle.delay_queue.proofs.laws.Format.{FilledSo, fill-begun, fill-next, fill-end}
 use Rattle.delay_queue.proofs.fill.Statement.{statement}
 use Rattle.delay_queue.proofs.fill.Tie as tie
 

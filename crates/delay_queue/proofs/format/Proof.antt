@@ -3,8 +3,8 @@ use borrow.Author.Needs.{needs}
 use mathlib.Core.Path.{refl}
 use native.Mathlib.Omega.{arith}
 use Rattle.delay_queue.specs.Claims.{FormatClaim}
-use Rattle.delay_queue.specs.Format.{format-refused, format-done}
-use Rattle.delay_queue.specs.Back.{back}
+use Rattle.delay_queue.proofs.laws.Format.{format-refused, format-done}
+use Rattle.delay_queue.proofs.laws.Back.{back}
 use Rattle.delay_queue.proofs.format.Statement.{statement}
 use Rattle.delay_queue.proofs.format.Tie as tie
 

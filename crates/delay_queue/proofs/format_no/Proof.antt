@@ -2,7 +2,7 @@
 use borrow.Author.Needs.{needs}
 use native.Mathlib.Omega.{arith}
 use borrow.Author.Tests.{not-true, not-false}
-use Rattle.delay_queue.specs.Format.{no-one, no-eight, no-none}
+use Rattle.delay_queue.proofs.laws.Format.{no-one, no-eight, no-none}
 use Rattle.delay_queue.proofs.format_no.Statement.{statement}
 use Rattle.delay_queue.proofs.format_no.Tie as tie
 

@@ -1,7 +1,7 @@
 -- `insert` meets its claim: the judge's answer decides, and on a sound store it is what `queue::insert` does.
 use borrow.Author.Needs.{needs}
 use Rattle.queue.specs.Calls.{InsertOn}
-use Rattle.delay_queue.specs.Back.{back, turned-down, is-sound, taken-up}
+use Rattle.delay_queue.proofs.laws.Back.{back, turned-down, is-sound, taken-up}
 use Rattle.delay_queue.proofs.insert.Statement.{statement}
 use Rattle.delay_queue.proofs.insert.Tie as tie
 

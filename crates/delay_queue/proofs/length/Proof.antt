@@ -1,6 +1,6 @@
 -- `length` meets its claim: the judge's answer decides, and the count is that of the pending (`pending-is`).
 use borrow.Author.Needs.{needs}
-use Rattle.delay_queue.specs.Back.{no-answer, is-sound, taken-up, marks-long, length-done}
+use Rattle.delay_queue.proofs.laws.Back.{no-answer, is-sound, taken-up, marks-long, length-done}
 use Rattle.delay_queue.proofs.length.Statement.{statement}
 use Rattle.delay_queue.proofs.length.Tie as tie
 

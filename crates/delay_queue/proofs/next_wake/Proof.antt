@@ -1,6 +1,6 @@
 -- `next_wake` meets its claim: the judge's answer decides, and on a sound store it is what `queue::next_wake` answers.
 use borrow.Author.Needs.{needs}
-use Rattle.delay_queue.specs.Back.{no-answer, is-sound, taken-up, not-passed, wake-done}
+use Rattle.delay_queue.proofs.laws.Back.{no-answer, is-sound, taken-up, not-passed, wake-done}
 use Rattle.delay_queue.proofs.next_wake.Statement.{statement}
 use Rattle.delay_queue.proofs.next_wake.Tie as tie
 

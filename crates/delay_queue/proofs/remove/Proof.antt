@@ -1,7 +1,7 @@
 -- `remove` meets its claim: the judge's answer decides, and on a sound store it is what `queue::remove` does.
 use borrow.Author.Needs.{needs}
 use Rattle.queue.specs.Calls.{RemoveOn}
-use Rattle.delay_queue.specs.Back.{back, turned-down, is-sound, taken-up}
+use Rattle.delay_queue.proofs.laws.Back.{back, turned-down, is-sound, taken-up}
 use Rattle.delay_queue.proofs.remove.Statement.{statement}
 use Rattle.delay_queue.proofs.remove.Tie as tie
 

@@ -1,7 +1,7 @@
 -- `reset` meets its claim: the judge's answer decides, and on a sound store it is what `queue::reset` does.
 use borrow.Author.Needs.{needs}
 use Rattle.queue.specs.Calls.{ResetOn}
-use Rattle.delay_queue.specs.Back.{back, turned-down, is-sound, taken-up}
+use Rattle.delay_queue.proofs.laws.Back.{back, turned-down, is-sound, taken-up}
 use Rattle.delay_queue.proofs.reset.Statement.{statement}
 use Rattle.delay_queue.proofs.reset.Tie as tie
 

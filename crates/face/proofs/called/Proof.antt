@@ -1,7 +1,7 @@
 -- `called` meets its contract: the store is sound again, whichever call it was.
 use borrow.Author.Needs.{needs}
-use Rattle.delay_queue.specs.Back.{not-passed, marks-long}
-use Rattle.face.specs.Stays.{insert-stays, reset-stays, remove-stays, poll-stays}
+use Rattle.delay_queue.proofs.laws.Back.{not-passed, marks-long}
+use Rattle.face.proofs.laws.Stays.{insert-stays, reset-stays, remove-stays, poll-stays}
 use Rattle.face.proofs.called.Statement.{statement}
 use Rattle.face.proofs.called.Tie as tie
 

@@ -1,6 +1,6 @@
 -- `face_answers` meets its contract: the judge says that the store is sound.
 use borrow.Author.Needs.{needs}
-use Rattle.delay_queue.specs.Back.{is-sound}
+use Rattle.delay_queue.proofs.laws.Back.{is-sound}
 use Rattle.face.proofs.face_answers.Statement.{statement}
 use Rattle.face.proofs.face_answers.Tie as tie
 

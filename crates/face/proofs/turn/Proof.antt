@@ -1,7 +1,7 @@
 -- `turn` meets its contract: the store is sound again, whichever call it was.
 use borrow.Author.Needs.{needs}
-use Rattle.delay_queue.specs.Back.{not-passed}
-use Rattle.face.specs.Stays.{insert-stays, reset-stays, remove-stays, poll-stays}
+use Rattle.delay_queue.proofs.laws.Back.{not-passed}
+use Rattle.face.proofs.laws.Stays.{insert-stays, reset-stays, remove-stays, poll-stays}
 use Rattle.face.proofs.turn.Statement.{statement}
 use Rattle.face.proofs.turn.Tie as tie
 

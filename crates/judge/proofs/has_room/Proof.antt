@@ -1,6 +1,6 @@
 -- `has_room` meets its contract, slice by slice.
 use native.Mathlib.Omega.{arith}
-use Rattle.contracts.specs.Tells.{tells-no, tells-le, tells-by}
+use Rattle.contracts.proofs.laws.Tells.{tells-no, tells-le, tells-by}
 use Rattle.judge.proofs.has_room.Statement.{statement}
 use Rattle.judge.proofs.has_room.Tie as tie
 

@@ -3,10 +3,10 @@ use borrow.Author.Needs.{needs}
 use mathlib.Core.Path.{sym, _∙_}
 use native.Mathlib.Omega.{arith}
 use borrow.Author.Tests.{eqb-true, eqb-false, not-true, not-false}
-use Rattle.times.specs.Levels.{level-is}
-use Rattle.times.specs.Quotients.{slot-lt}
-use Rattle.contracts.specs.Tells.{tells-no}
-use Rattle.judge.specs.Judge.{place-told}
+use Rattle.times.proofs.laws.Levels.{level-is}
+use Rattle.times.proofs.laws.Quotients.{slot-lt}
+use Rattle.contracts.proofs.laws.Tells.{tells-no}
+use Rattle.judge.proofs.laws.Judge.{place-told}
 use Rattle.judge.proofs.is_place.Statement.{statement}
 use Rattle.judge.proofs.is_place.Tie as tie
 

@@ -2,8 +2,8 @@
 use borrow.Author.Needs.{needs}
 use native.Mathlib.Omega.{arith}
 use borrow.Author.Tests.{not-true, not-false}
-use Rattle.contracts.specs.Tells.{tells-no, tells-by}
-use Rattle.judge.specs.Judge.{sound-judged, judged-sound}
+use Rattle.contracts.proofs.laws.Tells.{tells-no, tells-by}
+use Rattle.judge.proofs.laws.Judge.{sound-judged, judged-sound}
 use Rattle.judge.proofs.Rows.{shaped}
 use Rattle.judge.proofs.is_sound.Statement.{statement}
 use Rattle.judge.proofs.is_sound.Tie as tie

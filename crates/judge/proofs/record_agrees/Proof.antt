@@ -1,9 +1,9 @@
 -- `record_agrees` meets its contract: by the turn, and then by the place that the mark tells.
 use borrow.Author.Needs.{needs}
 use native.Mathlib.Omega.{arith}
-use Rattle.stack.specs.Asked.{below, past}
-use Rattle.contracts.specs.Tells.{tells-yes, tells-no}
-use Rattle.judge.specs.Judge.{record-slot, record-stack, record-aside}
+use Rattle.stack.proofs.laws.Asked.{below, past}
+use Rattle.contracts.proofs.laws.Tells.{tells-yes, tells-no}
+use Rattle.judge.proofs.laws.Judge.{record-slot, record-stack, record-aside}
 use Rattle.judge.proofs.record_agrees.Statement.{statement}
 use Rattle.judge.proofs.record_agrees.Tie as tie
 

@@ -3,8 +3,9 @@ use borrow.Author.Needs.{needs}
 use Prim.Native.Nat.{_≤_, _-_}
 use native.Mathlib.Omega.{arith}
 use borrow.Author.Tests.{not-true, not-false}
-use Rattle.contracts.specs.Tells.{tells-yes, tells-no}
-use Rattle.judge.specs.Judge.{RecordsAgree, record-next}
+use Rattle.contracts.proofs.laws.Tells.{tells-yes, tells-no}
+use Rattle.judge.specs.Judge.{RecordsAgree}
+use Rattle.judge.proofs.laws.Judge.{record-next}
 use Rattle.judge.proofs.records_agree.Statement.{statement}
 use Rattle.judge.proofs.records_agree.Tie as tie
 

@@ -1,6 +1,6 @@
 -- `cancel_twice` meets its contract: the claims of its two calls go into one law, `cancels-on`, and the rest is found.
 use borrow.Author.Needs.{needs}
-use Rattle.lending.specs.Lending.{cancels-on}
+use Rattle.lending.proofs.laws.Lending.{cancels-on}
 use Rattle.lending.proofs.cancel_twice.Statement.{statement}
 use Rattle.lending.proofs.cancel_twice.Tie as tie
 

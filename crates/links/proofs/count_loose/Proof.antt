@@ -5,7 +5,8 @@ use mathlib.Core.Logic.{⊎-elim}
 use Prim.Native.Nat.{ℕ, _≤_, _-_, _+_}
 use native.Mathlib.Omega.{arith}
 use Rattle.links.specs.Links.{at}
-use Rattle.links.specs.Judge.{looseIn, loose-zero, loose-more, loose-same}
+use Rattle.links.specs.Judge.{looseIn}
+use Rattle.links.proofs.laws.Judge.{loose-zero, loose-more, loose-same}
 use Rattle.links.proofs.count_loose.Statement.{statement}
 use Rattle.links.proofs.count_loose.Tie as tie
 

@@ -1,7 +1,8 @@
 -- `cut` meets its contract, store by store (`cut-is`); the head by the test.
 use borrow.Author.Needs.{needs}
 use borrow.Author.Tests.{eq-eqb, ne-eqb}
-use Rattle.links.specs.Links.{cut-is, headAfter}
+use Rattle.links.specs.Links.{headAfter}
+use Rattle.links.proofs.laws.Links.{cut-is}
 use Rattle.links.proofs.cut.Statement.{statement}
 use Rattle.links.proofs.cut.Tie as tie
 

@@ -2,7 +2,8 @@
 use borrow.Author.Needs.{needs}
 use mathlib.Core.Path.{refl, _∙_}
 use lib.ListN.{length-set}
-use Rattle.links.specs.Links.{links-eq, joined}
+use Rattle.links.specs.Links.{joined}
+use Rattle.links.proofs.laws.Links.{links-eq}
 use Rattle.links.proofs.join.Statement.{statement}
 use Rattle.links.proofs.join.Tie as tie
 

@@ -4,7 +4,8 @@ use mathlib.Core.Path.{_≡_, sym, _∙_}
 use Prim.Native.Nat.{_<_}
 use native.Mathlib.Omega.{arith}
 use Rattle.links.specs.Links.{at}
-use Rattle.links.specs.Judge.{scan, scan-end, scan-full, scan-far, scan-mark, scan-prev, scan-go}
+use Rattle.links.specs.Judge.{scan}
+use Rattle.links.proofs.laws.Judge.{scan-end, scan-full, scan-far, scan-mark, scan-prev, scan-go}
 use Rattle.links.proofs.walk_list.Statement.{statement}
 use Rattle.links.proofs.walk_list.Tie as tie
 

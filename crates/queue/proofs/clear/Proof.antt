@@ -4,7 +4,7 @@ use mathlib.Core.Path.{_≡_, refl}
 use Prim.Native.Nat.{_≤_, _-_}
 use native.Mathlib.Omega.{arith}
 use Rattle.records.specs.Words.{parts, count}
-use Rattle.queue.specs.PollLaws.{ClearedSo, clear-none, clear-turn, clear-done}
+use Rattle.queue.proofs.laws.Polls.{ClearedSo, clear-none, clear-turn, clear-done}
 use Rattle.queue.proofs.clear.Statement.{statement}
 use Rattle.queue.proofs.clear.Tie as tie
 

@@ -1,7 +1,7 @@
 -- `clear_one` meets its contract: not pending (`clear-stays`), or unlinked and freed (`clear-goes`).
 use borrow.Author.Needs.{needs}
-use Rattle.stack.specs.Asked.{not-below, is-below}
-use Rattle.queue.specs.PollLaws.{clear-stays, clear-leaves, clear-frees, clear-goes}
+use Rattle.stack.proofs.laws.Asked.{not-below, is-below}
+use Rattle.queue.proofs.laws.Polls.{clear-stays, clear-leaves, clear-frees, clear-goes}
 use Rattle.queue.proofs.clear_one.Statement.{statement}
 use Rattle.queue.proofs.clear_one.Tie as tie
 

@@ -1,6 +1,6 @@
 -- `hand_out` meets its contract: the answer is read before the record is freed (`out-done`).
 use borrow.Author.Needs.{needs}
-use Rattle.queue.specs.PollLaws.{out-words, out-frees, out-done}
+use Rattle.queue.proofs.laws.Polls.{out-words, out-frees, out-done}
 use Rattle.queue.proofs.hand_out.Statement.{statement}
 use Rattle.queue.proofs.hand_out.Tie as tie
 

@@ -1,7 +1,7 @@
 -- `insert` meets its contract: full, a deadline that is refused, or taken, given its value and placed (`insert-done`).
 use borrow.Author.Needs.{needs}
 use native.Mathlib.Omega.{arith}
-use Rattle.queue.specs.CallLaws.{insert-full, insert-refused, insert-words, insert-place, insert-done}
+use Rattle.queue.proofs.laws.Calls.{insert-full, insert-refused, insert-words, insert-place, insert-done}
 use Rattle.queue.proofs.insert.Statement.{statement}
 use Rattle.queue.proofs.insert.Tie as tie
 

@@ -5,7 +5,8 @@ use mathlib.Core.Logic.{⊎-elim}
 use Prim.Native.Nat.{ℕ, _≤_, _-_, _+_}
 use native.Mathlib.Omega.{arith}
 use Rattle.links.specs.Links.{at}
-use Rattle.queue.specs.PollLaws.{pendingIn, pending-zero, pending-more, pending-same}
+use Rattle.queue.specs.Inner.{pendingIn}
+use Rattle.queue.proofs.laws.Polls.{pending-zero, pending-more, pending-same}
 use Rattle.queue.proofs.length.Statement.{statement}
 use Rattle.queue.proofs.length.Tie as tie
 

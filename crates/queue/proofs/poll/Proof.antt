@@ -2,7 +2,7 @@
 use borrow.Author.Needs.{needs}
 use mathlib.Core.Path.{_∙_}
 use native.Mathlib.Omega.{arith}
-use Rattle.queue.specs.PollLaws.{poll-back, stack-loose, poll-popped, wheel-can, poll-none, wheel-loose, poll-handed}
+use Rattle.queue.proofs.laws.Polls.{poll-back, stack-loose, poll-popped, wheel-can, poll-none, wheel-loose, poll-handed}
 use Rattle.queue.proofs.poll.Statement.{statement}
 use Rattle.queue.proofs.poll.Tie as tie
 

@@ -1,8 +1,8 @@
 -- `remove` meets its contract: a dead key, or unlinked and freed (`remove-done`).
 use borrow.Author.Needs.{needs}
 use mathlib.Core.Path.{refl}
-use Rattle.records.specs.Code.{find-at, find-nowhere}
-use Rattle.queue.specs.CallLaws.{find-room, remove-dead, found-leaves, found-words, remove-frees, remove-done}
+use Rattle.records.proofs.laws.Found.{find-at, find-nowhere}
+use Rattle.queue.proofs.laws.Calls.{find-room, remove-dead, found-leaves, found-words, remove-frees, remove-done}
 use Rattle.queue.proofs.remove.Statement.{statement}
 use Rattle.queue.proofs.remove.Tie as tie
 

@@ -1,7 +1,7 @@
 -- `reset` meets its contract: a dead key, a deadline that is refused, or unlinked and placed (`reset-done`).
 use borrow.Author.Needs.{needs}
-use Rattle.records.specs.Code.{find-at, find-nowhere}
-use Rattle.queue.specs.CallLaws.{find-room, reset-dead, found-leaves, reset-refused, reset-place, reset-done}
+use Rattle.records.proofs.laws.Found.{find-at, find-nowhere}
+use Rattle.queue.proofs.laws.Calls.{find-room, reset-dead, found-leaves, reset-refused, reset-place, reset-done}
 use Rattle.queue.proofs.reset.Statement.{statement}
 use Rattle.queue.proofs.reset.Tie as tie
 

@@ -1,7 +1,7 @@
 -- `deadline_no` meets its contract, test by test.
 use borrow.Author.Needs.{needs}
 use mathlib.Core.Path.{sym, _∙_}
-use Rattle.records.specs.Code.{no-past, no-far, no-near, no-other}
+use Rattle.records.proofs.laws.Found.{no-past, no-far, no-near, no-other}
 use Rattle.records.proofs.deadline_no.Statement.{statement}
 use Rattle.records.proofs.deadline_no.Tie as tie
 

@@ -1,6 +1,6 @@
 -- `find` meets its contract, test by test.
 use borrow.Author.Needs.{needs}
-use Rattle.records.specs.Code.{find-mark, find-turn, found}
+use Rattle.records.proofs.laws.Found.{find-mark, find-turn, found}
 use Rattle.records.proofs.find.Statement.{statement}
 use Rattle.records.proofs.find.Tie as tie
 

@@ -1,6 +1,6 @@
 -- `leave` meets its contract: retired (`freed-last`) or free (`freed-given`).
 use borrow.Author.Needs.{needs}
-use Rattle.records.specs.Laws.{free-push, freed-last, freed-given}
+use Rattle.records.proofs.laws.Inner.{free-push, freed-last, freed-given}
 use Rattle.records.proofs.leave.Statement.{statement}
 use Rattle.records.proofs.leave.Tie as tie
 

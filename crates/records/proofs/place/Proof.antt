@@ -1,6 +1,6 @@
 -- `place` meets its contract: on the expired stack (`placed-now`) or in a slot (`placed-later`).
 use borrow.Author.Needs.{needs}
-use Rattle.records.specs.Laws.{place-push, placed-now, place-insert, placed-later}
+use Rattle.records.proofs.laws.Inner.{place-push, placed-now, place-insert, placed-later}
 use Rattle.records.proofs.place.Statement.{statement}
 use Rattle.records.proofs.place.Tie as tie
 

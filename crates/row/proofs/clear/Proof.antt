@@ -2,7 +2,7 @@
 use mathlib.Core.Path.{ap, _∙_}
 use lib.Bits.{bitXor}
 use borrow.Author.Needs.{needs}
-use Rattle.row.specs.RowCode.{xor-clears}
+use Rattle.row.proofs.laws.Code.{xor-clears}
 use Rattle.row.proofs.clear.Statement.{statement}
 use Rattle.row.proofs.clear.Tie as tie
 

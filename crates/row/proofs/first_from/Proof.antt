@@ -2,7 +2,7 @@
 use native.Mathlib.Omega.{arith}
 use lib.Count.{trailing-le}
 use borrow.Author.Needs.{needs}
-use Rattle.row.specs.RowCode.{zeros-first}
+use Rattle.row.proofs.laws.Code.{zeros-first}
 use Rattle.row.proofs.first_from.Statement.{statement}
 use Rattle.row.proofs.first_from.Tie as tie
 

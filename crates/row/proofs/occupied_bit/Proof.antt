@@ -1,6 +1,6 @@
 -- `row::occupied_bit` meets its contract: 1 shifted by less than the width is a power of two (`one-shl`).
 use borrow.Author.Needs.{needs}
-use Rattle.row.specs.RowCode.{one-shl}
+use Rattle.row.proofs.laws.Code.{one-shl}
 use Rattle.row.proofs.occupied_bit.Statement.{statement}
 use Rattle.row.proofs.occupied_bit.Tie as tie
 

@@ -1,6 +1,6 @@
 -- `row::rotate_right` meets its contract: the two shifts hold the flags of the turned row (`or-rotates`); by 0 it is the row itself.
 use borrow.Author.Needs.{needs}
-use Rattle.row.specs.RowCode.{or-rotates, turned-none}
+use Rattle.row.proofs.laws.Code.{or-rotates, turned-none}
 use Rattle.row.proofs.rotate_right.Statement.{statement}
 use Rattle.row.proofs.rotate_right.Tie as tie
 

@@ -2,7 +2,7 @@
 use mathlib.Core.Path.{ap, _∙_}
 use lib.Bits.{bitOr}
 use borrow.Author.Needs.{needs}
-use Rattle.row.specs.RowCode.{or-sets}
+use Rattle.row.proofs.laws.Code.{or-sets}
 use Rattle.row.proofs.set.Statement.{statement}
 use Rattle.row.proofs.set.Tie as tie
 

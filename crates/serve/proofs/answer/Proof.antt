@@ -2,7 +2,7 @@
 use borrow.Author.Needs.{needs}
 use native.Mathlib.Omega.{arith}
 use lib.ListN.{length-take}
-use Rattle.bench.specs.Line.{line-within}
+use Rattle.bench.proofs.laws.Line.{line-within}
 use Rattle.serve.proofs.answer.Statement.{statement}
 use Rattle.serve.proofs.answer.Tie as tie
 

@@ -2,7 +2,7 @@
 use borrow.Author.Needs.{needs}
 use Prim.Native.Nat.{_-_}
 use native.Mathlib.Omega.{arith}
-use Rattle.stack.specs.Format.{Filling, fill-none, fill-turn, fill-last, fill-done}
+use Rattle.stack.proofs.laws.Format.{Filling, fill-none, fill-turn, fill-last, fill-done}
 use Rattle.stack.proofs.format.Statement.{statement}
 use Rattle.stack.proofs.format.Tie as tie
 

@@ -1,6 +1,6 @@
 -- `pop` meets its contract: from an empty list nobody leaves (`pop-none`), else the head does (`pop-some`).
 use borrow.Author.Needs.{needs}
-use Rattle.stack.specs.Words.{pop-none, pop-some, pop-asks}
+use Rattle.stack.proofs.laws.Words.{pop-none, pop-some, pop-asks}
 use Rattle.stack.proofs.pop.Statement.{statement}
 use Rattle.stack.proofs.pop.Tie as tie
 

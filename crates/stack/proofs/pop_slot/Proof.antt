@@ -1,8 +1,8 @@
 -- `pop_slot` meets its contract: nobody was there (`pop-none`), or the head leaves (`pop-slot-is`).
 use borrow.Author.Needs.{needs}
 use mathlib.Core.Path.{refl}
-use Rattle.stack.specs.Heads.{slot-head}
-use Rattle.stack.specs.Words.{pop-none, pop-slot-is}
+use Rattle.stack.proofs.laws.Heads.{slot-head}
+use Rattle.stack.proofs.laws.Words.{pop-none, pop-slot-is}
 use Rattle.stack.proofs.pop_slot.Statement.{statement}
 use Rattle.stack.proofs.pop_slot.Tie as tie
 

@@ -1,6 +1,6 @@
 -- `push` meets its contract, store by store (`push-is`).
 use borrow.Author.Needs.{needs}
-use Rattle.stack.specs.Words.{push-is}
+use Rattle.stack.proofs.laws.Words.{push-is}
 use Rattle.stack.proofs.push.Statement.{statement}
 use Rattle.stack.proofs.push.Tie as tie
 

@@ -1,7 +1,7 @@
 -- `push_slot` meets its contract, store by store (`push-slot-is`).
 use borrow.Author.Needs.{needs}
 use mathlib.Core.Path.{refl}
-use Rattle.stack.specs.Words.{push-slot-is}
+use Rattle.stack.proofs.laws.Words.{push-slot-is}
 use Rattle.stack.proofs.push_slot.Statement.{statement}
 use Rattle.stack.proofs.push_slot.Tie as tie
 

@@ -1,6 +1,6 @@
 -- `remove` meets its contract, store by store (`remove-is`).
 use borrow.Author.Needs.{needs}
-use Rattle.stack.specs.Words.{remove-is}
+use Rattle.stack.proofs.laws.Words.{remove-is}
 use Rattle.stack.proofs.remove.Statement.{statement}
 use Rattle.stack.proofs.remove.Tie as tie
 

@@ -5,7 +5,7 @@ use mathlib.Core.Logic.{⊎-elim}
 use Prim.Native.Nat.{_-_}
 use native.Mathlib.Omega.{arith}
 use Rattle.stack.specs.Words.{words}
-use Rattle.stack.specs.Judge.{WalkedSo, level-begun, level-passed, level-taken, level-wrong, level-done}
+use Rattle.stack.proofs.laws.Judge.{WalkedSo, level-begun, level-passed, level-taken, level-wrong, level-done}
 use Rattle.stack.proofs.walk_level.Statement.{statement}
 use Rattle.stack.proofs.walk_level.Tie as tie
 

@@ -6,7 +6,8 @@ use Prim.Native.Nat.{_≤_, _-_}
 use native.Mathlib.Omega.{arith}
 use Rattle.stack.specs.Places.{slots, places}
 use Rattle.stack.specs.Words.{words}
-use Rattle.stack.specs.Judge.{from, judge-go, judge-wrong, rest-wrong, rest-end}
+use Rattle.stack.specs.Judge.{from}
+use Rattle.stack.proofs.laws.Judge.{judge-go, judge-wrong, rest-wrong, rest-end}
 use Rattle.stack.proofs.walk_rest.Statement.{statement}
 use Rattle.stack.proofs.walk_rest.Tie as tie
 

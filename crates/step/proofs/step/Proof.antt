@@ -1,7 +1,7 @@
 -- `step` meets its claim: each call by its own function.
 use borrow.Author.Needs.{needs}
 use Rattle.delay_queue.specs.Claims.{WakeClaim, LengthClaim}
-use Rattle.delay_queue.specs.Back.{back-same, by-call}
+use Rattle.delay_queue.proofs.laws.Back.{back-same, by-call}
 use Rattle.step.proofs.step.Statement.{statement}
 use Rattle.step.proofs.step.Tie as tie
 

@@ -1,6 +1,6 @@
 -- `times::level_for` meets its contract: within a block the leading zeros give the level (`zeros-level`).
 use native.Mathlib.Omega.{arith}
-use Rattle.times.specs.Levels.{zeros-le, zeros-level}
+use Rattle.times.proofs.laws.Levels.{zeros-le, zeros-level}
 use Rattle.times.proofs.level_for.Statement.{statement}
 use Rattle.times.proofs.level_for.Tie as tie
 

@@ -1,7 +1,7 @@
 -- `times::now_slot` meets its contract: a quotient by a width is a shift (`quotient-shr`).
 use mathlib.Core.Path.{sym}
 use borrow.Author.Needs.{needs}
-use Rattle.times.specs.Quotients.{quotient-shr}
+use Rattle.times.proofs.laws.Quotients.{quotient-shr}
 use Rattle.times.proofs.now_slot.Statement.{statement}
 use Rattle.times.proofs.now_slot.Tie as tie
 

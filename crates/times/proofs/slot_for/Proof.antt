@@ -3,7 +3,7 @@ use mathlib.Core.Path.{sym, ap}
 use Prim.Native.Nat.{ℕ, _%_}
 use borrow.Author.Needs.{needs}
 use Rattle.times.specs.Times.{slotOf}
-use Rattle.times.specs.Quotients.{quotient-shr}
+use Rattle.times.proofs.laws.Quotients.{quotient-shr}
 use Rattle.times.proofs.slot_for.Statement.{statement}
 use Rattle.times.proofs.slot_for.Tie as tie
 

@@ -1,6 +1,6 @@
 -- `times::slot_range` meets its contract: the const row holds the widths (`widths-are`).
 use borrow.Author.Needs.{needs}
-use Rattle.times.specs.Widths.{widths-are}
+use Rattle.times.proofs.laws.Widths.{widths-are}
 use Rattle.times.proofs.slot_range.Statement.{statement}
 use Rattle.times.proofs.slot_range.Tie as tie
 

@@ -1,7 +1,7 @@
 -- `times::slot_start` meets its contract: the turns, the slot and the width make the start (`start-turns`), within a u64 (`start-lt`).
 use native.Mathlib.Omega.{arith}
 use borrow.Author.Needs.{needs}
-use Rattle.times.specs.Starts.{start-turns, start-lt, slots-lt}
+use Rattle.times.proofs.laws.Starts.{start-turns, start-lt, slots-lt}
 use Rattle.times.proofs.slot_start.Statement.{statement}
 use Rattle.times.proofs.slot_start.Tie as tie
 

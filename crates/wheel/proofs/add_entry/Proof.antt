@@ -1,6 +1,6 @@
 -- `add_entry` meets its contract: one list and one flag change (`add-law`).
 use borrow.Author.Needs.{needs}
-use Rattle.wheel.specs.Words.{add-slot, add-push, add-law}
+use Rattle.wheel.proofs.laws.Words.{add-slot, add-push, add-law}
 use Rattle.wheel.proofs.add_entry.Statement.{statement}
 use Rattle.wheel.proofs.add_entry.Tie as tie
 

@@ -3,7 +3,7 @@
 use borrow.Author.Needs.{needs}
 use Prim.Native.Nat.{_-_}
 use Rattle.wheel.specs.Words.{words}
-use Rattle.wheel.specs.Judged.{JudgedSo, judge-begun, judge-wrong, judge-other, judge-next, judge-end}
+use Rattle.wheel.proofs.laws.Judged.{JudgedSo, judge-begun, judge-wrong, judge-other, judge-next, judge-end}
 use Rattle.wheel.proofs.is_whole.Statement.{statement}
 use Rattle.wheel.proofs.is_whole.Tie as tie
 

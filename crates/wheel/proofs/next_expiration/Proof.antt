@@ -5,7 +5,7 @@ use Prim.Native.Nat.{ℕ, _≤_, _<_, _-_}
 use native.Mathlib.Omega.{arith}
 use borrow.Author.Count.{below-more}
 use Rattle.links.specs.Links.{at}
-use Rattle.wheel.specs.Expiration.{next-found, none-found}
+use Rattle.wheel.proofs.laws.Expiration.{next-found, none-found}
 use Rattle.wheel.proofs.next_expiration.Statement.{statement}
 use Rattle.wheel.proofs.next_expiration.Tie as tie
 

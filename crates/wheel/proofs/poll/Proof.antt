@@ -5,8 +5,8 @@ use native.Mathlib.Omega.{arith}
 use Rattle.links.specs.Links.{at}
 use Rattle.wheel.specs.Words.{words, lists}
 use Rattle.wheel.specs.Drain.{heights}
-use Rattle.wheel.specs.Turns.{PolledSo, poll-start, look-asks, look-nothing, look-at, counts-small}
-use Rattle.wheel.specs.Turns.{poll-idle, poll-early, pop-can, poll-out, drain-can, poll-drain}
+use Rattle.wheel.proofs.laws.Turns.{PolledSo, poll-start, look-asks, look-nothing, look-at, counts-small}
+use Rattle.wheel.proofs.laws.Turns.{poll-idle, poll-early, pop-can, poll-out, drain-can, poll-drain}
 use Rattle.wheel.proofs.poll.Statement.{statement}
 use Rattle.wheel.proofs.poll.Tie as tie
 

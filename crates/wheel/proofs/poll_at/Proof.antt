@@ -1,7 +1,8 @@
 -- `poll_at` meets its contract, by the case of the next expiration.
 use borrow.Author.Needs.{needs}
 use mathlib.Core.Path.{subst}
-use Rattle.wheel.specs.Expiration.{NextIs, wake-at}
+use Rattle.wheel.specs.Expiration.{NextIs}
+use Rattle.wheel.proofs.laws.Expiration.{wake-at}
 use Rattle.wheel.proofs.poll_at.Statement.{statement}
 use Rattle.wheel.proofs.poll_at.Tie as tie
 

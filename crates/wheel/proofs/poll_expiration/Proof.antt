@@ -5,7 +5,7 @@ use lib.ListN.{length}
 use Rattle.links.specs.Links.{at}
 use Rattle.stack.specs.Places.{slotPlace}
 use Rattle.wheel.specs.Words.{words, lists}
-use Rattle.wheel.specs.Turns.{DrainedSo, turn-start, turn-can, turn-few, turn-more, turn-done}
+use Rattle.wheel.proofs.laws.Turns.{DrainedSo, turn-start, turn-can, turn-few, turn-more, turn-done}
 use Rattle.wheel.proofs.poll_expiration.Statement.{statement}
 use Rattle.wheel.proofs.poll_expiration.Tie as tie
 

@@ -1,7 +1,7 @@
 -- `pop` meets its contract: one list changes that has no flag (`pops-aside`).
 use borrow.Author.Needs.{needs}
-use Rattle.stack.specs.Laws.{can-pop}
-use Rattle.wheel.specs.Words.{pops-aside}
+use Rattle.stack.proofs.laws.Whole.{can-pop}
+use Rattle.wheel.proofs.laws.Words.{pops-aside}
 use Rattle.wheel.proofs.pop.Statement.{statement}
 use Rattle.wheel.proofs.pop.Tie as tie
 

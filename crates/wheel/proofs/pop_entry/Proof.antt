@@ -1,6 +1,6 @@
 -- `pop_entry` meets its contract: nobody was there (`slot-none`), more are left (`slot-more`), or it was the last (`slot-last`).
 use borrow.Author.Needs.{needs}
-use Rattle.wheel.specs.Words.{pop-asks, slot-none, slot-more, slot-flag, slot-last}
+use Rattle.wheel.proofs.laws.Words.{pop-asks, slot-none, slot-more, slot-flag, slot-last}
 use Rattle.wheel.proofs.pop_entry.Statement.{statement}
 use Rattle.wheel.proofs.pop_entry.Tie as tie
 

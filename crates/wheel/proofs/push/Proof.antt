@@ -1,6 +1,6 @@
 -- `push` meets its contract: one list changes that has no flag (`push-aside`).
 use borrow.Author.Needs.{needs}
-use Rattle.wheel.specs.Words.{push-asks, push-aside}
+use Rattle.wheel.proofs.laws.Words.{push-asks, push-aside}
 use Rattle.wheel.proofs.push.Statement.{statement}
 use Rattle.wheel.proofs.push.Tie as tie
 

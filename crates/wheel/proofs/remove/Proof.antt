@@ -1,8 +1,8 @@
 -- `remove` meets its contract: the list is no slot (`leaves-aside`), more are left (`leaves-more`), or it was the last (`leaves-last`).
 use borrow.Author.Needs.{needs}
 use native.Mathlib.Omega.{arith}
-use Rattle.stack.specs.Asked.{not-below, slot-parts}
-use Rattle.wheel.specs.Words.{leave-asks, leaves-aside, leaves-more, leaves-flag, leaves-last}
+use Rattle.stack.proofs.laws.Asked.{not-below, slot-parts}
+use Rattle.wheel.proofs.laws.Words.{leave-asks, leaves-aside, leaves-more, leaves-flag, leaves-last}
 use Rattle.wheel.proofs.remove.Statement.{statement}
 use Rattle.wheel.proofs.remove.Tie as tie
 

@@ -1,0 +1,4 @@
+pub mod Asking
+pub mod Reading
+pub mod Finding
+pub mod Examples

@@ -1,0 +1,81 @@
+-- What the proofs of the calls cite: the judge's answer decides which half of a claim is owed, and what is handed back is what was made.
+use mathlib.Core.Path.{_≡_, refl, sym, ap, _∙_, subst}
+use mathlib.Core.Bool.{Bool, true, false, not}
+use mathlib.Core.List.{List}
+use Prim.Native.Nat.{ℕ, _≤_}
+use lib.ListN.{length}
+use borrow.Author.Tests.{not-true, not-false}
+use Rattle.stack.proofs.laws.Whole as stack-laws
+use Rattle.wheel.proofs.laws.Between.{rule-between}
+use Rattle.wheel.specs.Rows.{Rows}
+use Rattle.wheel.specs.Expiration.{NotPassed}
+use Rattle.wheel.proofs.laws.Expiration.{between-passed}
+use Rattle.wheel.specs.declared.Wheel.{Wheel}
+use Rattle.queue.specs.declared.Answer.{Answer}
+use Rattle.queue.specs.declared.Answer.the-variants as A
+use Rattle.queue.specs.Told.{told, len}
+use Rattle.records.specs.View.{View}
+use Rattle.queue.specs.Steps.{Wakes}
+use Rattle.queue.specs.Calls.{WakeOn, LengthOn}
+use Rattle.queue.specs.Inner.{pendingIn}
+use Rattle.queue.proofs.laws.Polls.{pending-is}
+use Rattle.records.specs.Words.{QueueWords, words, Sound, count, elapsed, markOf, view}
+use Rattle.contracts.specs.Tells.{Tells}
+use Rattle.delay_queue.specs.declared.Call.{Call}
+use Rattle.delay_queue.specs.Claims.{Judging, CallClaim}
+
+-- what goes out is a with w and hh
+abbrev pub Goes : Answer → Wheel → List (List ℕ) → Answer → Wheel → List (List ℕ) → Type 0
+Goes a′ w′ hh′ a w hh = (a′ ≡ a) × (w′ ≡ w) × (hh′ ≡ hh)
+
+module _ (vs ds ns ps ts ms : List ℕ) where
+  pub back : {a a′ : Answer} {w w′ : Wheel} {hh hh′ : List (List ℕ)} → Goes a′ w′ hh′ a w hh → (On : Answer → QueueWords → Type 0)
+      → On a (words w hh vs ds ns ps ts ms) → On a′ (words w′ hh′ vs ds ns ps ts ms)
+  back G On x = subst (λ (z : Answer × Wheel × List (List ℕ)). On (z .0) (words (z .1) (z .2) vs ds ns ps ts ms))
+      (sym (λ i. (G .0 i, G .1 i, G .2 i))) x
+
+  -- an answer alone
+  pub back-same : {a a′ : Answer} {w w′ : Wheel} {hh hh′ : List (List ℕ)} → Goes a′ w′ hh′ a w hh → (On : Answer → Type 0) → On a
+      → On a′ × (words w′ hh′ vs ds ns ps ts ms ≡ words w hh vs ds ns ps ts ms)
+  back-same G On x = (subst On (sym (G .0)) x, λ i. words (G .1 i) (G .2 i) vs ds ns ps ts ms)
+
+  -- not sound
+  pub turned-down : {a : Answer} {w w′ : Wheel} {hh hh′ : List (List ℕ)} {b : Bool} {On : Type 0}
+      → Tells (Sound (words w hh vs ds ns ps ts ms)) b → not b ≡ true
+      → Goes a w′ hh′ (A.No 2) w hh → Judging (words w hh vs ds ns ps ts ms) a (words w′ hh′ vs ds ns ps ts ms) On
+  turned-down {b = b} T e G =
+      record {
+        bad = λ f. record { told = ap told (G .0); same = λ i. words (G .1 i) (G .2 i) vs ds ns ps ts ms };
+        good = λ S. absurd (T .no (not-true b e) S);
+      }
+
+-- the same, where nothing is handed back
+pub no-answer : {s : QueueWords} {b : Bool} {On : Type 0} → Tells (Sound s) b → not b ≡ true → Judging s (A.No 2) s On
+no-answer {s} {b} T e = record { bad = λ f. record { told = refl; same = refl }; good = λ S. absurd (T .no (not-true b e) S) }
+
+-- sound
+pub is-sound : {s : QueueWords} {b : Bool} → Tells (Sound s) b → not b ≡ false → Sound s
+is-sound {s} {b} T e = T .yes (not-false b e)
+
+pub taken-up : {s s′ : QueueWords} {a : Answer} {On : Type 0} → Sound s → On → Judging s a s′ On
+taken-up S x = record { bad = λ f. absurd (f S); good = λ _. x }
+
+-- ---- next wake and length
+
+pub not-passed : {s : QueueWords} → Sound s → NotPassed (elapsed s) (s .wheel .occupied)
+not-passed S = between-passed (rule-between (S .rule)) (S .standing .whole .rows)
+
+pub wake-done : {s : QueueWords} {a : Answer} → Sound s
+    → ((v : View) → v .elapsed ≡ elapsed s → Rows (s .wheel .occupied) (v .lists) → Wakes v (told a)) → WakeOn s a
+wake-done {s} S f = record { done = f (view s) refl (S .standing .whole .rows) }
+
+pub marks-long : {s : QueueWords} → Sound s → count s ≤ length (s .wheel .stack .links .marks)
+marks-long S = stack-laws.room (S .standing .whole .stack) .marks
+
+pub length-done : {s : QueueWords} {n : ℕ} → Sound s → n ≡ pendingIn (markOf s) (count s) → LengthOn s (A.Length n)
+length-done S e = record { done = ap len (e ∙ pending-is S) }
+
+-- ---- any call
+
+pub by-call : {c k : Call} (s s′ : QueueWords) (a : Answer) → c ≡ k → CallClaim k s a s′ → CallClaim c s a s′
+by-call s s′ a e x = subst (λ (z : Call). CallClaim z s a s′) (sym e) x

@@ -1,0 +1,12 @@
+pub mod Lists
+pub mod Segments
+pub mod Family
+pub mod Change
+pub mod Insert
+pub mod Remove
+pub mod Count
+pub mod Walk
+pub mod Judge
+pub mod Links
+pub mod Whole
+pub mod Fixed

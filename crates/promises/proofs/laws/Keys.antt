@@ -1,0 +1,168 @@
+-- Keys over runs of any calls: none is given twice, and one whose record has left is refused for good, until the next format.
+use mathlib.Core.Path.{_≡_, refl, sym, ap, _∙_, subst}
+use mathlib.Core.Logic.{_≢_}
+use mathlib.Core.List.{List, _∷_}
+use Prim.Native.Nat.{ℕ, _+_}
+use native.Mathlib.Omega.{arith}
+use Rattle.links.proofs.laws.Lists.{change-same}
+use Rattle.stack.specs.Places.{free, put}
+use Rattle.queue.specs.declared.Answer.{Answer}
+use Rattle.queue.specs.declared.Answer.the-variants as A
+use Rattle.queue.specs.Told.{Told, told}
+use Rattle.queue.specs.Told as T
+use Rattle.records.specs.View.{View}
+use Rattle.records.specs.Records.{lastTurn, left, numberIn, turnIn, packed}
+use Rattle.records.specs.Words.{QueueWords, view, Sound}
+use Rattle.records.proofs.laws.Words.{upd-same}
+use Rattle.delay_queue.specs.declared.Call.{Call}
+use Rattle.delay_queue.specs.declared.Call.the-variants as C
+use Rattle.delay_queue.specs.Claims.{CallClaim}
+use Rattle.promises.proofs.laws.Met.{insert-met, remove-met}
+use Rattle.promises.proofs.laws.Once.{told-one}
+use Rattle.promises.specs.Step.{one}
+use Rattle.promises.proofs.laws.Step.{step-sound, one-sound, insert-shown}
+use Rattle.promises.specs.Runs.{Asked, Runs, rest, next, All, NoFormat}
+use Rattle.promises.proofs.laws.Runs.{run-sound}
+use Rattle.promises.proofs.laws.Steps.{Steps, refuses, removes, call-steps}
+use Rattle.promises.proofs.laws.KeysOne.{Onward, onward-same, onward-then, freed-more, does-onward}
+use Rattle.promises.proofs.laws.KeysGone.{Given, Spent, given-onward, spent-onward, names-given, spent-unnamed, given-kept, out-spent, spent-kept, remove-spent, clear-spent}
+use Rattle.promises.specs.KeysStay.{Out}
+use Rattle.promises.proofs.laws.KeysReach.{insert-reaches, key-removes}
+use Rattle.promises.specs.Keys.{Refuses, Leaves, cleared, polled, removed, Uses, asked, morning}
+
+-- ---- one call
+
+module _ {s : QueueWords} (S : Sound s) {k : ℕ} where
+  -- one that is spent is refused
+  spent-refused : Spent (view s) k → Refuses s k
+  spent-refused P = record { reset = λ when a t A. A .good S .dead (spent-unnamed P); remove = λ a t A. A .good S .dead (spent-unnamed P) }
+
+  -- a key that leaves is spent
+  remove-left : {x : Told} {w : View} → Steps (view s) (C.Remove k) x w → {v d : ℕ} → x ≡ T.gone v d → Spent w k
+  remove-left refuses z = let y : _≡_ {A = ℕ} 0 1 = cc in absurd (omega arith)
+  remove-left (removes N) z = remove-spent S N
+
+  left-spent : (c : Call) (a : Answer) (t : QueueWords) → Leaves s k (told a) c → CallClaim c s a t → Spent (view t) k
+  left-spent c a t (polled {now} e) A = out-spent S (call-steps (C.Poll now) s a t S A) e .spent
+  left-spent c a t (removed e) A = remove-left (call-steps (C.Remove k) s a t S A) e
+  left-spent c a t (cleared N) A = clear-spent S N A
+
+-- ---- a run
+
+pub run-onward : {s t : QueueWords} {l : List Asked} → Sound s → Runs s l t → NoFormat l → (r : ℕ) → Onward (view s) (view t) r
+run-onward {s} S rest f r = onward-same (view s) r
+run-onward S (next {s} {t} {x = x} c q) f r =
+    onward-then (does-onward S (call-steps (x .call) s (x .answer) t S c) (f .0) r)
+    (run-onward (step-sound (x .call) s (x .answer) t c S) q (f .1) r)
+
+module _ (P : Asked → Type 0) (I : View → Type 0) (r : ℕ) (stays : (v w : View) → Onward v w r → I v → I w)
+    (holds : (s : QueueWords) → Sound s → I (view s) → (x : Asked) (w : View) → Steps (view s) (x .call) (told (x .answer)) w → P x) where
+  -- what a view has and keeps is true of every call
+  run-all : {s t : QueueWords} {l : List Asked} → Sound s → I (view s) → Runs s l t → NoFormat l → All P l
+  run-all S i rest f = tt
+  run-all S i (next {s} {t} {x = x} c q) f =
+      let D = call-steps (x .call) s (x .answer) t S c in (
+        holds s S i x (view t) D,
+        run-all (step-sound (x .call) s (x .answer) t c S) (stays (view s) (view t) (does-onward S D (f .0) r) i) q
+            (f .1),
+      )
+
+-- ---- what is promised
+
+module _ {s t u : QueueWords} {l : List Asked} {k : ℕ} (S : Sound s) where
+  module _ {value when : ℕ} {a : Answer} (I : CallClaim (C.Insert value when) s a t) (answer : told a ≡ T.key k) (r : Runs t l u)
+      (f : NoFormat l) where
+    after-insert : Sound t
+    after-insert = step-sound (C.Insert value when) s a t I S
+
+    given : Given (view t) k
+    given = names-given after-insert (insert-reaches S I answer .names)
+
+    -- "No key is given twice until the next format": no call of the run answers it again
+    pub no-key-twice : All (λ x. told (x .answer) ≢ T.key k) l
+    no-key-twice =
+        run-all (λ x. told (x .answer) ≢ T.key k) (λ v. Given v k) (numberIn k) (λ v w. given-onward)
+        (λ z Z G x w D. given-kept Z D G) after-insert given r f
+
+    -- nor does an insert after it
+    pub no-key-after : {x w : ℕ} {b : Answer} {z : QueueWords} → CallClaim (C.Insert x w) u b z → told b ≢ T.key k
+    no-key-after {x} {w} {b} {z} B =
+        let U = run-sound after-insert r in
+        given-kept U (call-steps (C.Insert x w) u b z U B) (given-onward (run-onward after-insert r f (numberIn k)) given)
+
+  module _ (c : Call) (a : Answer) (A : CallClaim c s a t) (L : Leaves s k (told a) c) (r : Runs t l u) (f : NoFormat l) where
+    after-leave : Sound t
+    after-leave = step-sound c s a t A S
+
+    spent : Spent (view u) k
+    spent = spent-onward (run-onward after-leave r f (numberIn k)) (left-spent S c a t L A)
+
+    -- a key that has left, by a poll, a remove or a clear, is refused with 6 for good: whatever was called in between, until the next format
+    pub left-is-dead : Refuses u k
+    left-is-dead = spent-refused (run-sound after-leave r) spent
+
+    -- "a dead key never changes a word until the next format"
+    pub dead-key-changes-nothing : (d : Call) (b : Answer) (w : QueueWords) → Uses k d → CallClaim d u b w → w ≡ u
+    dead-key-changes-nothing (C.Format n turn) b w h B = absurd h
+    dead-key-changes-nothing (C.Insert value when) b w h B = absurd h
+    dead-key-changes-nothing (C.Reset key when) b w h B =
+        left-is-dead .reset when b w (rw h at B) .same
+    dead-key-changes-nothing (C.Remove key) b w h B = left-is-dead .remove b w (rw h at B) .same
+    dead-key-changes-nothing (C.Poll now) b w h B = absurd h
+    dead-key-changes-nothing C.Wake b w h B = absurd h
+    dead-key-changes-nothing C.Length b w h B = absurd h
+    dead-key-changes-nothing C.Clear b w h B = absurd h
+
+    -- and its timer is handed out no more: by no call of the run
+    pub dead-never-out : All (λ x. Out k (told (x .answer)) → ⊥) l
+    dead-never-out =
+        run-all (λ x. Out k (told (x .answer)) → ⊥) (λ v. Spent v k) (numberIn k) (λ v w. spent-onward)
+        (λ z Z P x w D o. spent-kept Z D P (o .4))
+        after-leave (left-spent S c a t L A) r f
+
+    -- nor by one after it
+    pub dead-not-out : (d : Call) (b : Answer) (w : QueueWords) → CallClaim d u b w → Out k (told b) → ⊥
+    dead-not-out d b w B o = let U = run-sound after-leave r in spent-kept U (call-steps d u b w U B) spent (o .4)
+
+module _ {s t u : QueueWords} {l : List Asked} {a : Answer} {now k : ℕ} (S : Sound s) (A : CallClaim (C.Poll now) s a t)
+    (o : Out k (told a)) (r : Runs t l u)
+    (f : NoFormat l) where
+  -- "over a run none comes out twice for one insert": a poll hands out k, and no call of the run does again
+  pub out-once : All (λ x. Out k (told (x .answer)) → ⊥) l
+  out-once = dead-never-out S (C.Poll now) a A (polled (o .4)) r f
+
+  -- nor does a poll after it
+  pub out-once-after : {later : ℕ} {b : Answer} {w : QueueWords} → CallClaim (C.Poll later) u b w → Out k (told b) → ⊥
+  out-once-after {later} {b} {w} B = dead-not-out S (C.Poll now) a A (polled (o .4)) r f (C.Poll later) b w B
+
+-- ---- such runs there are
+
+-- "has its turn raised by one and is taken next"
+taken-next : {u : View} {k : ℕ} {x : Told} {w : View} → Steps u (C.Remove k) x w → {v d : ℕ} → x ≡ T.gone v d → turnIn k ≢ lastTurn
+    → (l : List ℕ) × (w .lists free ≡ numberIn k ∷ l) × (w .turn (numberIn k) ≡ turnIn k + 1)
+unfolding left put
+taken-next refuses z d = let y : _≡_ {A = ℕ} 0 1 = cc in absurd (omega arith)
+taken-next {u} {k} (removes {r = i} {p = p} N) z d =
+    let u = left p i u in
+    rw (freed-more i u (λ e. d (sym (N .turn) ∙ e)), ← N .number, ← N .turn)
+    (_, change-same (u .lists) free (put free i (u .lists free)), upd-same (u .turn) i (u .turn i + 1))
+
+pub dead-shown : (u : QueueWords) × Runs one morning u
+dead-shown =
+    let I = insert-shown in
+    let m = remove-met (I .0) 65536 in
+    let e : m .0 ≡ A.Gone 7 70 = told-one (m .0) (A.Gone 7 70) (key-removes one-sound (I .1) refl rest tt (m .2)) in
+    let R : CallClaim (C.Remove 65536) (I .0) (A.Gone 7 70) (m .1) = subst (λ a. CallClaim (C.Remove 65536) (I .0) a (m .1)) e (m .2) in
+    let S = step-sound (C.Remove 65536) (I .0) (A.Gone 7 70) (m .1) R (I .2) in
+    let h = taken-next (call-steps (C.Remove 65536) (I .0) (A.Gone 7 70) (m .1) (I .2) R) refl (omega arith) in
+    let j = insert-met (m .1) 8 0 in
+    let g : told (j .0) ≡ T.key 131072
+    = j .2 .good S .done 0 (h .0) (h .1) (λ z. absurd (omega arith)) .told ∙ ap (λ c. T.key (packed c 0)) (h .2) in
+    let J : CallClaim (C.Insert 8 0) (m .1) (A.Key 131072) (j .1)
+    = subst (λ a. CallClaim (C.Insert 8 0) (m .1) a (j .1)) (told-one (j .0) (A.Key 131072) g) (j .2) in
+    let n = remove-met (j .1) 65536 in
+    let D = left-is-dead (I .2) (C.Remove 65536) (A.Gone 7 70) R (removed refl) (next {x = asked (C.Insert 8 0) (A.Key 131072)} J rest)
+    (refl, tt) in
+    let f : n .0 ≡ A.No 6 = told-one (n .0) (A.No 6) (D .remove (n .0) (n .1) (n .2) .told) in
+    let Q : CallClaim (C.Remove 65536) (j .1) (A.No 6) (n .1) = subst (λ a. CallClaim (C.Remove 65536) (j .1) a (n .1)) f (n .2) in
+    (n .1, next (I .1) (next R (next J (next Q rest))))

@@ -1,0 +1,205 @@
+-- A key that was given, and one whose record has left: what no call but format undoes (`given-onward`, `spent-onward`), and that a poll, a remove and a
+-- clear spend the keys of the records that they free.
+use mathlib.Core.Path.{_≡_, refl, sym, ap, _∙_}
+use mathlib.Core.Logic.{_≢_, inl, ⊎-elim, by-cases}
+use mathlib.Core.List.{List, [], _∷_}
+use mathlib.Core.Option.{some}
+use Prim.Native.Nat.{ℕ, _+_, _≤_}
+use native.Mathlib.Decide.{ℕ-discrete, decLt}
+use native.Mathlib.Omega.{arith}
+use borrow.Author.Tests.{eq-eqb, ne-eqb}
+use Rattle.links.specs.Lists.{Mem, without, change}
+use Rattle.links.proofs.laws.Lists.{Nodup}
+use Rattle.stack.specs.Places.{slots, expired, free}
+use Rattle.stack.proofs.laws.Whole as stack-laws
+use Rattle.wheel.specs.Wheel.{Lists}
+use Rattle.wheel.proofs.laws.Sums.{mem-change, hits, lies-times}
+use Rattle.wheel.proofs.laws.Drain.{amount}
+use Rattle.wheel.proofs.laws.Poll.{Promise}
+use Rattle.queue.specs.declared.Answer.{Answer}
+use Rattle.queue.specs.Told.{Told, Hands}
+use Rattle.queue.specs.Told as T
+use Rattle.records.specs.View.{View, withElapsed, withLists}
+use Rattle.records.specs.Records.{lastTurn, keyOf, At, Names, left, freed, numberIn, turnIn}
+use Rattle.queue.specs.Steps.{QueuePolls, polled, popped, handed, nothing}
+use Rattle.records.specs.Words.{QueueWords, count, view, Sound}
+use Rattle.records.proofs.laws.Words.{upd-same}
+use Rattle.queue.proofs.laws.Polls.{clear-done}
+use Rattle.delay_queue.specs.declared.Call.{Call}
+use Rattle.delay_queue.specs.declared.Call.the-variants as C
+use Rattle.delay_queue.specs.Claims.{ClearClaim}
+use Rattle.delay_queue.proofs.laws.Back.{taken-up}
+use Rattle.promises.proofs.laws.Met.{clear-first}
+use Rattle.promises.proofs.laws.Once.{clear-once}
+use Rattle.promises.proofs.laws.Steps.{Steps, refuses, inserts, call-steps, key-inserts, out-polls}
+use Rattle.promises.proofs.laws.Polling.{one-list, lies-once, key-of-names}
+use Rattle.promises.proofs.laws.KeysOne.{Onward, freed-last, freed-more, wheel-promise, does-onward}
+
+-- the record r was given under the turn c: that turn is past, or r is no longer free
+pub record GivenAt (v : View) (c r : ℕ) : Type 0 where
+  pub turn : c ≤ v .turn r
+  pub taken : v .turn r ≡ c → Mem r (v .lists free) → ⊥
+
+-- and has left: that turn is past, or r is not pending either
+pub record SpentAt (v : View) (c r : ℕ) : Type 0 where
+  pub given : GivenAt v c r
+  pub gone : v .turn r ≡ c → (p : ℕ) → At v r p → ⊥
+
+-- the same of a key: "turn in 48 bits, record number in 16"
+abbrev pub Given : View → ℕ → Type 0
+Given v k = GivenAt v (turnIn k) (numberIn k)
+
+abbrev pub Spent : View → ℕ → Type 0
+Spent v k = SpentAt v (turnIn k) (numberIn k)
+
+module _ {v w : View} {c r : ℕ} (O : Onward v w r) where
+  same-turn : c ≤ v .turn r → w .turn r ≡ c → (v .turn r ≡ c) × (w .turn r ≡ v .turn r)
+  same-turn h e = (omega arith, omega (arith, O .turn))
+
+  pub given-onward : GivenAt v c r → GivenAt w c r
+  given-onward G =
+      record {
+        turn = omega arith;
+        taken = λ e m. let z = same-turn (G .turn) e in G .taken (z .0) (O .idle (z .1) m);
+      }
+
+  pub spent-onward : SpentAt v c r → SpentAt w c r
+  spent-onward P =
+      record {
+        given = given-onward (P .given);
+        gone = λ e p a.
+            let z = same-turn (P .given .turn) e in
+            ⊎-elim (P .given .taken (z .0)) (λ b. P .gone (z .0) (b .0) (b .1)) (O .waits (z .1) p a);
+      }
+
+-- ---- on a sound store
+
+without-out : (i : ℕ) (l : List ℕ) → Nodup l → Mem i (without i l) → ⊥
+without-out i [] d m = m
+without-out i (x ∷ l) d m =
+    by-cases (ℕ-discrete x i)
+    (λ e. d .0 (rw e (rw (eq-eqb x i e) at m)))
+    (λ n. ⊎-elim (λ e. n (sym e)) (without-out i l (d .1)) (rw (ne-eqb x i n) at m))
+
+module _ {s : QueueWords} (S : Sound s) where
+  -- the key of a pending record was given
+  pub names-given : {k r p : ℕ} → Names (view s) k r p → Given (view s) k
+  names-given {k} {r} {p} N =
+      rw (← N .number, ← N .turn)
+      (record { turn = omega arith; taken = λ e m. omega (arith, one-list S r free p m (N .pending .member)) })
+
+  -- a record that leaves a list is in none
+  pub moved-out : (i p : ℕ) → Mem i (view s .lists p) → (l : List ℕ) → (Mem i l → ⊥) → (q : ℕ) → Mem i (change (view s .lists) p l q) → ⊥
+  moved-out i p m l out q k = ⊎-elim (λ a. out (a .1)) (λ a. a .0 (one-list S i q p (a .1) m)) (mem-change (view s .lists) p l q i k)
+
+  pub left-out : {i p : ℕ} → At (view s) i p → (q : ℕ) → Mem i (left p i (view s) .lists q) → ⊥
+  unfolding left
+  left-out {i} {p} a q m =
+      moved-out i p (a .member) (without i (view s .lists p))
+      (without-out i (view s .lists p) (stack-laws.list-nodup (S .standing .whole .stack) p)) q m
+
+  pub handed-out : {now i m n e : ℕ} {N : Lists} → Promise (view s .deadline) now (view s .elapsed) (view s .lists) (some i) m n e N
+      → (q : ℕ) → Mem i (N q) → ⊥
+  unfolding amount
+  handed-out {i = i} {N = N} P q m =
+      let w = P .fair .0 in
+      let one : hits i i ≡ 1 = rw (eq-eqb i i refl) in
+      by-cases (decLt q slots)
+      (λ h. omega (arith, lies-times slots N i q h m, P .kept (hits i), lies-once S i slots))
+      (λ h. omega (arith, one-list S i (w .0) q (w .2) (rw (P .aside q (omega arith)) at m)))
+
+-- ---- the key of a record that is freed is spent
+
+freed-spent : (i : ℕ) (v : View) → ((q : ℕ) → Mem i (v .lists q) → ⊥) → SpentAt (freed i v) (v .turn i) i
+freed-spent i v out =
+    by-cases (ℕ-discrete (v .turn i) lastTurn)
+    (λ z.
+    rw (freed-last i v z)
+    (record { given = record { turn = omega arith; taken = λ e m. out free m }; gone = λ e p a. out p (a .member) }))
+    (λ z.
+    let t = upd-same (v .turn) i (v .turn i + 1) in
+    rw (freed-more i v z)
+    (record { given = record { turn = omega arith; taken = λ e m. absurd (omega arith) }; gone = λ e p a. absurd (omega (arith, t)) }))
+
+module _ {s : QueueWords} (S : Sound s) where
+  spent-by : {k i p : ℕ} {w : View} → Names (view s) k i p → SpentAt w (view s .turn i) i → Spent w k
+  spent-by N P = rw (← N .number, ← N .turn) P
+
+  pub remove-spent : {k i p : ℕ} → Names (view s) k i p → Spent (freed i (left p i (view s))) k
+  unfolding left
+  remove-spent {i = i} {p = p} N = spent-by N (freed-spent i (left p i (view s)) (left-out S (N .pending)))
+
+  -- what a poll hands out was pending under its key
+  pub record HandsOut (k : ℕ) (w : View) : Type 0 where
+    pub number : ℕ
+    pub place : ℕ
+    pub names : Names (view s) k number place
+    pub spent : Spent w k
+
+  hands-out : {k i p : ℕ} {w : View} → At (view s) i p → k ≡ keyOf (view s) i → SpentAt w (view s .turn i) i → HandsOut k w
+  hands-out {k} {i} {p} {w} a e P =
+      rw e (let N = key-of-names S a in record { number = i; place = p; names = N; spent = spent-by N P })
+
+  poll-spent : {now : ℕ} {x : Told} {w : View} → view s .elapsed ≤ now → QueuePolls (view s) now x w → {k v d m n : ℕ} → Hands x k v d m n
+      → HandsOut k w
+  poll-spent h (handed (popped {r = i} {l = l} e)) {k} z =
+      let m : Mem i (view s .lists expired) = rw e (inl refl) in
+      let d : Nodup (i ∷ l) = rw e at (stack-laws.list-nodup (S .standing .whole .stack) expired) in
+      let q : k ≡ keyOf (view s) i = cc in
+      let u = withLists (change (view s .lists) expired l) (view s) in
+      hands-out (record { timed = omega arith; member = m }) q (freed-spent i u (moved-out S i expired m l (d .0)))
+  poll-spent h (handed {r = i} (polled {e = c} {L = L} e P)) {k} z =
+      let R = wheel-promise S e h P in
+      let w = R .fair .0 in
+      let q : k ≡ keyOf (view s) i = cc in
+      hands-out (record { timed = omega arith; member = w .2 }) q (freed-spent i (withElapsed c (withLists L (view s))) (handed-out S R))
+  poll-spent h (nothing (polled e P)) z = let y : _≡_ {A = ℕ} 0 1 = cc in absurd (omega arith)
+
+  -- ---- clear
+
+  -- nobody is pending after it
+  pub clear-empty : {a : Answer} {t : QueueWords} → ClearClaim s a t → (r p : ℕ) → At (view t) r p → ⊥
+  clear-empty {a} {t} A r p b =
+      let m = clear-first (S .standing) (count s) (omega arith) in
+      let C = m .1 in
+      let e = clear-once A (taken-up S (clear-done C refl)) .1 in
+      let x = rw e at b in
+      let y : At (view (m .0)) r p = record { timed = x .timed; member = x .member } in
+      C .gone r (omega (arith, stack-laws.member-below (C .standing .whole .stack) p r (y .member))) p y
+
+  pub clear-spent : {k i p : ℕ} → Names (view s) k i p → {a : Answer} {t : QueueWords} → ClearClaim s a t → Spent (view t) k
+  clear-spent {k} N {a} {t} A =
+      record {
+        given = given-onward (does-onward S (call-steps C.Clear s a t S A) refl (numberIn k)) (names-given S N);
+        gone = λ e p b. clear-empty A (numberIn k) p b;
+      }
+
+-- ---- what a call does not answer
+
+pub spent-unnamed : {v : View} {k : ℕ} → Spent v k → (r p : ℕ) → Names v k r p → ⊥
+spent-unnamed {v} {k} P r p N =
+    P .gone (ap (v .turn) (sym (N .number)) ∙ N .turn) p (rw (N .number) at (N .pending))
+
+module _ {s : QueueWords} (S : Sound s) {k : ℕ} where
+  insert-new : Given (view s) k → {value when : ℕ} {x : Told} {w : View} → Steps (view s) (C.Insert value when) x w → x ≢ T.key k
+  insert-new G refuses z = let y : _≡_ {A = ℕ} 0 1 = cc in omega arith
+  insert-new G (inserts {r = i} e) z =
+      let h = stack-laws.member-below (S .standing .whole .stack) free i (rw e (inl refl)) in
+      let q : k ≡ keyOf (view s) i = cc in
+      let number : i ≡ numberIn k = omega arith in
+      let turn : view s .turn i ≡ turnIn k = omega arith in
+      (rw (← number) at (G .taken)) turn (rw e (inl refl))
+
+  module _ {c : Call} {x : Told} {w : View} (D : Steps (view s) c x w) where
+    -- a key that was given is not answered
+    pub given-kept : Given (view s) k → x ≢ T.key k
+    given-kept G z = insert-new G (rw (key-inserts D z .2) at D) z
+
+    module _ {v d m n : ℕ} where
+      -- what is handed out was pending under its key
+      pub out-spent : Hands x k v d m n → HandsOut S k w
+      out-spent z = let p = out-polls D z in poll-spent S (p .1) (p .2) z
+
+      -- one that is spent is not handed out
+      pub spent-kept : Spent (view s) k → (Hands x k v d m n → ⊥)
+      spent-kept P z = let H = out-spent z in spent-unnamed P (H .number) (H .place) (H .names)

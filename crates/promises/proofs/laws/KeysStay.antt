@@ -1,0 +1,195 @@
+-- One call at a time: a pending record stays as it is under every call that does not aim at it (`does-stays`).
+use mathlib.Core.Path.{_≡_, refl, sym, ap, _∙_}
+use mathlib.Core.Logic.{_≢_, inl, inr, ⊎-elim, by-cases}
+use mathlib.Core.Bool.{false, not, true≢false}
+use mathlib.Core.List.{List, [], _∷_}
+use mathlib.Core.Option.{Option}
+use Prim.Native.Nat.{ℕ, _≤_, _<_, max}
+use native.Mathlib.Decide.{ℕ-discrete}
+use native.Mathlib.Omega.{arith}
+use borrow.Author.Tests.{eq-eqb, ne-eqb}
+use Rattle.links.specs.Lists.{Mem, without, change}
+use Rattle.links.proofs.laws.Lists.{change-same, change-other}
+use Rattle.stack.specs.Places.{slots, expired, free}
+use Rattle.wheel.specs.Wheel.{Lists}
+use Rattle.wheel.proofs.laws.Sums.{put-mem, hits, lies-times, times-lies}
+use Rattle.wheel.proofs.laws.Drain.{amount}
+use Rattle.wheel.proofs.laws.Poll.{Promise, given}
+use Rattle.queue.specs.Told.{Told}
+use Rattle.queue.specs.Told as T
+use Rattle.records.specs.View.{View, withElapsed, withLists, withValue, upd}
+use Rattle.records.specs.Records.{keyOf, At, Names, taken, left, target, placed, freed}
+use Rattle.queue.specs.Steps.{QueuePolls, polled, popped, handed, nothing}
+use Rattle.records.specs.Words.{QueueWords, view, Sound}
+use Rattle.records.proofs.laws.Words.{upd-other}
+use Rattle.delay_queue.specs.declared.Call.{Call}
+use Rattle.promises.specs.Step.{isNo}
+use Rattle.promises.proofs.laws.Steps.{Steps, refuses, formats, inserts, resets, removes, polls, wakes, counts, clears}
+use Rattle.promises.proofs.laws.KeysOne.{wheel-promise}
+use Rattle.promises.proofs.laws.Polling.{one-list, freed-beside}
+use Rattle.promises.specs.KeysStay.{Aims, Out}
+
+-- a key is its record's number and turn
+pub key-is : {v : View} {k r p : ℕ} → Names v k r p → k ≡ keyOf v r
+key-is {v} {k} N = omega arith
+
+-- ---- a record that is not the one that moves
+
+-- r stays pending in w, with its turn, value and deadline
+pub record Stays (v w : View) (r : ℕ) : Type 0 where
+  pub n : w .n ≡ v .n
+  pub turn : w .turn r ≡ v .turn r
+  pub value : w .value r ≡ v .value r
+  pub deadline : w .deadline r ≡ v .deadline r
+  pub waits : (p : ℕ) → At v r p → (q : ℕ) × At w r q
+
+stays-same : (v : View) (r : ℕ) → Stays v v r
+stays-same v r = record { n = refl; turn = refl; value = refl; deadline = refl; waits = λ p a. (p, a) }
+
+stays-then : {u v w : View} {r : ℕ} → Stays u v r → Stays v w r → Stays u w r
+stays-then A B =
+    record {
+      n = B .n ∙ A .n;
+      turn = B .turn ∙ A .turn;
+      value = B .value ∙ A .value;
+      deadline = B .deadline ∙ A .deadline;
+      waits = λ p a. let b = A .waits p a in B .waits (b .0) (b .1);
+    }
+
+mem-kept : (L : Lists) (p : ℕ) (l : List ℕ) (q x : ℕ) → (Mem x (L p) → Mem x l) → Mem x (L q) → Mem x (change L p l q)
+mem-kept L p l q x h m =
+    by-cases (ℕ-discrete q p)
+    (λ e. rw (e, change-same) (h (rw e at m)))
+    (λ d. rw (change-other L p l q d) m)
+
+-- one list changes, and r stays in it
+stays-lists : (v : View) (p : ℕ) (l : List ℕ) (r : ℕ) → (Mem r (v .lists p) → Mem r l) → Stays v (withLists (change (v .lists) p l) v) r
+stays-lists v p l r h =
+    record {
+      n = refl;
+      turn = refl;
+      value = refl;
+      deadline = refl;
+      waits = λ q a. (q, record { timed = a .timed; member = mem-kept (v .lists) p l q r h (a .member) });
+    }
+
+mem-other : (i x : ℕ) (l : List ℕ) → x ≢ i → Mem x l → Mem x (without i l)
+mem-other i x [] d m = m
+mem-other i x (y ∷ l) d m =
+    by-cases (ℕ-discrete y i)
+    (λ e. rw (eq-eqb y i e) (⊎-elim (λ z. absurd (d (z ∙ e))) (λ k. k) m))
+    (λ n. rw (ne-eqb y i n) (⊎-elim (λ z. inl z) (λ k. inr (mem-other i x l d k)) m))
+
+stays-left : (p i : ℕ) (v : View) (r : ℕ) → r ≢ i → Stays v (left p i v) r
+unfolding left
+stays-left p i v r d = stays-lists v p (without i (v .lists p)) r (mem-other i r (v .lists p) d)
+
+stays-freed : (i : ℕ) (v : View) (r : ℕ) → r ≢ i → Stays v (freed i v) r
+stays-freed i v r d =
+    let B = freed-beside i v in
+    record {
+      n = B .size;
+      turn = B .turn r d;
+      value = rw (B .value);
+      deadline = rw (B .deadline);
+      waits = λ q a. (q, record { timed = a .timed; member = rw (B .lists q (a .timed)) (a .member) });
+    }
+
+stays-placed : (i when : ℕ) (v : View) (r : ℕ) → r ≢ i → Stays v (placed i when v) r
+unfolding placed
+stays-placed i when v r d =
+    let w = max when (v .elapsed) in
+    let p = target (v .elapsed) w in
+    record {
+      n = refl;
+      turn = refl;
+      value = refl;
+      deadline = upd-other (v .deadline) i w r d;
+      waits = λ q a. (
+        q,
+        record {
+          timed = a .timed;
+          member = mem-kept (v .lists) p _ q r
+              (λ m. put-mem p i r (v .lists p) (inr m)) (a .member);
+        },
+      );
+    }
+
+stays-taken : (v : View) {i : ℕ} {l : List ℕ} (value : ℕ) → v .lists free ≡ i ∷ l → (r : ℕ) → r ≢ i
+    → Stays v (withValue (upd (v .value) i value) (taken l v)) r
+stays-taken v {i} {l} value e r d =
+    record {
+      n = refl;
+      turn = refl;
+      value = upd-other (v .value) i value r d;
+      deadline = refl;
+      waits = λ q a. (
+        q,
+        record {
+          timed = a .timed;
+          member = mem-kept (v .lists) free l q r
+              (λ m. ⊎-elim (λ z. absurd (d z)) (λ k. k) (rw e at m)) (a .member);
+        },
+      );
+    }
+
+stays-wheel : {v : View} {now m n e : ℕ} {o : Option ℕ} {L : Lists} → v .lists expired ≡ []
+    → Promise (v .deadline) now (v .elapsed) (v .lists) o m n e L
+    → (r : ℕ) → given (hits r) o ≡ 0 → Stays v (withElapsed e (withLists L v)) r
+unfolding amount
+stays-wheel {v} {L = L} x P r z =
+    record {
+      n = refl;
+      turn = refl;
+      value = refl;
+      deadline = refl;
+      waits = λ p a.
+          by-cases (ℕ-discrete p expired)
+          (λ e. absurd (rw (e, x) at (a .member)))
+          (λ d.
+          let h : p < slots = omega arith in
+          let b = times-lies slots L r (omega (arith, P .kept (hits r), lies-times slots (v .lists) r p h (a .member))) in
+          (b .0, record { timed = omega arith; member = b .2 }));
+    }
+
+-- ---- one call
+
+module _ {s : QueueWords} (S : Sound s) {k r p : ℕ} (N : Names (view s) k r p) where
+  -- another key names another record
+  other-record : {key i q : ℕ} → Names (view s) key i q → key ≢ k → r ≢ i
+  other-record {key} {i} M d e = d (omega (arith, ap (view s .turn) e))
+
+  not-handed : (i : ℕ) {x y m n : ℕ} → (Out k (T.out (keyOf (view s) i) x y m n) → ⊥) → r ≢ i
+  not-handed i {x} {y} {m} {n} out e = out (x, y, m, n, ap (λ j. T.out j x y m n) (ap (keyOf (view s)) (sym e) ∙ sym (key-is N)))
+
+  poll-stays : {now : ℕ} {x : Told} {w : View} → view s .elapsed ≤ now → QueuePolls (view s) now x w → (Out k x → ⊥)
+      → Stays (view s) w r
+  poll-stays h (handed (popped {r = i} {l = l} e)) out =
+      let d : r ≢ i = not-handed i out in
+      stays-then
+      (stays-lists (view s) expired l r (λ m. ⊎-elim (λ z. absurd (d z)) (λ y. y) (rw e at m)))
+      (stays-freed i (withLists (change (view s .lists) expired l) (view s)) r d)
+  poll-stays h (handed {r = i} (polled {e = c} {L = L} e P)) out =
+      let d : r ≢ i = not-handed i out in
+      stays-then
+      (stays-wheel e (wheel-promise S e h P) r (rw (ne-eqb i r (λ z. d (sym z)))))
+      (stays-freed i (withElapsed c (withLists L (view s))) r d)
+  poll-stays h (nothing (polled e P)) out = stays-wheel e (wheel-promise S e h P) r refl
+
+  pub does-stays : {c : Call} {x : Told} {w : View} → Steps (view s) c x w → (Aims k c → not (isNo x) ≡ false) → (Out k x → ⊥)
+      → Stays (view s) w r
+  does-stays refuses aims out = stays-same (view s) r
+  does-stays formats aims out = absurd (true≢false (aims tt))
+  does-stays (inserts {value} {when} {r = i} {l = l} e) aims out =
+      let d : r ≢ i = λ z. omega (arith, one-list S i p free (rw z at (N .pending .member)) (rw e (inl refl))) in
+      stays-then (stays-taken (view s) value e r d) (stays-placed i when _ r d)
+  does-stays (resets {when = when} {r = i} {p = q} M) aims out =
+      let d : r ≢ i = other-record M (λ z. true≢false (aims z)) in
+      stays-then (stays-left q i (view s) r d) (stays-placed i when (left q i (view s)) r d)
+  does-stays (removes {r = i} {p = q} M) aims out =
+      let d : r ≢ i = other-record M (λ z. true≢false (aims z)) in
+      stays-then (stays-left q i (view s) r d) (stays-freed i (left q i (view s)) r d)
+  does-stays (polls h Q) aims out = poll-stays h Q out
+  does-stays (wakes W) aims out = stays-same (view s) r
+  does-stays counts aims out = stays-same (view s) r
+  does-stays (clears c) aims out = absurd (true≢false (aims tt))

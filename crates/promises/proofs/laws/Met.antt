@@ -1,0 +1,379 @@
+-- Each claim can be met: for every input there are an answer and a final content that satisfy it, so that no claim is empty.
+use mathlib.Core.Path.{_≡_, refl, sym, ap, _∙_, subst}
+use mathlib.Core.Logic.{_⊎_, inl, inr, ⊎-elim, by-cases}
+use mathlib.Core.List.{List, [], _∷_}
+use Prim.Native.Nat.{ℕ, zero, suc, _+_, _-_, _*_, _/_, _%_, _≤_, _<_}
+use native.Mathlib.Decide.{ℕ-discrete, decLt}
+use native.Mathlib.Omega.{arith}
+use native.Mathlib.Numerals.{add-one}
+use lib.ListN.{length, replicate}
+use borrow.Author.Tests.{eq-eqb, ne-eqb, lt-ltb, le-ltb}
+use Rattle.times.specs.Times.{maxDuration, block, levelOf, slotOf, startAt}
+use Rattle.times.proofs.laws.Quotients.{slot-lt}
+use Rattle.links.specs.Lists.{nobody}
+use Rattle.links.specs.Links.{at}
+use Rattle.stack.specs.Places.{slotPlace, slots, expired, free, levelAt, slotAt}
+use Rattle.stack.specs.Heads.{slotHead}
+use Rattle.stack.specs.Format.{over, formatted}
+use Rattle.stack.specs.Words.{headAt as headIn, pop, remove}
+use Rattle.wheel.specs.Wheel.{Lists, FirstSlot, EmptyWheel, arrive}
+use Rattle.wheel.specs.Words.{WheelWords, wheelWords, markOf as markIn, lists as listsIn, CanPop, Pops, CanLeave, Leaves, CanAdd, Becomes}
+use Rattle.wheel.proofs.laws.Words.{headAt, popped-none, popped-more, popped-last, pops-aside, leaves-aside, leaves-more, leaves-last, add-law, push-aside}
+use Rattle.wheel.specs.Turns.{CanMove, MovesOne, DrainsTo, CanPoll, PollsTo}
+use Rattle.wheel.proofs.laws.Turns.{insert-adds, moved-none, move-adds, moved-some, DrainedSo, turn-start, turn-can, turn-more, turn-done, PolledSo, poll-start, poll-idle, poll-early, pop-can, poll-out, drain-can, poll-drain}
+use Rattle.wheel.specs.Drain.{heights}
+use Rattle.queue.specs.declared.Answer.{Answer}
+use Rattle.queue.specs.declared.Answer.the-variants as A
+use Rattle.records.specs.Records.{lastTurn}
+use Rattle.queue.specs.Steps.{sleeps, starts}
+use Rattle.records.specs.Words.{QueueWords, queueWords, count, elapsed, markOf, view, Sound, Standing}
+use Rattle.queue.specs.Calls.{Refused, InsertOn, ResetOn, RemoveOn, PollOn, WakeOn}
+use Rattle.records.specs.Found.{DeadlineNo}
+use Rattle.records.proofs.laws.Found.{no-past, no-far, no-near, no-other, key-names, names-key}
+use Rattle.records.specs.Inner.{LooseAt, CanPlace, PlacesTo, CanFree, LeavesTo}
+use Rattle.records.proofs.laws.Inner.{place-push, place-insert, placed-now, placed-later, free-push, freed-last, freed-given}
+use Rattle.queue.proofs.laws.Calls.{insert-full, insert-refused, insert-place, insert-done, reset-dead, remove-dead, found-leaves, reset-refused, reset-place, reset-done, remove-frees, remove-done}
+use Rattle.queue.specs.Inner.{HandsOut, pendingIn, ClearsOne}
+use Rattle.queue.proofs.laws.Polls.{out-frees, out-done, poll-back, stack-loose, poll-popped, wheel-can, poll-none, wheel-loose, poll-handed, clear-stays, clear-leaves, clear-frees, clear-goes, ClearedSo, clear-none, clear-turn, clear-done}
+use Rattle.delay_queue.specs.Claims.{FormatClaim, Judging, InsertClaim, ResetClaim, RemoveClaim, PollClaim, WakeClaim, LengthClaim, ClearClaim}
+use Rattle.delay_queue.proofs.laws.Back.{taken-up, length-done}
+use Rattle.delay_queue.proofs.laws.Format.{formats}
+use Rattle.records.proofs.laws.Cases.{by-key}
+use Rattle.promises.proofs.laws.Decided.{sound-dec, fits-dec, range-dec}
+use Rattle.promises.specs.Met.{Met}
+
+refuse : (k : ℕ) (s : QueueWords) → Refused k s (A.No k) s
+refuse k s = record { told = refl; same = refl }
+
+unsound : {s : QueueWords} {On : Type 0} → (Sound s → ⊥) → Judging s (A.No 2) s On
+unsound {s} n = record { bad = λ z. refuse 2 s; good = λ S. absurd (n S) }
+
+judging-met : {On : Answer → QueueWords → Type 0} (s : QueueWords) → (Sound s → Met On) → Met (λ a t. Judging s a t (On a t))
+judging-met s f = by-cases (sound-dec s) (λ S. let m = f S in (m .0, m .1, taken-up S (m .2))) (λ n. (A.No 2, s, unsound n))
+
+-- ---- format
+
+pub format-met : (s : QueueWords) (n turn : ℕ) → Met (FormatClaim s n turn)
+format-met s n turn =
+    by-cases (fits-dec s n)
+    (λ F.
+    by-cases (range-dec turn)
+    (λ T. (
+      A.Done,
+      queueWords
+          (wheelWords 0 (replicate 6 0) (formatted n (s .wheel .stack .links .nexts) (s .wheel .stack .links .prevs)
+          (s .wheel .stack .links .marks)))
+          (over n (λ i. 0) (s .values)) (over n (λ i. 0) (s .deadlines)) (over n (λ i. turn) (s .turns)),
+      record {
+        short = λ f. absurd (f F);
+        outside = λ G f. absurd (f T);
+        done = λ G I. formats s G I (record { wheel = refl; values = refl; deadlines = refl; turns = refl }) refl;
+      },
+    ))
+    (λ f. (A.No 8, s, record { short = λ g. absurd (g F); outside = λ G g. refuse 8 s; done = λ G T. absurd (f T) })))
+    (λ f. (A.No 1, s, record { short = λ g. refuse 1 s; outside = λ F. absurd (f F); done = λ F. absurd (f F) }))
+
+-- ---- one record at a time
+
+deadline-met : (e w : ℕ) → (n : ℕ) × DeadlineNo e w n
+deadline-met e w =
+    by-cases (decLt e w)
+    (λ h.
+    by-cases (decLt maxDuration (w - e))
+    (λ k. (4, no-far e w h (sym (lt-ltb maxDuration (w - e) k))))
+    (λ k.
+    let f = sym (le-ltb maxDuration (w - e) (omega arith)) in
+    by-cases (ℕ-discrete (block w) (block e))
+    (λ b. (0, no-near e w h f (sym (eq-eqb (block w) (block e) b))))
+    (λ b. (5, no-other e w h f (sym (ne-eqb (block w) (block e) b))))))
+    (λ h. (0, no-past e w (omega arith)))
+
+-- an entry comes into the slot of its deadline
+add-met : {t : WheelWords} {k i : ℕ} → CanAdd t k i → (w : ℕ) → (u : WheelWords) × Becomes t (arrive k w i (listsIn t)) u
+add-met {t} {k} {i} C w = (_, add-law C w (slotOf w k) refl refl refl)
+
+place-met : {t : WheelWords} {ds : List ℕ} {i when : ℕ} → CanPlace t ds i when
+    → (u : WheelWords) × (ds′ : List ℕ) × PlacesTo t ds i when u ds′
+place-met {t} {ds} {i} {when} C =
+    by-cases (decLt (t .elapsed) when)
+    (λ h. let B = add-met (insert-adds (place-insert C h) (levelOf (t .elapsed) when) refl) when in (B .0, _, placed-later C h (B .1)))
+    (λ h. (_, _, placed-now C (omega (arith, h)) (push-aside (place-push C) refl)))
+
+leave-met : {t : WheelWords} {i : ℕ} → CanLeave t i → (u : WheelWords) × Leaves t i u
+leave-met {t} {i} C =
+    by-cases (decLt (markIn t i) slots)
+    (λ h.
+    let k : ℕ = levelAt (markIn t i) in
+    let j : ℕ = slotAt (markIn t i) in
+    by-cases (ℕ-discrete (slotHead (remove (t .stack) i .heads) k j) nobody)
+    (λ z. (_, leaves-last C refl k j (omega arith) (omega arith) (omega arith) z refl))
+    (λ z. (_, leaves-more C refl k j (omega arith) (omega arith) (omega arith) z)))
+    (λ h. (_, leaves-aside C refl (omega arith)))
+
+free-met : {t : WheelWords} {ts : List ℕ} {i : ℕ} → CanFree t ts i → (u : WheelWords) × (ts′ : List ℕ) × LeavesTo t ts i u ts′
+free-met {t} {ts} {i} C =
+    by-cases (ℕ-discrete (at ts i) lastTurn)
+    (λ z. (t, ts, freed-last C z))
+    (λ z. (_, _, freed-given C z (push-aside (free-push C) refl)))
+
+-- ---- insert, reset, remove
+
+insert-on : {s : QueueWords} → Sound s → (value when : ℕ) → Met (InsertOn s value when)
+insert-on {s} S value when =
+    by-cases (ℕ-discrete (s .wheel .stack .stacks .free) nobody)
+    (λ z. (A.No 3, s, insert-full S value when z))
+    (λ d.
+    let D = deadline-met (elapsed s) when in
+    by-cases (ℕ-discrete (D .0) 0)
+    (λ z.
+    let Q = pops-aside (S .standing .whole) free (headAt (s .wheel) free) refl refl (omega arith) in
+    let P = place-met (insert-place S value when d (D .1) z Q) in
+    (A.Key _, _, insert-done S value when d (D .1) z Q _ refl (P .2)))
+    (λ z. (A.No (D .0), s, insert-refused S value when d (D .1) z)))
+
+pub insert-met : (s : QueueWords) (value when : ℕ) → Met (InsertClaim s value when)
+insert-met s value when = judging-met s (λ S. insert-on S value when)
+
+reset-on : {s : QueueWords} → Sound s → (key when : ℕ) → Met (ResetOn s key when)
+reset-on {s} S key when =
+    by-key S key
+    (λ r p N.
+    let K = names-key S key N in
+    let D = deadline-met (elapsed s) when in
+    by-cases (ℕ-discrete (D .0) 0)
+    (λ z.
+    let L = leave-met (found-leaves S key when K) in
+    let P = place-met (reset-place S key when K (D .1) z (L .1)) in
+    (A.Done, _, reset-done S key when K (D .1) z (L .1) (P .2)))
+    (λ z. (A.No (D .0), s, reset-refused S key when K (D .1) z)))
+    (λ f. (A.No 6, s, reset-dead S key when (λ i K. f i (markOf s i) (key-names S key K))))
+
+pub reset-met : (s : QueueWords) (key when : ℕ) → Met (ResetClaim s key when)
+reset-met s key when = judging-met s (λ S. reset-on S key when)
+
+remove-on : {s : QueueWords} → Sound s → (key : ℕ) → Met (RemoveOn s key)
+remove-on {s} S key =
+    by-key S key
+    (λ r p N.
+    let K = names-key S key N in
+    let L = leave-met (found-leaves S key 0 K) in
+    let F = free-met (remove-frees S key 0 K (L .1)) in
+    (A.Gone _ _, _, remove-done S key 0 K (L .1) _ _ refl refl (F .2)))
+    (λ f. (A.No 6, s, remove-dead S key 0 (λ i K. f i (markOf s i) (key-names S key K))))
+
+pub remove-met : (s : QueueWords) (key : ℕ) → Met (RemoveClaim s key)
+remove-met s key = judging-met s (λ S. remove-on S key)
+
+-- ---- the next slot
+
+-- the first that is not empty, of n lists
+pub record FirstOf (f : ℕ → List ℕ) (n : ℕ) : Type 0 where
+  pub index : ℕ
+  pub within : index < n
+  pub before : (i : ℕ) → i < index → f i ≡ []
+  pub head : ℕ
+  pub rest : List ℕ
+  pub filled : f index ≡ head ∷ rest
+
+first-of : (f : ℕ → List ℕ) (n : ℕ) → ((i : ℕ) → i < n → f i ≡ []) ⊎ FirstOf f n
+first-of f zero = inl (λ i h. absurd (omega arith))
+first-of f (suc n) = ⊎-elim (λ e. by e (f n) refl) (λ F. inr (more F)) (first-of f n)
+  where
+    more : FirstOf f n → FirstOf f (suc n)
+    more F = record { index = F .index; within = omega arith; before = F .before; head = F .head; rest = F .rest; filled = F .filled }
+
+    by : ((i : ℕ) → i < n → f i ≡ []) → (l : List ℕ) → f n ≡ l → ((i : ℕ) → i < suc n → f i ≡ []) ⊎ FirstOf f (suc n)
+    by e [] q = inl (λ i h. by-cases (ℕ-discrete i n) (λ z. rw z q) (λ z. e i (omega arith)))
+    by e (x ∷ l) q = inr (record { index = n; within = omega arith; before = e; head = x; rest = l; filled = q })
+
+module _ (e : ℕ) (L : Lists) where
+  -- the slots in the order in which they are looked at: level by level, each from elapsed's on
+  look : ℕ → List ℕ
+  look i = L (slotPlace (i / 64) ((slotOf e (i / 64) + i % 64) % 64))
+
+  look-at : (k j : ℕ) → j < 64 → look (64 * k + j) ≡ L (slotPlace k ((slotOf e k + j) % 64))
+  unfolding look
+  look-at k j h =
+      let a : (64 * k + j) / 64 ≡ k = omega arith in
+      let b : (64 * k + j) % 64 ≡ j = omega arith in
+      rw (a, b)
+
+  -- when a slot is looked at
+  turnOf : ℕ → ℕ
+  turnOf q = (slotAt q + 64 - slotOf e (levelAt q)) % 64
+
+  turn-lt : (q : ℕ) → turnOf q < 64
+  unfolding turnOf
+  turn-lt q = omega arith
+
+  look-slot : (q : ℕ) → look (64 * (levelAt q) + turnOf q) ≡ L q
+  unfolding turnOf
+  look-slot q =
+      let z : slotPlace (levelAt q) ((slotOf e (levelAt q) + turnOf q) % 64) ≡ q = omega (arith, slot-lt e (levelAt q)) in
+      look-at (levelAt q) (turnOf q) (turn-lt q) ∙ ap L z
+
+  next-met : EmptyWheel L ⊎ ((k : ℕ) × (s : ℕ) × FirstSlot e L k s)
+  next-met =
+      ⊎-elim
+      (λ E. inl (λ q h. sym (look-slot q) ∙ E (64 * (levelAt q) + turnOf q) (omega (arith, turn-lt q))))
+      (λ F. inr (found F))
+      (first-of look slots)
+    where
+      found : FirstOf look slots → (k : ℕ) × (s : ℕ) × FirstSlot e L k s
+      found F =
+          let k = F .index / 64 in
+          let j = F .index % 64 in
+          let z : 64 * k + j ≡ F .index = omega arith in (
+            k,
+            (slotOf e k + j) % 64,
+            record {
+              within = omega arith;
+              lowest = λ q h. sym (look-slot q) ∙ F .before (64 * (levelAt q) + turnOf q) (omega (arith, turn-lt q));
+              steps = j;
+              near = omega arith;
+              is = refl;
+              before = λ i h. sym (look-at k i (omega arith)) ∙ F .before (64 * k + i) (omega (arith, h));
+              head = F .head;
+              rest = F .rest;
+              filled = sym (look-at k j (omega arith)) ∙ ap look z ∙ F .filled;
+            },
+          )
+
+-- ---- next wake and length
+
+wake-on : (s : QueueWords) → EmptyWheel (view s .lists) ⊎ ((k : ℕ) × (c : ℕ) × FirstSlot (elapsed s) (view s .lists) k c)
+    → (a : Answer) × WakeOn s a
+wake-on s (inl E) = (A.NoWake, record { done = sleeps E })
+wake-on s (inr F) = (A.Wake _, record { done = starts (F .2) })
+
+answer-met : {On : Answer → Type 0} (s : QueueWords) → (Sound s → (a : Answer) × On a) → (a : Answer) × Judging s a s (On a)
+answer-met s f = by-cases (sound-dec s) (λ S. let m = f S in (m .0, taken-up S (m .1))) (λ n. (A.No 2, unsound n))
+
+pub wake-met : (s : QueueWords) → (a : Answer) × WakeClaim s a
+wake-met s = answer-met s (λ S. wake-on s (next-met (elapsed s) (view s .lists)))
+
+pub length-met : (s : QueueWords) → (a : Answer) × LengthClaim s a
+length-met s = answer-met s (λ S. (A.Length (pendingIn (markOf s) (count s)), length-done S refl))
+
+-- ---- clear
+
+pub clear-one : {s : QueueWords} → Standing s → {i : ℕ} → i < count s → (t : QueueWords) × ClearsOne s i t
+clear-one {s} S {i} h =
+    by-cases (decLt (markOf s i) free)
+    (λ g.
+    let L = leave-met (clear-leaves S h g) in
+    let F = free-met (clear-frees S h g (L .1)) in
+    (_, clear-goes S h g (L .1) (F .2)))
+    (λ g. (s, clear-stays S h (omega arith)))
+
+pub clear-first : {s : QueueWords} → Standing s → (k : ℕ) → k ≤ count s → (t : QueueWords) × ClearedSo s k t
+clear-first {s} S zero h = (s, clear-none S)
+clear-first {s} S (suc k) h =
+    let m = clear-first S k (omega arith) in
+    let C = m .1 in
+    let g : k < count (m .0) = omega arith in
+    let o = clear-one (C .standing) g in
+    (o .0, subst (λ i. ClearedSo s i (o .0)) (add-one k) (clear-turn C g (o .1)))
+
+pub clear-met : (s : QueueWords) → Met (ClearClaim s)
+clear-met s = judging-met s (λ S. let m = clear-first (S .standing) (count s) (omega arith) in (A.Done, _, clear-done (m .1) refl))
+
+-- ---- poll: the loops of the code, by what is left to drain and to fall
+
+-- the head of a slot leaves it
+pop-met : {t : WheelWords} {k s : ℕ} → CanPop t k s → (item : ℕ) × (u : WheelWords) × Pops t (slotPlace k s) item u
+pop-met {t} {k} {s} C =
+    let p = slotPlace k s in
+    by-cases (ℕ-discrete (headAt t p) nobody)
+    (λ z. (headAt t p, _, popped-none (C .whole) p (headAt t p) refl refl z))
+    (λ d.
+    by-cases (ℕ-discrete (headIn (pop (t .stack) p) p) nobody)
+    (λ z. (headAt t p, _, popped-last (C .whole) p (headAt t p) refl refl d k s (C .level) (C .slot) refl z refl))
+    (λ z. (headAt t p, _, popped-more (C .whole) p (headAt t p) refl refl d z)))
+
+-- and goes one level down
+move-met : {t : WheelWords} {ds : List ℕ} {k s : ℕ} → CanMove t ds k s
+    → (item : ℕ) × (u : WheelWords) × MovesOne (at ds) t (k - 1) (slotPlace k s) item u
+move-met {t} {ds} {k} {s} C =
+    let Q = pop-met (C .pop) in
+    by-cases (ℕ-discrete (Q .0) nobody)
+    (λ z. (Q .0, Q .1, moved-none C (Q .2) z))
+    (λ d. let B = add-met (move-adds C (Q .2) d) (at ds (Q .0)) in (Q .0, B .0, moved-some C (Q .2) d (at ds (Q .0)) refl (B .1)))
+
+module _ {t₀ : WheelWords} {ds : List ℕ} {k s : ℕ} (C : CanMove t₀ ds k s) where
+  drain-loop : (fuel : ℕ) {t : WheelWords} {moves : ℕ} → DrainedSo (at ds) t₀ (k - 1) (slotPlace k s) moves t
+      → length (listsIn t (slotPlace k s)) < fuel
+      → (m : ℕ) × (u : WheelWords) × DrainsTo (at ds) t₀ (k - 1) (slotPlace k s) m u
+  drain-loop zero S h = absurd (omega arith)
+  drain-loop (suc fuel) {t} {moves} S h =
+      let M = move-met (turn-can C S) in
+      by-cases (ℕ-discrete (M .0) nobody)
+      (λ z. (moves, M .1, turn-done C S (M .2) z))
+      (λ d. let r = turn-more C S (M .2) d in drain-loop fuel (r .0) (omega arith))
+
+  drain-met : (m : ℕ) × (u : WheelWords) × DrainsTo (at ds) t₀ (k - 1) (slotPlace k s) m u
+  drain-met = drain-loop (suc (length (listsIn t₀ (slotPlace k s)))) (turn-start C) (omega arith)
+
+module _ {t₀ : WheelWords} {ds : List ℕ} {now : ℕ} (C : CanPoll t₀ ds now) where
+  -- what a poll of the wheel ends with
+  abbrev Ended : Type 0
+  Ended = (item : ℕ) × (m : ℕ) × (n : ℕ) × (u : WheelWords) × PollsTo (at ds) now t₀ item m n u
+
+  -- or it looks again, with less to fall
+  abbrev Again : WheelWords → Type 0
+  Again t = (u : WheelWords) × (m : ℕ) × (n : ℕ) × PolledSo (at ds) now t₀ m n u × (heights (listsIn u) < heights (listsIn t))
+
+  poll-look : {t : WheelWords} {moves drains : ℕ} → PolledSo (at ds) now t₀ moves drains t → Ended ⊎ Again t
+  poll-look {t} {moves} {drains} S =
+      ⊎-elim
+      (λ E. inl (nobody, moves, drains, _, poll-idle C S E))
+      (λ F.
+      let c = startAt (t .elapsed) (F .0) (F .1) in
+      by-cases (decLt now c)
+      (λ l. inl (nobody, moves, drains, _, poll-early C S (F .2) c refl l))
+      (λ l.
+      let due : c ≤ now = omega arith in
+      by-cases (ℕ-discrete (F .0) 0)
+      (λ z. let Q = pop-met (pop-can C S (F .2) c refl) in inl (Q .0, moves, drains, Q .1, poll-out C S (F .2) c refl z due (Q .0) (Q .2)))
+      (λ z.
+      let D = drain-met (drain-can C S (F .2) c refl z) in
+      let r = poll-drain C S (F .2) c refl z due (D .0) (D .2) in
+      inr (wheelWords c (D .1 .occupied) (D .1 .stack), moves + D .0, drains + 1, r .0, r .1))))
+      (next-met (t .elapsed) (listsIn t))
+
+  poll-loop : (fuel : ℕ) (t : WheelWords) (moves drains : ℕ) → PolledSo (at ds) now t₀ moves drains t → heights (listsIn t) < fuel → Ended
+  poll-loop zero t moves drains S h = absurd (omega arith)
+  poll-loop (suc fuel) t moves drains S h =
+      ⊎-elim (λ E. E) (λ G. poll-loop fuel (G .0) (G .1) (G .2) (G .3) (omega arith)) (poll-look S)
+
+  wheel-met : Ended
+  wheel-met = poll-loop (suc (heights (listsIn t₀))) t₀ 0 0 (poll-start C) (omega arith)
+
+-- the record that was found is freed
+out-met : {s : QueueWords} → Sound s → {i : ℕ} → LooseAt s i → (moves drains : ℕ) → Met (HandsOut s i moves drains)
+out-met S o moves drains = let F = free-met (out-frees S o) in (A.Out _ _ _ _ _, _, out-done S o moves drains (F .2) refl)
+
+poll-on : {s : QueueWords} → Sound s → (time : ℕ) → Met (PollOn s time)
+poll-on {s} S time =
+    by-cases (decLt time (elapsed s))
+    (λ h. (A.No 7, s, poll-back S time h))
+    (λ h.
+    let g : elapsed s ≤ time = omega arith in
+    let item = headAt (s .wheel) expired in
+    let Q = pops-aside (S .standing .whole) expired item refl refl (omega arith) in
+    by-cases (ℕ-discrete item nobody)
+    (λ z.
+    let R = wheel-met (wheel-can S time g Q z) in
+    by-cases (ℕ-discrete (R .0) nobody)
+    (λ y. (A.Nothing (R .1) (R .2), _, poll-none S time g Q z (R .4) y))
+    (λ y.
+    let l = wheel-loose S time g Q z (R .4) y in
+    let O = out-met (l .0) (l .1) (R .1) (R .2) in
+    (O .0, O .1, poll-handed S time g Q z (R .4) y (O .2))))
+    (λ z.
+    let l = stack-loose S time g Q z in
+    let O = out-met (l .0) (l .1) 0 0 in
+    (O .0, O .1, poll-popped S time g Q z (O .2))))
+
+pub poll-met : (s : QueueWords) (now : ℕ) → Met (PollClaim s now)
+poll-met s now = judging-met s (λ S. poll-on S now)

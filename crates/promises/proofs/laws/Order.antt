@@ -1,0 +1,253 @@
+-- The order in which equal deadlines leave is that of the lists.
+use mathlib.Core.Path.{_≡_, refl, sym, ap, _∙_}
+use mathlib.Core.Logic.{_≢_, _⊎_, inl, inr, ⊎-elim, by-cases}
+use mathlib.Core.Bool.{Bool, true, false, cond, true≢false}
+use mathlib.Core.List.{List, [], _∷_, _++_, reverse, reverseAux, reverseAux-eq, reverse-reverse, nil≢cons}
+use mathlib.Core.Option.{some}
+use Prim.Native.Nat.{ℕ, suc, _/_, _≤_, _<_}
+use native.Mathlib.Decide.{ℕ-discrete}
+use native.Mathlib.Omega.{arith}
+use lib.Dec.{eqb}
+use borrow.Author.Tests.{eqb-true, eq-eqb, ne-eqb}
+use Rattle.times.specs.Times.{slotOf}
+use Rattle.times.proofs.laws.Quotients.{slot-lt}
+use Rattle.links.specs.Lists.{Mem, change}
+use Rattle.links.proofs.laws.Lists.{change-same, change-other}
+use Rattle.stack.specs.Places.{slotPlace, slots, expired, put, levelAt}
+use Rattle.wheel.specs.Wheel.{Lists, FirstSlot, arrive, Drains, drained, moved, Polls, out, drain}
+use Rattle.wheel.specs.Between.{Between}
+use Rattle.wheel.proofs.laws.Between.{rule-between, place-level}
+use Rattle.wheel.proofs.laws.Next.{slot-below, here-below}
+use Rattle.wheel.proofs.laws.Drain.{move-rest, drains-law, drain-law}
+use Rattle.queue.specs.declared.Answer.{Answer}
+use Rattle.queue.specs.Told.{Told, told}
+use Rattle.queue.specs.Told as T
+use Rattle.records.specs.View.{View, withElapsed, withLists}
+use Rattle.records.specs.Records.{keyOf, At, Names}
+use Rattle.queue.proofs.laws.Calls.{names-one}
+use Rattle.queue.specs.Steps.{QueuePolls, polled, popped, handed, nothing}
+use Rattle.records.specs.Words.{QueueWords, elapsed, view, Sound}
+use Rattle.delay_queue.specs.Claims.{PollClaim}
+use Rattle.promises.proofs.laws.Polling.{none-out, freed-beside, one-list, key-of-names}
+use Rattle.promises.specs.Order.{keep, ofDeadline, goesTo, turned, PollOrder}
+
+-- ---- what is said
+
+-- so at an even level the order is that of the list, and at an odd one the reverse
+pub turned-two : (k : ℕ) (l : List ℕ) → turned (suc (suc k)) l ≡ turned k l
+turned-two k l = ap (turned k) (reverse-reverse l)
+
+-- ---- lists
+
+turn-cond : (b : Bool) (x : ℕ) (xs ys : List ℕ) → reverseAux xs (cond b (x ∷ ys) ys) ≡ reverseAux (cond b (x ∷ xs) xs) ys
+turn-cond true x xs ys = refl
+turn-cond false x xs ys = refl
+
+keep-turn : (f : ℕ → Bool) (xs ys : List ℕ) → keep f (reverseAux xs ys) ≡ reverseAux (keep f xs) (keep f ys)
+keep-turn f [] ys = refl
+keep-turn f (x ∷ xs) ys = keep-turn f xs (x ∷ ys) ∙ turn-cond (f x) x (keep f xs) (keep f ys)
+
+keep-none : (f : ℕ → Bool) (l : List ℕ) → ((x : ℕ) → f x ≡ false) → keep f l ≡ []
+keep-none f [] h = refl
+keep-none f (x ∷ l) h = rw (h x) (keep-none f l h)
+
+-- who passes f passes g
+keep-keep : (f g : ℕ → Bool) (l : List ℕ) → ((x : ℕ) → f x ≡ true → g x ≡ true) → keep f (keep g l) ≡ keep f l
+keep-keep f g [] h = refl
+keep-keep f g (x ∷ l) h = by (f x) refl (g x) refl (keep-keep f g l h)
+  where
+    by : (b : Bool) → f x ≡ b → (c : Bool) → g x ≡ c → keep f (keep g l) ≡ keep f l
+        → keep f (cond c (x ∷ keep g l) (keep g l)) ≡ cond b (x ∷ keep f l) (keep f l)
+    by true e true i ih = rw (e, ih)
+    by true e false i ih = absurd (true≢false (sym (h x e) ∙ i))
+    by false e true i ih = rw (e, ih)
+    by false e false i ih = ih
+
+mem-keep : (f : ℕ → Bool) (y : ℕ) (l : List ℕ) → Mem y (keep f l) → Mem y l × (f y ≡ true)
+mem-keep f y [] m = absurd m
+mem-keep f y (x ∷ l) m = by (f x) refl m (mem-keep f y l)
+  where
+    by : (b : Bool) → f x ≡ b → Mem y (cond b (x ∷ keep f l) (keep f l)) → (Mem y (keep f l) → Mem y l × (f y ≡ true))
+        → Mem y (x ∷ l) × (f y ≡ true)
+    by true e (inl h) ih = (inl h, ap f h ∙ e)
+    by true e (inr h) ih = let r = ih h in (inr (r .0), r .1)
+    by false e h ih = let r = ih h in (inr (r .0), r .1)
+
+mem-turn : (y : ℕ) (xs ys : List ℕ) → Mem y (reverseAux xs ys) → Mem y xs ⊎ Mem y ys
+mem-turn y [] ys m = inr m
+mem-turn y (x ∷ xs) ys m =
+    ⊎-elim (λ h. inl (inr h)) (λ h. ⊎-elim (λ e. inl (inl e)) (λ k. inr k) h) (mem-turn y xs (x ∷ ys) m)
+
+-- ---- a drain
+
+module _ (d : ℕ → ℕ) (k h : ℕ) (level : h / 64 ≡ suc k) (below : h < slots) where
+  -- one move
+  move-order : (L : Lists) (x : ℕ) (l : List ℕ) (r : ℕ) → r ≢ h → arrive k (d x) x (change L h l) r ≡ cond (goesTo d k r x) (x ∷ L r) (L r)
+  unfolding arrive put
+  move-order L x l r n =
+      let q = slotPlace k (slotOf (d x) k) in
+      let M = change L h l in
+      let other : M r ≡ L r = change-other L h l r n in
+      by-cases (ℕ-discrete q r)
+      (λ e. rw (eq-eqb q r e, e) (change-same M r (put r x (M r)) ∙ ap (put r x) other))
+      (λ e. rw (ne-eqb q r e) (change-other M q (put q x (M q)) r (λ z. e (sym z)) ∙ other))
+
+  drains-order : {L M : Lists} {m : ℕ} → Drains d k h L m M → (r : ℕ) → r ≢ h → M r ≡ reverseAux (keep (goesTo d k r) (L h)) (L r)
+  drains-order (drained {L} e) r n = rw e
+  drains-order (moved {L} {M} {m} {x} {l} e D) r n =
+      let f = goesTo d k r in
+      let W = arrive k (d x) x (change L h l) in
+      let a : W h ≡ l = move-rest d k h level below L x l e in
+      let b : W r ≡ cond (f x) (x ∷ L r) (L r) = move-order L x l r n in
+      cc (drains-order D r n, turn-cond (f x) x (keep f l) (L r))
+
+  -- "each entry, from the head, is moved to the head of its slot one level down": those that go to one slot stand before what it held, in reverse
+  pub drain-order : {L M : Lists} {m : ℕ} → Drains d k h L m M → (r : ℕ) → r ≢ h → M r ≡ reverse (keep (goesTo d k r) (L h)) ++ L r
+  drain-order {L} D r n = drains-order D r n ∙ reverseAux-eq (keep (goesTo d k r) (L h)) (L r)
+
+-- ---- a poll of the wheel
+
+-- x, handed out, lay in the place: with as many reversals as its level, it is the first of its equals there, and the others come next, at level 0
+record Ordered (d : ℕ → ℕ) (L : Lists) (x : ℕ) (N : Lists) : Type 0 where
+  place : ℕ
+  below : place < slots
+  member : Mem x (L place)
+  slot : ℕ
+  low : slot < 64
+  order : turned (levelAt place) (ofDeadline d (d x) (L place)) ≡ x ∷ ofDeadline d (d x) (N slot)
+
+-- a drain, and what the rest of the poll does
+drained-order : {d : ℕ → ℕ} {e : ℕ} {L : Lists} → Between d e L → {k s : ℕ} → FirstSlot e L (suc k) s → {m : ℕ} {M : Lists}
+    → Drains d k (slotPlace (suc k) s) L m M → {x : ℕ} {N : Lists} → Ordered d M x N → Ordered d L x N
+drained-order {d} {e} {L} B {k} {s} F {m} {M} D {x} {N} O = by (ℕ-discrete (levelAt (O .place)) k)
+  where
+    level : slotPlace (suc k) s / 64 ≡ suc k
+    level = place-level (suc k) s (slot-below B F)
+
+    empty : M (slotPlace (suc k) s) ≡ []
+    empty = drains-law d k (slotPlace (suc k) s) level (here-below B F) D .1
+
+    not-here : O .place ≢ slotPlace (suc k) s
+    not-here = λ z. rw (z, empty) at (O .member)
+
+    is : M (O .place) ≡ reverseAux (keep (goesTo d k (O .place)) (L (slotPlace (suc k) s))) (L (O .place))
+    is = drains-order d k (slotPlace (suc k) s) level (here-below B F) D (O .place) not-here
+
+    by : Dec (levelAt (O .place) ≡ k) → Ordered d L x N
+    by (yes z) =
+        let f = goesTo d k (O .place) in
+        let w : ℕ → Bool = λ y. eqb (d y) (d x) in
+        let l = L (slotPlace (suc k) s) in
+        let e₁ : M (O .place) ≡ reverse (keep f l) = is ∙ ap (reverseAux (keep f l)) (F .lowest (O .place) (omega arith)) in
+        let m₁ : Mem x (reverse (keep f l)) = rw e₁ at (O .member) in
+        let m₂ : Mem x (keep f l) = ⊎-elim (λ a. a) (λ a. absurd a) (mem-turn x (keep f l) [] m₁) in
+        let m₃ = mem-keep f x l m₂ in
+        let same : (y : ℕ) → w y ≡ true → f y ≡ true
+        = λ y g. let a : d y ≡ d x = eqb-true (d y) (d x) g in rw a (m₃ .1) in
+        let e₂ : keep w (M (O .place)) ≡ reverse (keep w l) = ap (keep w) e₁ ∙ keep-turn w (keep f l) []
+        ∙ ap reverse (keep-keep w f l same) in
+        record {
+          place = slotPlace (suc k) s;
+          below = here-below B F;
+          member = m₃ .0;
+          slot = O .slot;
+          low = O .low;
+          order = rw level (cc);
+        }
+    by (no z) =
+        let f = goesTo d k (O .place) in
+        let l = L (slotPlace (suc k) s) in
+        let nobody : (y : ℕ) → f y ≡ false
+        = λ y.
+        ne-eqb (slotPlace k (slotOf (d y) k)) (O .place)
+        (λ g. z (ap (λ q. levelAt q) (sym g) ∙ place-level k (slotOf (d y) k) (slot-lt (d y) k))) in
+        let e₁ : M (O .place) ≡ L (O .place) = is ∙ ap (λ a. reverseAux a (L (O .place))) (keep-none f l nobody) in
+        record {
+          place = O .place;
+          below = O .below;
+          member = rw e₁ at (O .member);
+          slot = O .slot;
+          low = O .low;
+          order = cc;
+        }
+
+polls-order : {d : ℕ → ℕ} {now e : ℕ} {L : Lists} {x m n c : ℕ} {N : Lists} → Between d e L → Polls d now e L (some x) m n c N
+    → Ordered d L x N
+polls-order {d} B (out {e} {s} {x} {L} {l} F due is) =
+    let p = slotPlace 0 s in
+    let low : levelAt p ≡ 0 = place-level 0 s (slot-below B F) in
+    record {
+      place = p;
+      below = here-below B F;
+      member = rw is (inl refl);
+      slot = p;
+      low = omega arith;
+      order =
+          ap (λ j. turned j (ofDeadline d (d x) (L p))) low
+          ∙ ap (ofDeadline d (d x)) is
+          ∙ ap (λ b. cond b (x ∷ ofDeadline d (d x) l) (ofDeadline d (d x) l)) (eq-eqb (d x) (d x) refl)
+          ∙ ap (λ a. x ∷ ofDeadline d (d x) a) (sym (change-same L p l));
+    }
+polls-order B (drain F due D r) = drained-order B F D (polls-order (drain-law B F D .rule) r)
+
+-- at level 0 already, it is the head of its slot
+polls-head : {d : ℕ → ℕ} {now e : ℕ} {L : Lists} {x m n c : ℕ} {N : Lists} → Polls d now e L (some x) m n c N → (p : ℕ) → p < 64
+    → Mem x (L p)
+    → ((q : ℕ) → Mem x (L q) → q ≡ p) → (l : List ℕ) × (L p ≡ x ∷ l) × (N p ≡ l)
+polls-head (out {e} {s} {x} {L} {l} F due is) p low m one =
+    let z : slotPlace 0 s ≡ p = one (slotPlace 0 s) (rw is (inl refl)) in
+    (l, ap L (sym z) ∙ is, ap (change L (slotPlace 0 s) l) (sym z) ∙ change-same L (slotPlace 0 s) l)
+polls-head {x = x} (drain {k = k} F due D r) p low m one = absurd (rw (F .lowest p (omega arith)) at m)
+
+-- ---- a poll of the queue
+
+module _ {s : QueueWords} (S : Sound s) where
+  -- the key of a pending record names it, and it alone, in its place
+  names-it : {i q k r p : ℕ} → At (view s) i q → keyOf (view s) i ≡ k → Names (view s) k r p → (i ≡ r) × (q ≡ p)
+  names-it a e N = names-one S (rw e at (key-of-names S a)) N
+
+  module _ {now : ℕ} (not-back : elapsed s ≤ now) where
+    order-of : {x : Told} {u : View} → QueuePolls (view s) now x u → PollOrder (view s) x u
+    order-of (handed (popped {r} {l} e)) =
+        let v = view s in
+        let a : At v r expired = record { timed = omega arith; member = rw e (inl refl) } in
+        let away : (k w d m n i p : ℕ) → T.out (keyOf v r) (v .value r) (v .deadline r) 0 0 ≡ T.out k w d m n → Names v k i p → p < slots
+        → ⊥
+        = λ k w d m n i p is N h. let f : keyOf v r ≡ k = cc in omega (arith, names-it a f N .1) in
+        record {
+          stack = λ i j f.
+              let z : r ∷ l ≡ i ∷ j = sym e ∙ f in
+              let z₁ : r ≡ i = cc in
+              let z₂ : l ≡ j = cc in
+              let B = freed-beside r (withLists (change (v .lists) expired l) v) in
+              (rw z₁, B .lists expired (omega arith) ∙ change-same (v .lists) expired l ∙ z₂, B .elapsed);
+          head = λ k w d m n i p is N h. absurd (away k w d m n i p is N (omega arith));
+          equals = λ k w d m n i p is N h. absurd (away k w d m n i p is N h);
+        }
+    order-of (handed {r} {m} {n} (polled {e = e} {L = L} empty P)) =
+        let v = view s in
+        let B = freed-beside r (withElapsed e (withLists L v)) in
+        let O = polls-order (rule-between (S .rule)) P in
+        let a : At v r (O .place) = record { timed = omega arith; member = O .member } in
+        record {
+          stack = λ i j f. absurd (nil≢cons (sym empty ∙ f));
+          head = λ k w d m₁ n₁ i p is N h.
+              let f : keyOf v r ≡ k = cc in
+              let z : r ≡ i = names-it a f N .0 in
+              let b : At v r p = rw z (N .pending) in
+              rw (← z, B .lists p (omega (arith, h))) (polls-head P p h (b .member) (λ q m. one-list S r q p m (b .member)));
+          equals = λ k w d m₁ n₁ i p is N h.
+              let f : keyOf v r ≡ k = cc in
+              let g : d ≡ v .deadline r = cc in
+              let z = names-it a f N in
+              (O .slot, O .low, rw (g, ← z .0, ← z .1, B .lists (O .slot) (omega arith)) (O .order));
+        }
+    order-of (nothing (polled empty P)) =
+        record {
+          stack = λ i j f. absurd (nil≢cons (sym empty ∙ f));
+          head = λ k w d m n i p is N h. absurd (none-out is);
+          equals = λ k w d m n i p is N h. absurd (none-out is);
+        }
+
+    pub poll-order : {a : Answer} {t : QueueWords} → PollClaim s now a t → PollOrder (view s) (told a) (view t)
+    poll-order P = order-of (P .good S .done not-back .1)

@@ -1,0 +1,239 @@
+-- Each refusal has its own number, is given exactly when the table of document 01 says, in its order, and changes nothing.
+use mathlib.Core.Path.{_≡_, refl, sym, ap, _∙_}
+use mathlib.Core.Logic.{_≢_, _⊎_, inl, inr, ⊎-elim, by-cases}
+use mathlib.Core.Bool.{false, true≢false}
+use mathlib.Core.List.{List, [], _∷_}
+use Prim.Native.Nat.{ℕ, _<_}
+use native.Mathlib.Decide.{ℕ-discrete, decLt}
+use native.Mathlib.Omega.{arith}
+use Rattle.links.specs.Links.{at}
+use Rattle.links.specs.Lists.{Mem}
+use Rattle.stack.specs.Places.{expired, free}
+use Rattle.queue.specs.declared.Answer.{Answer}
+use Rattle.queue.specs.Told.{Told, told}
+use Rattle.queue.specs.Told as T
+use Rattle.records.specs.View.{View}
+use Rattle.records.specs.Records.{Names, TooFar, OtherBlock, Takes, numberIn, turnIn}
+use Rattle.records.specs.Words.{QueueWords, count, elapsed, markOf, view, Sound, PastKept}
+use Rattle.records.proofs.laws.Words.{past-refl}
+use Rattle.queue.specs.Calls.{Refused, Answered, InsertOn}
+use Rattle.records.proofs.laws.Found.{key-names}
+use Rattle.records.proofs.laws.Inner.{mark-at, left-size, placed-size, freed-size}
+use Rattle.delay_queue.specs.declared.Call.{Call}
+use Rattle.delay_queue.specs.declared.Call.the-variants as C
+use Rattle.delay_queue.specs.Claims.{FormatClaim, Judging, ResetClaim, PollClaim, CallClaim}
+use Rattle.records.proofs.laws.Cases.{by-deadline}
+use Rattle.promises.proofs.laws.Decided.{sound-dec, fits-dec, range-dec}
+use Rattle.promises.proofs.laws.Quiet.{expired-shown}
+use Rattle.promises.specs.Step.{isNo, reach}
+use Rattle.promises.proofs.laws.Step.{polls-says, wakes-says, refusal-same}
+use Rattle.queue.proofs.laws.Polls.{polls-size, clears-size}
+use Rattle.promises.specs.Refused.{NoSuchKey, absent, beyond, stale, Lines, end, line, linesOf, First, numbers, RefusedBy, Settled, accepted, refused, whenOf}
+
+-- ---- the table
+
+first-once : (l : Lines) {j k : ℕ} → First l j → First l k → j ≡ k
+first-once end x y = absurd x
+first-once (line n P l) (inl a) (inl b) = a .0 ∙ sym (b .0)
+first-once (line n P l) (inl a) (inr b) = absurd (b .0 (a .1))
+first-once (line n P l) (inr a) (inl b) = absurd (a .0 (b .1))
+first-once (line n P l) (inr a) (inr b) = first-once l (a .1) (b .1)
+
+-- "each refusal has its own number": the table gives no call two
+pub refused-once : (c : Call) (s : QueueWords) {j k : ℕ} → RefusedBy c s j → RefusedBy c s k → j ≡ k
+refused-once c s x y = first-once (linesOf c s) x y
+
+first-listed : (l : Lines) (k : ℕ) → First l k → Mem k (numbers l)
+first-listed end k x = x
+first-listed (line j P l) k (inl x) = inl (x .0)
+first-listed (line j P l) k (inr x) = inr (first-listed l k (x .1))
+
+-- ---- how the lines and the claims go together
+
+-- a key names a pending record, or is dead
+names-or-dead : {s : QueueWords} → Sound s → (key : ℕ) → NoSuchKey (view s) key ⊎ ((r : ℕ) × (p : ℕ) × Names (view s) key r p)
+names-or-dead {s} S key =
+    let i = numberIn key in
+    by-cases (decLt i (count s))
+    (λ b.
+    by-cases (decLt (markOf s i) free)
+    (λ m.
+    by-cases (ℕ-discrete (at (s .turns) i) (turnIn key))
+    (λ t. inr (i, markOf s i, key-names S key (record { number = refl; below = b; pending = m; turn = t })))
+    (λ d. inl (stale d)))
+    (λ m. inl (absent (λ p a. m (omega (arith, mark-at (S .standing) a))))))
+    (λ b. inl (beyond (omega arith)))
+
+dead-names : {v : View} {key : ℕ} → NoSuchKey v key → (r p : ℕ) → Names v key r p → ⊥
+dead-names (beyond h) r p N = omega arith
+dead-names {v} (absent f) r p N = f p (rw (N .number) at (N .pending))
+dead-names {v} (stale d) r p N = d (rw (N .number) at (N .turn))
+
+module _ {n : ℕ} {s t : QueueWords} {a : Answer} where
+  -- a line is met
+  stop : {k : ℕ} {P : Type 0} {l : Lines} → P → Refused k s a t → Settled n s a t (line k P l)
+  stop p R = refused (inl (refl, p)) R
+
+  -- or passed
+  pass : {k : ℕ} {P : Type 0} {l : Lines} → (P → ⊥) → Settled n s a t l → Settled n s a t (line k P l)
+  pass f (refused x R) = refused (inr (f, x)) R
+  pass f (accepted g e c K) = accepted (λ k. ⊎-elim (λ x. f (x .1)) (λ x. g k (x .1))) e c K
+
+module _ {s t : QueueWords} {a : Answer} where
+  done-so : {x : Told} {v : View} → isNo x ≡ false → v .n ≡ count s → Answered s a x v t → Settled (count s) s a t end
+  done-so e n A = accepted (λ k x. x) (ap isNo (A .told) ∙ e) (ap (λ v. v .n) (A .view) ∙ n) (A .kept)
+
+  -- "Every call but format judges this first"
+  judged : {On : Type 0} {l : Lines} → Judging s a t On → (Sound s → On → Settled (count s) s a t l)
+      → Settled (count s) s a t (line 2 (Sound s → ⊥) l)
+  judged J f = by-cases (sound-dec s) (λ S. pass (λ n. n S) (f S (J .good S))) (λ n. stop n (J .bad n))
+
+  -- 4 and 5
+  by-when : (w : ℕ) → (TooFar (elapsed s) w → Refused 4 s a t) → (OtherBlock (elapsed s) w → Refused 5 s a t)
+      → (Takes (elapsed s) w → Settled (count s) s a t end)
+      → Settled (count s) s a t (line 4 (TooFar (elapsed s) w) (line 5 (OtherBlock (elapsed s) w) end))
+  by-when w f g h =
+      by-deadline (elapsed s) w
+      (λ x. stop x (f x))
+      (λ x. pass (λ y. omega arith) (stop x (g x)))
+      (λ x. pass (λ y. far-not y x) (pass (λ y. y .2 (x (y .0))) (h x)))
+    where
+      far-not : TooFar (elapsed s) w → Takes (elapsed s) w → ⊥
+      far-not y x = omega (arith, x (y .0))
+
+  format-settled : {n turn : ℕ} → FormatClaim s n turn a t → Settled n s a t (linesOf (C.Format n turn) s)
+  format-settled {n} {turn} F =
+      by-cases (fits-dec s n)
+      (λ x.
+      pass (λ f. f x)
+      (by-cases (range-dec turn)
+      (λ y.
+      let D = F .done x y in
+      pass (λ f. f y) (accepted (λ k z. z) (ap isNo (D .told)) (ap (λ v. v .n) (D .view)) (D .kept)))
+      (λ f. stop f (F .outside x f))))
+      (λ f. stop f (F .short f))
+
+  insert-settled : {value when : ℕ} → Judging s a t (InsertOn s value when a t) → Settled (count s) s a t (linesOf (C.Insert value when) s)
+  insert-settled {value} {when} J = judged J (λ S I. by I (view s .lists free) refl)
+    where
+      some : {r : ℕ} {l : List ℕ} → view s .lists free ≡ r ∷ l → view s .lists free ≡ [] → ⊥
+      some e f = let z : _≡_ {A = ℕ} 0 1 = cc in omega arith
+
+      by : InsertOn s value when a t → (l : List ℕ) → view s .lists free ≡ l
+          → Settled (count s) s a t (line 3 (view s .lists free ≡ [])
+          (line 4 (TooFar (elapsed s) when) (line 5 (OtherBlock (elapsed s) when) end)))
+      by I [] e = stop e (I .full e)
+      by I (r ∷ l) e = pass (some e) (by-when when (I .far r l e) (I .other r l e)
+          (λ x. done-so refl (placed-size r when _) (I .done r l e x)))
+
+  -- 6
+  by-names : {l : Lines} → Sound s → (key : ℕ) → (((r p : ℕ) → Names (view s) key r p → ⊥) → Refused 6 s a t)
+      → ((r p : ℕ) → Names (view s) key r p → Settled (count s) s a t l) → Settled (count s) s a t (line 6 (NoSuchKey (view s) key) l)
+  by-names S key f g =
+      ⊎-elim
+      (λ d. stop d (f (dead-names d)))
+      (λ x. pass (λ d. dead-names d (x .0) (x .1) (x .2)) (g (x .0) (x .1) (x .2)))
+      (names-or-dead S key)
+
+-- next wake and length leave what they find
+looked : {s : QueueWords} {a : Answer} → isNo (told a) ≡ false → Settled (count s) s a s end
+looked {s} e = accepted (λ k x. x) e refl (past-refl (count s) s)
+
+looks : {s t : QueueWords} {a : Answer} {l : Lines} → t ≡ s → Settled (count s) s a s l → Settled (count s) s a t l
+looks {s} {t} {a} {l} e E = rw e E
+
+settled : (c : Call) (s : QueueWords) (a : Answer) (t : QueueWords) → CallClaim c s a t → Settled (reach c s) s a t (linesOf c s)
+settled (C.Format n turn) s a t A = format-settled A
+settled (C.Insert value when) s a t A = insert-settled A
+settled (C.Reset key when) s a t A =
+    judged A (λ S R. by-names S key (R .dead) (λ r p N. by-when when (R .far r p N) (R .other r p N)
+    (λ x. done-so refl (placed-size r when _ ∙ left-size p r (view s)) (R .done r p N x))))
+settled (C.Remove key) s a t A = judged A (λ S R. by-names S key (R .dead)
+    (λ r p N. done-so refl (freed-size r _ ∙ left-size p r (view s)) (R .done r p N)))
+settled (C.Poll now) s a t A =
+    judged A (λ S P.
+    by-cases (decLt now (elapsed s))
+    (λ h. stop h (P .back h))
+    (λ h. pass h (let d = P .done (omega arith) in accepted (λ k x. x) (polls-says (d .1)) (polls-size (d .1)) (d .2))))
+settled C.Wake s a t A = looks (A .1) (judged (A .0) (λ S W. looked (wakes-says (W .done))))
+settled C.Length s a t A = looks (A .1) (judged (A .0) (λ S W. looked (ap isNo (W .done))))
+settled C.Clear s a t A = judged A (λ S K. done-so refl (clears-size (K .clears)) (K .done))
+
+-- ---- the promises
+
+module _ (c : Call) (s : QueueWords) (a : Answer) (t : QueueWords) (A : CallClaim c s a t) where
+  -- "Given exactly when": a call answers `no k` just where the table says k, and then "every lent slice stays word for word the same, and the state that
+  -- went in by value is handed back equal"
+  pub refused-exactly : (k : ℕ) → (RefusedBy c s k → (told a ≡ T.no k) × (t ≡ s)) × (told a ≡ T.no k → RefusedBy c s k)
+  refused-exactly k = by (settled c s a t A)
+    where
+      by : Settled (reach c s) s a t (linesOf c s) → (RefusedBy c s k → (told a ≡ T.no k) × (t ≡ s)) × (told a ≡ T.no k → RefusedBy c s k)
+      by (refused {k = j} x R) = (
+        λ y. let e : j ≡ k = refused-once c s x y in (R .told ∙ ap T.no e, R .same),
+        λ e. let q : T.no j ≡ T.no k = sym (R .told) ∙ e in let z : j ≡ k = cc in rw (← z) x,
+      )
+      by (accepted f e n K) = (λ y. absurd (f k y), λ q. absurd (true≢false (sym (ap isNo q) ∙ e)))
+
+  -- a call answers no number but those that the order has for it
+  pub refused-listed : (k : ℕ) → told a ≡ T.no k → Mem k (numbers (linesOf c s))
+  refused-listed k e = first-listed (linesOf c s) k (refused-exactly k .1 e)
+
+  -- and a call that meets no line of the table is not refused
+  pub accepted-exactly : (((k : ℕ) → RefusedBy c s k → ⊥) → isNo (told a) ≡ false) × (isNo (told a) ≡ false → (k : ℕ) → RefusedBy c s k → ⊥)
+  accepted-exactly = by (settled c s a t A)
+    where
+      by : Settled (reach c s) s a t (linesOf c s)
+          → (((k : ℕ) → RefusedBy c s k → ⊥) → isNo (told a) ≡ false) × (isNo (told a) ≡ false → (k : ℕ) → RefusedBy c s k → ⊥)
+      by (refused {k = j} x R) = (λ f. absurd (f j x), λ e k y. true≢false (sym (ap isNo (R .told)) ∙ e))
+      by (accepted f e n K) = (λ g. e, λ q. f)
+
+  -- what a call leaves has the size that it reached, unless it was refused
+  pub step-size : (t ≡ s) ⊎ ((isNo (told a) ≡ false) × (count t ≡ reach c s) × PastKept (reach c s) s t)
+  step-size = by (settled c s a t A)
+    where
+      by : Settled (reach c s) s a t (linesOf c s) → (t ≡ s) ⊎ ((isNo (told a) ≡ false) × (count t ≡ reach c s) × PastKept (reach c s) s t)
+      by (refused x R) = inl (R .same)
+      by (accepted f e n K) = inr (e, n, K)
+
+-- "Number 7 is judged even with an expired timer waiting."
+pub seven-though-waiting : {s t : QueueWords} {a : Answer} {now : ℕ} → PollClaim s now a t → Sound s → {r : ℕ} {l : List ℕ}
+    → view s .lists expired ≡ r ∷ l
+    → now < elapsed s → (told a ≡ T.no 7) × (t ≡ s)
+seven-though-waiting {s} {t} {a} {now} P S e h = refused-exactly (C.Poll now) s a t P 7 .0 (inr (λ f. f S, inl (refl, h)))
+
+-- a store where that happens
+pub seven-shown : (s : QueueWords) × Sound s × (0 < elapsed s) × ((r : ℕ) × (l : List ℕ) × (view s .lists expired ≡ r ∷ l))
+seven-shown = let x = expired-shown 1 in (x .0, x .1, omega arith, (x .3 .0, [], x .3 .1))
+
+-- a line of another number is passed
+passed : {j k : ℕ} {P Q : Type 0} → k ≢ j → ((k ≡ j) × P) ⊎ ((P → ⊥) × Q) → Q
+passed d x = ⊎-elim (λ y. absurd (d (y .0))) (λ y. y .1) x
+
+far : {e w k : ℕ} → First (line 4 (TooFar e w) (line 5 (OtherBlock e w) end)) k → e < w
+far x = ⊎-elim (λ y. y .1 .0) (λ y. ⊎-elim (λ z. z .1 .0) (λ z. absurd (z .1)) (y .1)) x
+
+later : (c : Call) (s : QueueWords) (k : ℕ) → 3 < k → k < 6 → RefusedBy c s k → elapsed s < whenOf c
+later (C.Format n turn) s k h g x = absurd (passed (omega arith) (passed (omega arith) x))
+later (C.Insert value when) s k h g x = far (passed (omega arith) (passed (omega arith) x))
+later (C.Reset key when) s k h g x = far (passed (omega arith) (passed (omega arith) x))
+later (C.Remove key) s k h g x = absurd (passed (omega arith) (passed (omega arith) x))
+later (C.Poll now) s k h g x = absurd (passed (omega arith) (passed (omega arith) x))
+later C.Wake s k h g x = absurd (passed (omega arith) x)
+later C.Length s k h g x = absurd (passed (omega arith) x)
+later C.Clear s k h g x = absurd (passed (omega arith) x)
+
+-- "Numbers 4 and 5 are judged only when w is over e": whichever call answers one of them asks for a deadline past elapsed
+pub four-five-only-later : (c : Call) (s : QueueWords) (a : Answer) (t : QueueWords) → CallClaim c s a t
+    → (told a ≡ T.no 4) ⊎ (told a ≡ T.no 5)
+    → elapsed s < whenOf c
+four-five-only-later c s a t A (inl e) = later c s 4 (omega arith) (omega arith) (refused-exactly c s a t A 4 .1 e)
+four-five-only-later c s a t A (inr e) = later c s 5 (omega arith) (omega arith) (refused-exactly c s a t A 5 .1 e)
+
+-- "Unlinking on a reset before judging 4 and 5. ..; here the timer stays put": a refused reset leaves its timer pending in its place, under its key, and
+-- every word as it was
+pub refused-reset-stays : {s t : QueueWords} {a : Answer} {key when k : ℕ} → ResetClaim s key when a t → told a ≡ T.no k
+    → (r p : ℕ) → Names (view s) key r p → Names (view t) key r p × (view t .lists p ≡ view s .lists p)
+    × (view t .deadline r ≡ view s .deadline r) × (t ≡ s)
+refused-reset-stays {s} {t} {a} {key} {when} {k} R e r p N =
+    let q : t ≡ s = refusal-same (C.Reset key when) s a t R k e in
+    (rw q N, rw q, rw q, q)

@@ -1,0 +1,190 @@
+-- What the promises of polls and of waiting ask can be met: in a store of one record a timer for 70 is inserted at 0 and polled at 70.
+use mathlib.Core.Path.{_≡_, refl, sym, ap, _∙_, subst}
+use mathlib.Core.Logic.{inl, by-cases}
+use mathlib.Core.List.{List, [], _∷_}
+use Prim.Native.Nat.{ℕ, _≤_, _<_}
+use native.Mathlib.Decide.{ℕ-discrete}
+use native.Mathlib.Omega.{arith}
+use Rattle.times.specs.Times.{width, slotOf, levelBelow, levelOf}
+use Rattle.links.specs.Lists.{Mem, change}
+use Rattle.links.proofs.laws.Lists.{change-same, change-other}
+use Rattle.stack.specs.Places.{slots, free, put, levelAt}
+use Rattle.stack.specs.Format.{over, formatted}
+use Rattle.stack.proofs.laws.Whole as stack-laws
+use Rattle.wheel.specs.Wheel.{placeFor}
+use Rattle.wheel.specs.Sums.{total}
+use Rattle.wheel.proofs.laws.Sums.{total-ext, total-more}
+use Rattle.wheel.specs.Drain.{heights}
+use Rattle.queue.specs.declared.Answer.{Answer}
+use Rattle.queue.specs.declared.Answer.the-variants as A
+use Rattle.queue.specs.Told.{told, Hands}
+use Rattle.records.specs.View.{withValue, upd}
+use Rattle.records.specs.Records.{keyOf, At, taken, target, placed}
+use Rattle.queue.specs.Steps.{pending}
+use Rattle.records.specs.Words.{QueueWords, count, elapsed, view, Sound}
+use Rattle.records.proofs.laws.Words.{upd-same}
+use Rattle.delay_queue.specs.Claims.{PollClaim}
+use Rattle.promises.proofs.laws.Met.{poll-met}
+use Rattle.promises.proofs.laws.Once.{told-one}
+use Rattle.promises.specs.Step.{one}
+use Rattle.promises.proofs.laws.Step.{one-sound, one-free, insert-shown}
+use Rattle.promises.specs.Runs.{rest, next, All, movesOf}
+use Rattle.promises.specs.Polling.{drainsOf, HandsLeast}
+use Rattle.promises.proofs.laws.Polling.{poll-parts, poll-least, poll-drains}
+use Rattle.promises.proofs.laws.Moves.{total-none, moves-are-heights}
+use Rattle.promises.specs.Waiting.{NotRemoved, Waited}
+use Rattle.promises.specs.Shown.{polledAt70}
+
+-- ---- before: nothing is pending
+
+one-count : count one ≡ 1
+unfolding formatted
+one-count = refl
+
+-- a sound store of one record that is not in the place p
+alone : {s : QueueWords} → Sound s → count s ≡ 1 → (p : ℕ) → (Mem 0 (view s .lists p) → ⊥) → view s .lists p ≡ []
+alone {s} S c p f = by (view s .lists p) refl
+  where
+    by : (l : List ℕ) → view s .lists p ≡ l → view s .lists p ≡ []
+    by [] e = e
+    by (x ∷ l) e =
+        let m : Mem x (view s .lists p) = rw e (inl refl) in
+        let z : x ≡ 0 = omega (arith, stack-laws.member-below (S .standing .whole .stack) p x m) in
+        absurd (f (rw z at m))
+
+one-empty : (p : ℕ) → p < free → view one .lists p ≡ []
+one-empty p h =
+    let W = one-sound .standing .whole .stack in
+    let f : Mem 0 (view one .lists free) = rw one-free (inl refl) in
+    alone one-sound one-count p (λ m. omega (arith, stack-laws.member-mark W p 0 m, stack-laws.member-mark W free 0 f))
+
+-- ---- the timer is inserted
+
+abbrev pub waiting : QueueWords
+waiting = insert-shown .0
+
+abbrev pub waiting-sound : Sound waiting
+waiting-sound = insert-shown .2
+
+waiting-view : view waiting ≡ placed 0 70 (withValue (upd (view one .value) 0 7) (taken [] (view one)))
+waiting-view = insert-shown .1 .good one-sound .done 0 [] one-free (λ h. refl) .view
+
+place-70 : target 0 70 ≡ 65
+unfolding target placeFor levelOf levelBelow slotOf width
+place-70 = refl
+
+waiting-lists : view waiting .lists ≡ change (change (view one .lists) free []) 65 (put 65 0 (change (view one .lists) free [] 65))
+unfolding placed
+waiting-lists =
+    let L = change (view one .lists) free [] in
+    ap (λ v. v .lists) waiting-view ∙ ap (λ p. change L p (put p 0 (L p))) place-70
+
+waiting-size : count waiting ≡ 1
+unfolding placed
+waiting-size = ap (λ v. v .n) waiting-view ∙ one-count
+
+waiting-elapsed : elapsed waiting ≡ 0
+unfolding placed
+waiting-elapsed = ap (λ v. v .elapsed) waiting-view
+
+waiting-value : view waiting .value 0 ≡ 7
+unfolding placed
+waiting-value = ap (λ v. v .value 0) waiting-view ∙ upd-same (view one .value) 0 7
+
+waiting-deadline : view waiting .deadline 0 ≡ 70
+unfolding placed
+waiting-deadline = ap (λ v. v .deadline 0) waiting-view ∙ upd-same (view one .deadline) 0 70
+
+waiting-turn : view waiting .turn 0 ≡ 1
+unfolding placed over
+waiting-turn = ap (λ v. v .turn 0) waiting-view
+
+waiting-at : At (view waiting) 0 65
+unfolding put
+waiting-at =
+    record {
+      timed = omega arith;
+      member =
+          let L = change (view one .lists) free [] in
+          let m : Mem 0 (change L 65 (put 65 0 (L 65)) 65) = rw (change-same L 65 (put 65 0 (L 65))) (inl refl) in
+          subst (λ M. Mem 0 (M 65)) (sym waiting-lists) m;
+    }
+
+waiting-total : (u : ℕ → ℕ → ℕ) (n : ℕ) → 65 < n → n ≤ free → total u n (view waiting .lists) ≡ u 65 0
+waiting-total u n h k =
+    let L = change (view one .lists) free [] in
+    let empty : (p : ℕ) → p < n → L p ≡ [] = λ p g. change-other (view one .lists) free [] p (omega arith) ∙ one-empty p (omega arith) in
+    omega (arith, ap (total u n) waiting-lists, total-more u n L 65 0 h, total-ext u n L (λ p. []) empty, total-none u n)
+
+waiting-heights : heights (view waiting .lists) ≡ 1
+unfolding heights
+waiting-heights = waiting-total (λ p x. levelAt p) slots (omega arith) (omega arith)
+
+waiting-pending : pending (view waiting) ≡ 1
+unfolding pending
+waiting-pending = waiting-total (λ p x. 1) free (omega arith) (omega arith)
+
+-- ---- and polled
+
+module _ {s : QueueWords} (S : Sound s) (c : count s ≡ 1) {p now : ℕ} (b : At (view s) 0 p) (not-back : elapsed s ≤ now)
+    (due : view s .deadline 0 ≤ now) where
+  -- nothing is pending when the only record has left
+  left-empty : {t : QueueWords} → Sound t → count t ≡ 1 → ((q : ℕ) → At (view t) 0 q → ⊥) → heights (view t .lists) ≡ 0
+  unfolding heights
+  left-empty {t} T e f =
+      total-ext (λ q x. levelAt q) slots (view t .lists) (λ q. [])
+      (λ q h. alone T e q (λ m. f q (record { timed = omega arith; member = m })))
+      ∙ total-none (λ q x. levelAt q) slots
+
+  -- the only timer, due and at height 1, comes out with one move and one drain
+  comes-out : heights (view s .lists) ≡ 1 → {a : Answer} {t : QueueWords} → PollClaim s now a t
+      → Hands (told a) (keyOf (view s) 0) (view s .value 0) (view s .deadline 0) 1 1
+  comes-out high {a} {t} P =
+      let L = poll-least S not-back P in
+      let o = L .hands-out .1 (0, (p, b), due) in
+      by (L .out (o .0) (o .1) (o .2) (o .3) (o .4) (o .5)) (o .5)
+    where
+      by : {k w d m n : ℕ} → HandsLeast (view s) now k w d (view t) → Hands (told a) k w d m n
+          → Hands (told a) (keyOf (view s) 0) (view s .value 0) (view s .deadline 0) 1 1
+      by {k} {w} {d} {m} {n} H is =
+          let z : H .timer ≡ 0 = omega arith in
+          let t₀ : view s .turn (H .timer) ≡ view s .turn 0 = ap (view s .turn) z in
+          let e₁ : k ≡ keyOf (view s) 0 = omega arith in
+          let e₂ : w ≡ view s .value 0 = H .value ∙ ap (view s .value) z in
+          let e₃ : d ≡ view s .deadline 0 = H .deadline ∙ ap (view s .deadline) z in
+          let size : count t ≡ 1 = poll-parts S not-back P .size ∙ c in
+          let low : heights (view t .lists) ≡ 0
+          = left-empty (P .good S .done not-back .0) size (λ q x. H .gone (q, rw z x)) in
+          let D = poll-drains S not-back P in
+          let m₁ : movesOf (told a) ≡ m = ap movesOf is in
+          let n₁ : drainsOf (told a) ≡ n = ap drainsOf is in
+          let e₄ : m ≡ 1 = omega (arith, moves-are-heights S not-back P) in
+          let some : n ≡ 0 → m ≡ 0 = λ q. sym m₁ ∙ D .1 .0 (n₁ ∙ q) in
+          let e₅ : n ≡ 1 = by-cases (ℕ-discrete n 0) (λ q. absurd (omega (arith, some q))) (λ q. omega arith) in
+          is ∙ rw (e₁, e₂, e₃, e₄, e₅)
+
+-- a poll that hands out a timer
+pub poll-shown : (t : QueueWords) × PollClaim waiting 70 (A.Out 65536 7 70 1 1) t
+poll-shown =
+    let m = poll-met waiting 70 in
+    let e = comes-out waiting-sound waiting-size waiting-at (omega (arith, waiting-elapsed))
+    (omega (arith, waiting-deadline)) waiting-heights (m .2) in
+    let k : keyOf (view waiting) 0 ≡ 65536 = omega (arith, waiting-turn) in
+    let f : m .0 ≡ A.Out 65536 7 70 1 1 = told-one (m .0) (A.Out 65536 7 70 1 1) (e ∙ rw (k, waiting-value, waiting-deadline)) in
+    (m .1, rw f at (m .2))
+
+-- ---- what `waiting-bounded` and `due-comes-out` ask
+
+pub waited-shown : (t : QueueWords) × Waited waiting polledAt70 t 65536 0 65 × All (NotRemoved 65536) polledAt70
+waited-shown =
+    let m = poll-shown in (
+      m .0,
+      record {
+        sound = waiting-sound;
+        names = record { number = refl; below = omega (arith, waiting-size); pending = waiting-at; turn = waiting-turn };
+        runs = next (m .1) rest;
+        undisturbed = (refl, tt);
+        enough = rw (waiting-deadline, waiting-pending) (omega arith);
+      },
+      (λ e. let z : _≡_ {A = ℕ} 0 1 = cc in absurd (omega arith), tt),
+    )

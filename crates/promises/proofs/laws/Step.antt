@@ -1,0 +1,192 @@
+-- Any call: its claim allows one answer and one final content, and there is one; a sound store stays sound; words past what N records need stay, and
+-- after a refusal all do.
+use mathlib.Core.Path.{_≡_, refl, sym, ap, _∙_}
+use mathlib.Core.Logic.{by-cases}
+use mathlib.Core.Bool.{false, true≢false}
+use mathlib.Core.List.{List, [], _∷_}
+use Prim.Native.Nat.{ℕ}
+use native.Mathlib.Decide.{decLt}
+use native.Mathlib.Omega.{arith}
+use Rattle.links.proofs.laws.Lists.{change-same}
+use Rattle.stack.specs.Places.{free}
+use Rattle.stack.specs.Format.{over, range}
+use Rattle.queue.specs.declared.Answer.{Answer}
+use Rattle.queue.specs.declared.Answer.the-variants as A
+use Rattle.queue.specs.Told.{Told, told}
+use Rattle.queue.specs.Told as T
+use Rattle.records.specs.View.{View}
+use Rattle.queue.specs.Steps.{QueuePolls, polled, popped, handed, nothing, Wakes, sleeps, starts}
+use Rattle.records.specs.Words.{QueueWords, count, elapsed, view, Sound, slices, PastKept}
+use Rattle.records.proofs.laws.Words.{past-refl}
+use Rattle.queue.specs.Calls.{Answered, InsertOn, ResetOn, RemoveOn, PollOn}
+use Rattle.delay_queue.specs.declared.Call.{Call}
+use Rattle.delay_queue.specs.declared.Call.the-variants as C
+use Rattle.delay_queue.specs.Claims.{Formatted, FormatClaim, Judging, InsertClaim, CallClaim}
+use Rattle.records.proofs.laws.Cases.{by-deadline, by-key}
+use Rattle.promises.proofs.laws.Decided.{sound-dec, fits-dec, range-dec}
+use Rattle.delay_queue.proofs.laws.Format.{formats}
+use Rattle.promises.specs.Met.{Met}
+use Rattle.promises.proofs.laws.Met.{format-met, insert-met, reset-met, remove-met, poll-met, wake-met, length-met, clear-met}
+use Rattle.promises.proofs.laws.Once.{told-one, format-once, insert-once, reset-once, remove-once, poll-once, wake-once, length-once, clear-once}
+use Rattle.records.specs.Slices.{Fits}
+use Rattle.promises.specs.Step.{reach, isNo, Ends, accepted, refused, blank, one}
+
+-- "For every input, each public call's claim determines its answer and the final content of everything lent, refused calls too."
+pub step-once : (c : Call) (s : QueueWords) (a a′ : Answer) (t t′ : QueueWords) → CallClaim c s a t → CallClaim c s a′ t′
+    → (a ≡ a′) × (t ≡ t′)
+step-once (C.Format n turn) s a a′ t t′ A B = format-once A B
+step-once (C.Insert value when) s a a′ t t′ A B = insert-once A B
+step-once (C.Reset key when) s a a′ t t′ A B = reset-once A B
+step-once (C.Remove key) s a a′ t t′ A B = remove-once A B
+step-once (C.Poll now) s a a′ t t′ A B = poll-once A B
+step-once C.Wake s a a′ t t′ A B = (wake-once (A .0) (B .0), A .1 ∙ sym (B .1))
+step-once C.Length s a a′ t t′ A B = (length-once (A .0) (B .0), A .1 ∙ sym (B .1))
+step-once C.Clear s a a′ t t′ A B = clear-once A B
+
+-- and there is such an answer, whatever the call and whatever is lent
+pub step-met : (c : Call) (s : QueueWords) → Met (CallClaim c s)
+step-met (C.Format n turn) s = format-met s n turn
+step-met (C.Insert value when) s = insert-met s value when
+step-met (C.Reset key when) s = reset-met s key when
+step-met (C.Remove key) s = remove-met s key
+step-met (C.Poll now) s = poll-met s now
+step-met C.Wake s = let m = wake-met s in (m .0, s, (m .1, refl))
+step-met C.Length s = let m = length-met s in (m .0, s, (m .1, refl))
+step-met C.Clear s = clear-met s
+
+-- ---- how a call ends
+
+answered : {s t : QueueWords} {a : Answer} {x : Told} {v : View} → isNo x ≡ false → Answered s a x v t → Ends (count s) s a t
+answered e A = accepted (record { says = ap isNo (A .told) ∙ e; sound = A .sound; kept = A .kept })
+
+-- next wake and length leave what they find
+looks : {s : QueueWords} {a : Answer} → Sound s → isNo (told a) ≡ false → Ends (count s) s a s
+looks {s} S e = accepted (record { says = e; sound = S; kept = past-refl (count s) s })
+
+left-so : {s t : QueueWords} {a : Answer} → t ≡ s → Ends (count s) s a s → Ends (count s) s a t
+left-so {s} {t} {a} e E = rw e E
+
+pub polls-says : {v : View} {now : ℕ} {x : Told} {u : View} → QueuePolls v now x u → isNo x ≡ false
+polls-says (handed (popped e)) = refl
+polls-says (handed (polled e P)) = refl
+polls-says (nothing (polled e P)) = refl
+
+pub wakes-says : {v : View} {x : Told} → Wakes v x → isNo x ≡ false
+wakes-says (sleeps E) = refl
+wakes-says (starts F) = refl
+
+module _ {s t : QueueWords} {a : Answer} where
+  judging-ends : {On : Type 0} → Judging s a t On → (Sound s → On → Ends (count s) s a t) → Ends (count s) s a t
+  judging-ends J f = by-cases (sound-dec s) (λ S. f S (J .good S)) (λ n. refused 2 (J .bad n))
+
+  format-ends : {n turn : ℕ} → FormatClaim s n turn a t → Ends n s a t
+  format-ends {n} {turn} F =
+      by-cases (fits-dec s n)
+      (λ x.
+      by-cases (range-dec turn)
+      (λ y. let D = F .done x y in accepted (record { says = ap isNo (D .told); sound = D .sound; kept = D .kept }))
+      (λ f. refused 8 (F .outside x f)))
+      (λ f. refused 1 (F .short f))
+
+  insert-ends : {value when : ℕ} → InsertOn s value when a t → Ends (count s) s a t
+  insert-ends {value} {when} I = by (view s .lists free) refl
+    where
+      by : (l : List ℕ) → view s .lists free ≡ l → Ends (count s) s a t
+      by [] e = refused 3 (I .full e)
+      by (r ∷ l) e =
+          by-deadline (elapsed s) when
+          (λ f. refused 4 (I .far r l e f))
+          (λ f. refused 5 (I .other r l e f))
+          (λ f. answered refl (I .done r l e f))
+
+  reset-ends : {key when : ℕ} → Sound s → ResetOn s key when a t → Ends (count s) s a t
+  reset-ends {key} {when} S R =
+      by-key S key
+      (λ r p N.
+      by-deadline (elapsed s) when
+      (λ f. refused 4 (R .far r p N f))
+      (λ f. refused 5 (R .other r p N f))
+      (λ f. answered refl (R .done r p N f)))
+      (λ f. refused 6 (R .dead f))
+
+  remove-ends : {key : ℕ} → Sound s → RemoveOn s key a t → Ends (count s) s a t
+  remove-ends {key} S R = by-key S key (λ r p N. answered refl (R .done r p N)) (λ f. refused 6 (R .dead f))
+
+  poll-ends : {time : ℕ} → PollOn s time a t → Ends (count s) s a t
+  poll-ends {time} P =
+      by-cases (decLt time (elapsed s))
+      (λ h. refused 7 (P .back h))
+      (λ h. let d = P .done (omega arith) in accepted (record { says = polls-says (d .1); sound = d .0; kept = d .2 }))
+
+pub step-ends : (c : Call) (s : QueueWords) (a : Answer) (t : QueueWords) → CallClaim c s a t → Ends (reach c s) s a t
+step-ends (C.Format n turn) s a t A = format-ends A
+step-ends (C.Insert value when) s a t A = judging-ends A (λ S. insert-ends)
+step-ends (C.Reset key when) s a t A = judging-ends A reset-ends
+step-ends (C.Remove key) s a t A = judging-ends A remove-ends
+step-ends (C.Poll now) s a t A = judging-ends A (λ S. poll-ends)
+step-ends C.Wake s a t A = left-so (A .1) (judging-ends (A .0) (λ S W. looks S (wakes-says (W .done))))
+step-ends C.Length s a t A = left-so (A .1) (judging-ends (A .0) (λ S W. looks S (ap isNo (W .done))))
+step-ends C.Clear s a t A = judging-ends A (λ S K. answered refl (K .done))
+
+-- ---- what follows
+
+module _ (c : Call) (s : QueueWords) (a : Answer) (t : QueueWords) (A : CallClaim c s a t) where
+  -- "Every call on a sound store leaves a sound one."
+  pub step-sound : Sound s → Sound t
+  step-sound S = by (step-ends c s a t A)
+    where
+      by : Ends (reach c s) s a t → Sound t
+      by (refused k R) = rw (R .same) S
+      by (accepted B) = B .sound
+
+  -- "Words of a slice past what N records need are never changed by any call."
+  pub past-kept : PastKept (reach c s) s t
+  past-kept = by (step-ends c s a t A)
+    where
+      by : Ends (reach c s) s a t → PastKept (reach c s) s t
+      by (refused k R) = rw (R .same) (past-refl (reach c s) s)
+      by (accepted B) = B .kept
+
+  -- "A refusal answers its number alone; every lent slice stays word for word the same, and the state that went in by value is handed back equal."
+  pub refusal-same : (k : ℕ) → told a ≡ T.no k → t ≡ s
+  refusal-same k e = by (step-ends c s a t A)
+    where
+      by : Ends (reach c s) s a t → t ≡ s
+      by (refused j R) = R .same
+      by (accepted B) = absurd (true≢false (sym (ap isNo e) ∙ B .says))
+
+-- ---- a sound store there is: one record, freshly formatted over words of 0
+
+fits : Fits (slices blank) 1
+fits =
+    record {
+      some = omega arith;
+      few = omega arith;
+      room = record {
+        values = omega arith;
+        deadlines = omega arith;
+        links = record { nexts = omega arith; prevs = omega arith; marks = omega arith };
+        turns = omega arith;
+      };
+    }
+
+one-made : Formatted blank 1 1 A.Done one
+one-made =
+    formats blank fits (record { some = omega arith; last = omega arith })
+    (record { wheel = refl; values = refl; deadlines = refl; turns = refl }) refl
+
+pub one-sound : Sound one
+one-sound = one-made .sound
+
+pub one-free : view one .lists free ≡ 0 ∷ []
+unfolding range
+one-free = ap (λ v. v .lists free) (one-made .view) ∙ change-same (λ p. []) free (range 1 0)
+
+-- a call that is accepted: the first key of a first turn of 1
+pub insert-shown : (t : QueueWords) × InsertClaim one 7 70 (A.Key 65536) t × Sound t
+unfolding over
+insert-shown =
+    let m = insert-met one 7 70 in
+    let D = m .2 .good one-sound .done 0 [] one-free (λ h. refl) in
+    let e : m .0 ≡ A.Key 65536 = told-one (m .0) (A.Key 65536) (D .told) in
+    (m .1, rw e at (m .2), D .sound)

@@ -1,0 +1,211 @@
+-- How long a due timer waits: no more accepted polls than timers were pending.
+use mathlib.Core.Path.{_≡_, refl, sym, ap, _∙_}
+use mathlib.Core.Logic.{inl, inr, ⊎-elim, by-cases}
+use mathlib.Core.Bool.{Bool, true, false, not, _&&_, cond, true≢false, and-false}
+use mathlib.Core.List.{List, [], _∷_}
+use mathlib.Core.Option.{Option, none, some}
+use Prim.Native.Nat.{ℕ, _+_, _≤_, _<_}
+use native.Mathlib.Decide.{ℕ-discrete}
+use native.Mathlib.Omega.{arith}
+use lib.Dec.{eqb}
+use borrow.Author.Tests.{le-leb, lt-leb}
+use Rattle.links.specs.Count.{bit}
+use Rattle.stack.specs.Places.{free}
+use Rattle.wheel.proofs.laws.Sums.{hits, total-le, lies-times}
+use Rattle.wheel.proofs.laws.Poll.{given}
+use Rattle.queue.specs.Told.{Told, told, Hands}
+use Rattle.queue.specs.Told as T
+use Rattle.records.specs.View.{View}
+use Rattle.records.specs.Records.{keyOf, At, left, freed}
+use Rattle.queue.specs.Steps.{QueuePolls, pending}
+use Rattle.records.specs.Words.{QueueWords, view, Sound}
+use Rattle.delay_queue.specs.declared.Call.{Call}
+use Rattle.delay_queue.specs.declared.Call.the-variants as C
+use Rattle.delay_queue.specs.Claims.{CallClaim}
+use Rattle.promises.specs.Step.{isNo}
+use Rattle.promises.proofs.laws.Step.{step-sound}
+use Rattle.promises.specs.Runs.{Asked, Runs, rest, next, accepted, isPoll, All, tally}
+use Rattle.promises.proofs.laws.Steps.{Steps, refuses, formats, inserts, resets, removes, polls, wakes, counts, clears, call-steps, key-inserts}
+use Rattle.promises.specs.Polling.{Dead}
+use Rattle.promises.proofs.laws.Polling.{saysOf, Fairly, Polled, poll-works, none-out}
+use Rattle.promises.proofs.laws.Moves.{left-total, freed-total}
+use Rattle.promises.proofs.laws.KeysGone.{spent-unnamed, remove-spent, out-spent}
+use Rattle.promises.specs.KeysStay.{Aims, Out}
+use Rattle.promises.proofs.laws.KeysStay.{does-stays}
+use Rattle.promises.specs.KeysReach.{Reaches}
+use Rattle.promises.proofs.laws.KeysReach.{poll-tells, stays-reaches}
+use Rattle.promises.proofs.laws.Outs.{does-was, emptied}
+use Rattle.promises.specs.Waiting.{disturbs, Undisturbed, duePoll, Some, ComesOut, NotRemoved, Waited}
+
+-- ---- how many are pending
+
+removed-fewer : (p r : ℕ) (v : View) → pending (freed r (left p r v)) ≤ pending v
+unfolding pending
+removed-fewer p r v = omega (arith, freed-total (λ q x. 1) free r (left p r v) (omega arith), left-total (λ q x. 1) free p r v)
+
+pending-some : {v : View} {r p : ℕ} → At v r p → 0 < pending v
+unfolding pending
+pending-some {v} {r} {p} a =
+    let few = total-le (λ q x. hits r x) (λ q x. 1) free (v .lists) (λ q x h. one (eqb x r)) in
+    omega (arith, lies-times free (v .lists) r p (a .timed) (a .member), few)
+  where
+    one : (b : Bool) → bit b ≤ 1
+    one true = omega arith
+    one false = omega arith
+
+-- ---- one quiet call, and the timer that the key k reaches, with the value y and the deadline d
+
+-- an accepted poll at which d is due
+abbrev counted : ℕ → Call → Told → ℕ
+counted d c x = cond (duePoll d c && not (isNo x)) 1 0
+
+counted-one : (d : ℕ) (c : Call) (x : Told) → counted d c x ≤ 1
+counted-one d c x = by (duePoll d c && not (isNo x))
+  where
+    by : (b : Bool) → cond b 1 0 ≤ 1
+    by true = omega arith
+    by false = omega arith
+
+-- it waits on, and each accepted poll at which it was due has handed out another; or it comes out; or it is removed
+data Went (v : View) (k y d : ℕ) (c : Call) (x : Told) (w : View) : Type 0 where
+  waits : Reaches w k y d → pending w + counted d c x ≤ pending v → Went v k y d c x w
+  comes : {now m n : ℕ} → c ≡ C.Poll now → Hands x k y d m n → Dead w k → Went v k y d c x w
+  leaves : c ≡ C.Remove k → isNo x ≡ false → Dead w k → Went v k y d c x w
+
+module _ {s : QueueWords} (S : Sound s) {k y d : ℕ} (R : Reaches (view s) k y d) where
+  -- the call does not take it
+  waits-on : {c : Call} {x : Told} {w : View} → Steps (view s) c x w → (Aims k c → not (isNo x) ≡ false) → (Out k x → ⊥)
+      → pending w + counted d c x ≤ pending (view s) → Went (view s) k y d c x w
+  waits-on D aims out few = waits (stays-reaches R (does-stays S (R .names) D aims out)) few
+
+  went-poll : {now : ℕ} {x : Told} {w : View} → view s .elapsed ≤ now → QueuePolls (view s) now x w → Went (view s) k y d (C.Poll now) x w
+  unfolding pending
+  went-poll {now} {x} {w} h Q = by (P .got) (P .is) (P .fair) (P .kept (λ x. 1))
+    where
+      P : Polled (view s) now x w
+      P = poll-works (view s) (S .rule) h Q
+
+      by : (o : Option ℕ) → x ≡ saysOf (view s) o (P .moves) (P .drains) → Fairly (view s) now o
+          → pending w + given (λ x. 1) o ≡ pending (view s)
+          → Went (view s) k y d (C.Poll now) x w
+      by none is f few =
+          let late : now < d = omega (arith, f (R .number) (R .place, R .names .pending), R .deadline) in
+          waits-on (polls h Q) (λ a. absurd a) (λ o. none-out (sym is ∙ o .4)) (rw (lt-leb d now late) (omega arith))
+      by (some i) is f few =
+          by-cases (ℕ-discrete (keyOf (view s) i) k)
+          (λ e.
+          let z = rw e at is in
+          let q = poll-tells S h Q R z in
+          comes refl (rw (q .0, q .1) at z) (spent-unnamed (out-spent S (polls h Q) z .spent)))
+          (λ n. waits-on (polls h Q) (λ a. absurd a) (λ o. n (cc)) (omega (arith, counted-one d (C.Poll now) x)))
+
+  went : {c : Call} {x : Told} {w : View} → Steps (view s) c x w → (disturbs c && not (isNo x)) ≡ false → Went (view s) k y d c x w
+  went (refuses {c}) quiet = waits R (rw (and-false (duePoll d c)) (omega arith))
+  went formats quiet = absurd (true≢false quiet)
+  went (inserts e) quiet = absurd (true≢false quiet)
+  went (resets N) quiet = absurd (true≢false quiet)
+  went (removes {k = key} {r = i} {p = p} N) quiet =
+      by-cases (ℕ-discrete key k)
+      (λ e. leaves (ap C.Remove e) refl (spent-unnamed (rw e at (remove-spent S N))))
+      (λ n.
+      waits-on (removes N) (λ e. absurd (n e))
+      (λ o. let z : _≡_ {A = ℕ} 0 1 = cc in omega arith)
+      (omega (arith, removed-fewer p i (view s))))
+  went (polls h Q) quiet = went-poll h Q
+  went (wakes W) quiet = waits R (omega arith)
+  went counts quiet = waits R (omega arith)
+  went (clears r) quiet = absurd (true≢false quiet)
+
+-- a quiet call gives no key: one that names nobody goes on naming nobody
+dead-on : {s : QueueWords} {k : ℕ} (x : Asked) (t : QueueWords) → Sound s → CallClaim (x .call) s (x .answer) t → Undisturbed x
+    → Dead (view s) k → Dead (view t) k
+dead-on {s} {k} x t S A quiet d r p N =
+    let D = call-steps (x .call) s (x .answer) t S A in
+    ⊎-elim
+    (λ (e : told (x .answer) ≡ T.key k). let i = key-inserts D e in true≢false (rw (i .2, e) at quiet))
+    (λ M. d r (M .0) (M .1))
+    (does-was S D (emptied S x t A) N)
+
+-- ---- a quiet run
+
+dead-run : {s u : QueueWords} {l : List Asked} {k : ℕ} → Sound s → Runs s l u → All Undisturbed l → Dead (view s) k → Dead (view u) k
+dead-run S rest q d = d
+dead-run S (next {s} {t} {x = x} A r) q d = dead-run (step-sound (x .call) s (x .answer) t A S) r (q .1) (dead-on x t S A (q .0) d)
+
+-- the key k is removed
+abbrev IsRemoved : ℕ → Asked → Type 0
+IsRemoved k x = (x .call ≡ C.Remove k) × (accepted x ≡ true)
+
+-- the timer waits on; or it is out or removed, and its key is dead
+data Ended (s : QueueWords) (l : List Asked) (u : QueueWords) (k y d : ℕ) : Type 0 where
+  still : Reaches (view u) k y d → pending (view u) + tally (duePoll d) l ≤ pending (view s) → Ended s l u k y d
+  out : Some (ComesOut k y d) l → Dead (view u) k → Ended s l u k y d
+  gone : Some (IsRemoved k) l → Dead (view u) k → Ended s l u k y d
+
+run-ends : {s u : QueueWords} {l : List Asked} {k y d : ℕ} → Sound s → Reaches (view s) k y d → Runs s l u → All Undisturbed l
+    → Ended s l u k y d
+run-ends S R rest q = still R (omega arith)
+run-ends {k = k} {y = y} {d = d} S R (next {s} {t} {u} {x} {l} A r) q =
+    by (went S R (call-steps (x .call) s (x .answer) t S A) (q .0)) (λ M. run-ends T M r (q .1))
+  where
+    T : Sound t
+    T = step-sound (x .call) s (x .answer) t A S
+
+    later : pending (view t) + counted d (x .call) (told (x .answer)) ≤ pending (view s) → Ended t l u k y d → Ended s (x ∷ l) u k y d
+    later c (still M h) = still M (omega arith)
+    later c (out m h) = out (inr m) h
+    later c (gone m h) = gone (inr m) h
+
+    by : Went (view s) k y d (x .call) (told (x .answer)) (view t) → (Reaches (view t) k y d → Ended t l u k y d) → Ended s (x ∷ l) u k y d
+    by (waits M c) f = later c (f M)
+    by (comes e z h) f = out (inl (_, _, _, e, z)) (dead-run T r (q .1) h)
+    by (leaves e z h) f = gone (inl (e, ap not z)) (dead-run T r (q .1) h)
+
+module _ {s u : QueueWords} {l : List Asked} {k r p : ℕ} (W : Waited s l u k r p) where
+  ends : Ended s l u k (view s .value r) (view s .deadline r)
+  ends = run-ends (W .sound) (record { number = r; place = p; names = W .names; value = refl; deadline = refl }) (W .runs) (W .undisturbed)
+
+  -- it cannot wait on
+  out-of-time : {y : ℕ} → Reaches (view u) k y (view s .deadline r)
+      → pending (view u) + tally (duePoll (view s .deadline r)) l ≤ pending (view s) → ⊥
+  out-of-time R c = omega (arith, W .enough, pending-some (R .names .pending))
+
+  -- "a due timer with no insert, reset, clear or format after is out within as many accepted polls as timers were pending": its key is dead. Polls
+  -- before its deadline may stand between: they are not counted.
+  pub waiting-bounded : Dead (view u) k
+  waiting-bounded = by ends
+    where
+      by : Ended s l u k (view s .value r) (view s .deadline r) → Dead (view u) k
+      by (still R c) = absurd (out-of-time R c)
+      by (out m d) = d
+      by (gone m d) = d
+
+  -- and unless its key is removed, a poll of the run has handed it out, with its value and deadline
+  pub due-comes-out : All (NotRemoved k) l → Some (ComesOut k (view s .value r) (view s .deadline r)) l
+  due-comes-out kept = by ends
+    where
+      never : (l : List Asked) → All (NotRemoved k) l → Some (IsRemoved k) l → ⊥
+      never [] h m = m
+      never (x ∷ l) h (inl m) = true≢false (sym (m .1) ∙ h .0 (m .0))
+      never (x ∷ l) h (inr m) = never l (h .1) m
+
+      by : Ended s l u k (view s .value r) (view s .deadline r) → Some (ComesOut k (view s .value r) (view s .deadline r)) l
+      by (still R c) = absurd (out-of-time R c)
+      by (out m d) = m
+      by (gone m d) = absurd (never l kept m)
+
+-- where every poll of the run is at or past the deadline w, those that are counted are all accepted polls
+pub all-due : (w : ℕ) (l : List Asked) → All (λ x. (now : ℕ) → x .call ≡ C.Poll now → w ≤ now) l → tally (duePoll w) l ≡ tally isPoll l
+all-due w [] h = refl
+all-due w (x ∷ l) h = omega (arith, same (x .call) (accepted x) (h .0), all-due w l (h .1))
+  where
+    same : (c : Call) (b : Bool) → ((now : ℕ) → c ≡ C.Poll now → w ≤ now)
+        → _≡_ {A = ℕ} (cond (duePoll w c && b) 1 0) (cond (isPoll c && b) 1 0)
+    same (C.Format n turn) b f = refl
+    same (C.Insert value when) b f = refl
+    same (C.Reset key when) b f = refl
+    same (C.Remove key) b f = refl
+    same (C.Poll now) b f = rw (le-leb w now (f now refl))
+    same C.Wake b f = refl
+    same C.Length b f = refl
+    same C.Clear b f = refl

@@ -1,0 +1,236 @@
+-- Insert, reset and remove, put together from one-record steps.
+use mathlib.Core.Path.{_≡_, refl, sym, ap, _∙_}
+use mathlib.Core.Logic.{_≢_}
+use mathlib.Core.List.{List, [], _∷_, nil≢cons}
+use mathlib.Core.Option.{some}
+use Prim.Native.Nat.{ℕ, _^_, _≤_, _<_}
+use native.Mathlib.Omega.{arith}
+use lib.ListN.{length, set}
+use Rattle.links.specs.Lists.{nobody}
+use Rattle.links.specs.Links.{at}
+use Rattle.stack.specs.Places.{free}
+use Rattle.stack.proofs.laws.Heads.{head-free}
+use Rattle.stack.specs.Words.{headAt}
+use Rattle.stack.proofs.laws.Whole as stack-laws
+use Rattle.wheel.specs.Words.{WheelWords, Pops, CanLeave, Leaves}
+use Rattle.queue.specs.declared.Answer.{Answer}
+use Rattle.queue.specs.declared.Answer.the-variants as A
+use Rattle.queue.specs.Told.{Told, told, no}
+use Rattle.queue.specs.Told as T
+use Rattle.records.specs.View.{View, withValue, upd}
+use Rattle.records.specs.Records.{packed, Names, Near, taken, left, placed, freed}
+use Rattle.queue.specs.Steps.{kept}
+use Rattle.records.specs.Words.{QueueWords, queueWords, count, elapsed, markOf, view, Sound}
+use Rattle.records.proofs.laws.Words.{past-then}
+use Rattle.queue.specs.Calls.{Answered, InsertOn, ResetOn, RemoveOn}
+use Rattle.records.specs.Inner.{Stands, Goes, LooseAt, CanPlace, PlacesTo, CanFree, LeavesTo}
+use Rattle.records.proofs.laws.Inner.{goes-taken, goes-valued, can-leave, goes-left, goes-placed, goes-freed}
+use Rattle.records.specs.Found.{DeadlineNo, KeyIs}
+use Rattle.records.proofs.laws.Found.{key-names, names-key}
+
+pub stands-then : {s s₁ s₂ : QueueWords} {v : View} (f : View → View) → Stands s v s₁ → Stands s₁ (f (view s₁)) s₂ → Stands s (f v) s₂
+stands-then f G H =
+    record {
+      standing = H .standing;
+      view = H .view ∙ ap f (G .view);
+      size = H .size ∙ G .size;
+      kept = past-then (G .size) (G .kept) (H .kept);
+    }
+
+pub goes-then : {s s₁ s₂ : QueueWords} {v : View} (f : View → View) → Goes s v s₁ → Goes s₁ (f (view s₁)) s₂ → Goes s (f v) s₂
+goes-then f G H =
+    record {
+      sound = H .sound;
+      view = H .view ∙ ap f (G .view);
+      size = H .size ∙ G .size;
+      kept = past-then (G .size) (G .kept) (H .kept);
+    }
+
+answered : {s : QueueWords} {v : View} {s′ : QueueWords} {a : Answer} {t : Told} → told a ≡ t → Goes s v s′ → Answered s a t v s′
+answered e G = record { told = e; sound = G .sound; view = G .view; kept = G .kept }
+
+-- ---- insert
+
+module _ {s : QueueWords} (S : Sound s) (value when : ℕ) where
+  free-head : s .wheel .stack .stacks .free ≡ headAt (s .wheel .stack) free
+  free-head = sym (head-free (s .wheel .stack .stacks) (s .wheel .stack .heads))
+
+  none-free : s .wheel .stack .stacks .free ≡ nobody → view s .lists free ≡ []
+  none-free z = stack-laws.list-empty (S .standing .whole .stack) free (sym free-head ∙ z)
+
+  some-free : s .wheel .stack .stacks .free ≢ nobody → (r : ℕ) × (l : List ℕ) × (view s .lists free ≡ r ∷ l)
+  some-free d = let c = stack-laws.list-cons (S .standing .whole .stack) free (λ z. d (free-head ∙ z)) in (_, c .0, c .1)
+
+  -- no record is free
+  pub insert-full : s .wheel .stack .stacks .free ≡ nobody → InsertOn s value when (A.No 3) s
+  insert-full z =
+      let e = none-free z in
+      record {
+        full = λ f. record { told = refl; same = refl };
+        far = λ r l f. absurd (nil≢cons (sym e ∙ f));
+        other = λ r l f. absurd (nil≢cons (sym e ∙ f));
+        done = λ r l f. absurd (nil≢cons (sym e ∙ f));
+      }
+
+  module _ (some : s .wheel .stack .stacks .free ≢ nobody) {n : ℕ} (D : DeadlineNo (elapsed s) when n) where
+    -- the deadline is refused
+    pub insert-refused : n ≢ 0 → InsertOn s value when (A.No n) s
+    insert-refused d =
+        let c = some-free some in
+        record {
+          full = λ f. absurd (nil≢cons (sym f ∙ c .2));
+          far = λ r l f g. record { told = ap no (D .far g); same = refl };
+          other = λ r l f g. record { told = ap no (D .other g); same = refl };
+          done = λ r l f g. absurd (d (D .near g));
+        }
+
+    module _ (z : n ≡ 0) {item : ℕ} {t : WheelWords} (Q : Pops (s .wheel) free item t) where
+      abbrev c : (r : ℕ) × (l : List ℕ) × (view s .lists free ≡ r ∷ l)
+      c = some-free some
+
+      was : view s .lists free ≡ item ∷ c .1
+      was = let q = Q .some (c .0) (c .1) (c .2) in c .2 ∙ ap (λ x. x ∷ c .1) (sym (q .0))
+
+      abbrev s₁ : QueueWords
+      s₁ = queueWords t (s .values) (s .deadlines) (s .turns)
+
+      loose₁ : LooseAt s₁ item
+      loose₁ = Q .some item (c .1) was .1
+
+      G₁ : Goes s (taken (c .1) (view s)) s₁
+      G₁ = goes-taken S (c .1) (Q .some item (c .1) was .2)
+
+      pub item-below : item < count s
+      item-below = omega (arith, loose₁ .below, G₁ .size)
+
+      -- what the code asks on the way
+      pub insert-words : (item < length (s .values)) × (item < length (s .turns)) × (at (s .turns) item < 2 ^ 48)
+      insert-words = (
+        omega (arith, item-below),
+        omega (arith, item-below),
+        S .standing .turns item item-below .1,
+      )
+
+      abbrev s₂ : QueueWords
+      s₂ = queueWords t (set (s .values) item value) (s .deadlines) (s .turns)
+
+      G₂ : Goes s (withValue (upd (view s .value) item value) (taken (c .1) (view s))) s₂
+      G₂ = goes-then (λ v. withValue (upd (v .value) item value) v) G₁ (goes-valued (G₁ .sound) item value (loose₁ .below))
+
+      near : Near (elapsed s₂) when
+      near = let e : elapsed s₂ ≡ elapsed s = ap (λ v. v .elapsed) (G₂ .view) in rw e (D .taken z)
+
+      pub insert-place : CanPlace t (s .deadlines) item when
+      insert-place = record {
+        whole = G₁ .sound .standing .whole;
+        item = loose₁;
+        word = omega (arith, loose₁ .below, G₁ .sound .standing .fits .room .deadlines);
+        near = near;
+      }
+
+      pub insert-done : (k : ℕ) → k ≡ packed (at (s .turns) item) item → {u : WheelWords} {ds : List ℕ}
+          → PlacesTo t (s .deadlines) item when u ds
+          → InsertOn s value when (A.Key k) (queueWords u (set (s .values) item value) ds (s .turns))
+      insert-done k ek {u} {ds} P =
+          let G₃ = goes-then (placed item when) G₂ (goes-placed (G₂ .sound) loose₁ when near P) in
+          record {
+            full = λ f. absurd (nil≢cons (sym f ∙ was));
+            far = λ r l f g. absurd (omega (arith, D .far g));
+            other = λ r l f g. absurd (omega (arith, D .other g));
+            done = λ r l f g.
+                let e : item ∷ c .1 ≡ r ∷ l = sym was ∙ f in
+                let a : item ≡ r = cc in
+                let b : c .1 ≡ l = cc in
+                rw (← a, ← b) (answered (ap T.key ek) G₃);
+          }
+
+-- ---- reset and remove
+
+pub find-room : {s : QueueWords} → Sound s → (count s ≤ length (s .turns)) × (count s ≤ length (s .wheel .stack .links .marks))
+find-room S = (S .standing .fits .room .turns, S .standing .fits .room .links .marks)
+
+-- a key names one record only, in one place
+pub names-one : {s : QueueWords} → Sound s → {key i p j q : ℕ} → Names (view s) key i p → Names (view s) key j q → (i ≡ j) × (p ≡ q)
+names-one {s} S {key} {i} {p} {j} {q} M N =
+    let e : i ≡ j = M .number ∙ sym (N .number) in (
+      e,
+      sym (stack-laws.member-mark (S .standing .whole .stack) p i (M .pending .member)) ∙ ap (markOf s) e
+          ∙ stack-laws.member-mark (S .standing .whole .stack) q j (N .pending .member),
+    )
+
+module _ {s : QueueWords} (S : Sound s) (key when : ℕ) where
+  -- the key names nobody
+  pub reset-dead : ((i : ℕ) → KeyIs (count s) (s .turns) (s .wheel .stack .links .marks) key i → ⊥) → ResetOn s key when (A.No 6) s
+  reset-dead h =
+      record {
+        dead = λ f. record { told = refl; same = refl };
+        far = λ r p N. absurd (h r (names-key S key N));
+        other = λ r p N. absurd (h r (names-key S key N));
+        done = λ r p N. absurd (h r (names-key S key N));
+      }
+
+  pub remove-dead : ((i : ℕ) → KeyIs (count s) (s .turns) (s .wheel .stack .links .marks) key i → ⊥) → RemoveOn s key (A.No 6) s
+  remove-dead h = record { dead = λ f. record { told = refl; same = refl }; done = λ r p N. absurd (h r (names-key S key N)) }
+
+  module _ {i : ℕ} (K : KeyIs (count s) (s .turns) (s .wheel .stack .links .marks) key i) where
+    abbrev M : Names (view s) key i (markOf s i)
+    M = key-names S key K
+
+    pub found-leaves : CanLeave (s .wheel) i
+    found-leaves = can-leave (S .standing) (M .pending)
+
+    pub found-words : (i < length (s .values)) × (i < length (s .deadlines)) × (i < length (s .turns))
+    found-words = (omega arith, omega arith, omega arith)
+
+    module _ {n : ℕ} (D : DeadlineNo (elapsed s) when n) where
+      pub reset-refused : n ≢ 0 → ResetOn s key when (A.No n) s
+      reset-refused d =
+          record {
+            dead = λ f. absurd (f i (markOf s i) M);
+            far = λ r p N g. record { told = ap no (D .far g); same = refl };
+            other = λ r p N g. record { told = ap no (D .other g); same = refl };
+            done = λ r p N g. absurd (d (D .near g));
+          }
+
+      module _ (z : n ≡ 0) {t : WheelWords} (Q : Leaves (s .wheel) i t) where
+        H₁ : Goes s (left (markOf s i) i (view s)) (queueWords t (s .values) (s .deadlines) (s .turns))
+        H₁ = goes-left S (M .pending) Q
+
+        near-left : Near (t .elapsed) when
+        near-left = let e : t .elapsed ≡ elapsed s = Q .becomes .elapsed in rw e (D .taken z)
+
+        pub reset-place : CanPlace t (s .deadlines) i when
+        reset-place = record { whole = H₁ .sound .standing .whole; item = Q .item; word = found-words .1; near = near-left }
+
+        pub reset-done : {u : WheelWords} {ds : List ℕ} → PlacesTo t (s .deadlines) i when u ds
+            → ResetOn s key when A.Done (queueWords u (s .values) ds (s .turns))
+        reset-done P =
+            let H₂ = goes-then (placed i when) H₁ (goes-placed (H₁ .sound) (Q .item) when near-left P) in
+            record {
+              dead = λ f. absurd (f i (markOf s i) M);
+              far = λ r p N g. absurd (omega (arith, D .far g));
+              other = λ r p N g. absurd (omega (arith, D .other g));
+              done = λ r p N g. let e = names-one S M N in rw (← e .0, ← e .1) (answered refl H₂);
+            }
+
+    module _ {t : WheelWords} (Q : Leaves (s .wheel) i t) where
+      H₃ : Goes s (left (markOf s i) i (view s)) (queueWords t (s .values) (s .deadlines) (s .turns))
+      H₃ = goes-left S (M .pending) Q
+
+      pub remove-frees : CanFree t (s .turns) i
+      remove-frees = record {
+        whole = H₃ .sound .standing .whole;
+        item = Q .item;
+        word = found-words .2;
+        turn = S .standing .turns i (K .below) .1;
+      }
+
+      pub remove-done : (x w : ℕ) → x ≡ at (s .values) i → w ≡ at (s .deadlines) i → {u : WheelWords} {ts : List ℕ}
+          → LeavesTo t (s .turns) i u ts
+          → RemoveOn s key (A.Gone x w) (queueWords u (s .values) (s .deadlines) ts)
+      remove-done x w ex ew P =
+          let H₄ = goes-then (freed i) H₃ (goes-freed (H₃ .sound) (Q .item) P) in
+          record {
+            dead = λ f. absurd (f i (markOf s i) M);
+            done = λ r p N. let e = names-one S M N in rw (← e .0, ← e .1) (answered (rw (ex, ew)) H₄);
+          }

@@ -1,0 +1,365 @@
+-- Poll, next wake, length and clear: what the proofs of the functions cite.
+use mathlib.Core.Path.{_≡_, refl, sym, ap, _∙_, subst}
+use mathlib.Core.Logic.{_≢_, ⊎-elim, by-cases}
+use mathlib.Core.Bool.{Bool, true, false}
+use mathlib.Core.List.{List, [], _∷_}
+use mathlib.Core.Option.{Option, none, some}
+use Prim.Native.Nat.{ℕ, suc, _+_, _^_, _≤_, _<_}
+use native.Mathlib.Decide.{ℕ-discrete, decLt}
+use native.Mathlib.Omega.{arith}
+use native.Mathlib.Numerals.{add-one}
+use lib.ListN.{length}
+use lib.Dec.{ltb}
+use borrow.Author.Count.{below-more}
+use borrow.Author.Tests.{eq-eqb, ne-eqb, lt-ltb, le-ltb}
+use Rattle.links.specs.Lists.{nobody, Mem, without, change}
+use Rattle.links.proofs.laws.Lists.{change-other}
+use Rattle.links.specs.Links.{at}
+use Rattle.links.proofs.laws.Whole.{kept-refl}
+use Rattle.links.proofs.laws.Count.{elem, cnt-ext, cnt-elem, mem-elem, elem-mem}
+use Rattle.links.proofs.laws.Judge.{cat, mem-cat, cat-mem, cat-nodup}
+use Rattle.stack.specs.Places.{expired, free}
+use Rattle.stack.proofs.laws.Whole as stack-laws
+use Rattle.wheel.specs.Wheel.{Polls}
+use Rattle.wheel.proofs.laws.Sums.{mem-change, mem-left, total-zero, total-scale}
+use Rattle.wheel.proofs.laws.Between.{rule-less}
+use Rattle.wheel.specs.declared.Wake.{Wake}
+use Rattle.wheel.specs.declared.Wake.the-variants.{At as Wake·At, Never}
+use Rattle.wheel.specs.Expiration.{WakeIs}
+use Rattle.wheel.specs.Words.{WheelWords, wheelWords, Becomes, Pops, CanLeave, Leaves, lists as listsIn, count as countIn}
+use Rattle.wheel.specs.Turns.{CanPoll, PollsTo, gotten}
+use Rattle.wheel.proofs.laws.Turns.{popped-empty, popped-cons}
+use Rattle.queue.specs.declared.Answer.{Answer}
+use Rattle.queue.specs.declared.Answer.the-variants as A
+use Rattle.queue.specs.Told.{Told, told, out, wake, never}
+use Rattle.records.specs.View.{View, withElapsed, withLists}
+use Rattle.records.proofs.laws.View.{view-eq}
+use Rattle.records.specs.Records.{lastTurn, packed, At, left, freed}
+use Rattle.queue.specs.Steps.{TakesOut, popped, polled, QueuePolls, handed, nothing, Wakes, sleeps, starts, pending, Clears, begun, kept, gave}
+use Rattle.records.specs.Words.{QueueWords, queueWords, count, elapsed, markOf, view, Standing, Sound, PastKept}
+use Rattle.records.proofs.laws.Words.{past-refl, past-then}
+use Rattle.queue.specs.Calls.{PollOn, ClearOn}
+use Rattle.records.specs.Inner.{Stands, Goes, LooseAt, CanFree, LeavesTo}
+use Rattle.records.proofs.laws.Inner.{with-rule, loose-out, stands-lists, can-leave, mem-without, stands-left, stands-freed, goes-freed, left-size, freed-size}
+use Rattle.queue.proofs.laws.Calls.{stands-then, goes-then}
+use Rattle.queue.specs.Inner.{HandsOut, pendingIn, ClearsOne}
+
+-- ---- a loose record is handed out and freed
+
+module _ {s : QueueWords} (S : Sound s) {i : ℕ} (o : LooseAt s i) where
+  pub out-words : (i < length (s .values)) × (i < length (s .deadlines)) × (i < length (s .turns)) × (at (s .turns) i < 2 ^ 48)
+  out-words = (
+    omega arith,
+    omega arith,
+    omega arith,
+    S .standing .turns i (o .below) .1,
+  )
+
+  pub out-frees : CanFree (s .wheel) (s .turns) i
+  out-frees = record { whole = S .standing .whole; item = o; word = out-words .2; turn = S .standing .turns i (o .below) .1 }
+
+  pub out-done : (moves drains : ℕ) {t : WheelWords} {ts : List ℕ} → LeavesTo (s .wheel) (s .turns) i t ts
+      → {k : ℕ} → k ≡ packed (at (s .turns) i) i
+      → HandsOut s i moves drains (A.Out k (at (s .values) i) (at (s .deadlines) i) moves drains)
+      (queueWords t (s .values) (s .deadlines) ts)
+  out-done moves drains P e = record { told = rw e; goes = goes-freed S o P }
+
+-- ---- poll
+
+module _ {s : QueueWords} (S : Sound s) (time : ℕ) where
+  pub poll-back : time < elapsed s → PollOn s time (A.No 7) s
+  poll-back h = record { back = λ g. record { told = refl; same = refl }; done = λ g. absurd (omega arith) }
+
+  module _ (not-back : elapsed s ≤ time) where
+    ends : {a : Answer} {s′ : QueueWords} → Sound s′ → QueuePolls (view s) time (told a) (view s′) → PastKept (count s) s s′
+        → PollOn s time a s′
+    ends W r K = record { back = λ h. absurd (omega arith); done = λ h. (W, r, K) }
+
+    module _ {item : ℕ} {t : WheelWords} (Q : Pops (s .wheel) expired item t) where
+      abbrev s₁ : QueueWords
+      s₁ = queueWords t (s .values) (s .deadlines) (s .turns)
+
+      -- the expired stack has a first
+      module _ (some : item ≢ nobody) where
+        was : (l : List ℕ) × (view s .lists expired ≡ item ∷ l)
+        was = popped-cons (S .standing .whole) Q some
+
+        G₁ : Goes s (withLists (change (view s .lists) expired (was .0)) (view s)) s₁
+        G₁ =
+            with-rule (stands-lists (S .standing) (Q .some item (was .0) (was .1) .2))
+            (rule-less (S .rule) (mem-left (view s .lists) expired item (was .0) (was .1)))
+
+        pub stack-loose : Sound s₁ × LooseAt s₁ item
+        stack-loose = (G₁ .sound, Q .some item (was .0) (was .1) .1)
+
+        pub poll-popped : {a : Answer} {s′ : QueueWords} → HandsOut s₁ item 0 0 a s′ → PollOn s time a s′
+        poll-popped {a} {s′} H =
+            let G = goes-then (freed item) G₁ (H .goes) in
+            ends (G .sound) (rw (H .told, G .view) (handed (popped (was .1)))) (G .kept)
+
+      -- it is empty
+      module _ (absent : item ≡ nobody) where
+        empty : view s .lists expired ≡ []
+        empty = popped-empty (S .standing .whole) Q absent
+
+        B : Becomes (s .wheel) (view s .lists) t
+        B = Q .none empty .1
+
+        G₂ : Goes s (view s) s₁
+        G₂ = with-rule (stands-lists (S .standing) B) (S .rule)
+
+        pub wheel-can : CanPoll t (s .deadlines) time
+        wheel-can =
+            record {
+              whole = B .whole;
+              rule = G₂ .sound .rule;
+              stack = ap (λ L. L expired) (B .lists) ∙ empty;
+              not-back = omega (arith, B .elapsed);
+              deadlines = G₂ .sound .standing .fits .room .deadlines;
+            }
+
+        module _ {i m n : ℕ} {u : WheelWords} (R : PollsTo (at (s .deadlines)) time t i m n u) where
+          abbrev s₂ : QueueWords
+          s₂ = queueWords u (s .values) (s .deadlines) (s .turns)
+
+          size : countIn u ≡ count s
+          size = R .kept .size ∙ B .kept .size
+
+          G₃ : Goes s (withElapsed (u .elapsed) (withLists (listsIn u) (view s))) s₂
+          G₃ =
+              record {
+                sound = record {
+                  standing = record {
+                    fits = record {
+                      some = omega (arith, size);
+                      few = omega (arith, size);
+                      room = record {
+                        values = omega (arith, size);
+                        deadlines = omega (arith, size);
+                        links = stack-laws.room (R .whole .stack);
+                        turns = omega (arith, size);
+                      };
+                    };
+                    whole = R .whole;
+                    turns = λ j h. S .standing .turns j (omega (arith, size));
+                  };
+                  rule = R .rule;
+                };
+                view = view-eq size refl refl refl refl refl;
+                size = size;
+                kept = record {
+                  links = stack-laws.kept-trans (B .kept) (R .kept) .links;
+                  values = kept-refl (count s) (s .values);
+                  deadlines = kept-refl (count s) (s .deadlines);
+                  turns = kept-refl (count s) (s .turns);
+                };
+              }
+
+          polls : (o : Option ℕ) → gotten i ≡ o → Polls (view s .deadline) time (view s .elapsed) (view s .lists) o m n (u .elapsed)
+              (listsIn u)
+          polls o e = rw (B .elapsed, B .lists, e) at (R .polls)
+
+          pub poll-none : i ≡ nobody → PollOn s time (A.Nothing m n) s₂
+          poll-none z = ends (G₃ .sound) (rw (G₃ .view) (nothing (polled empty (polls none (rw (eq-eqb i nobody z)))))) (G₃ .kept)
+
+          pub wheel-loose : i ≢ nobody → Sound s₂ × LooseAt s₂ i
+          wheel-loose d = (G₃ .sound, R .loose d)
+
+          pub poll-handed : i ≢ nobody → {a : Answer} {s′ : QueueWords} → HandsOut s₂ i m n a s′ → PollOn s time a s′
+          poll-handed d {a} {s′} H =
+              let G = goes-then (freed i) G₃ (H .goes) in
+              ends (G .sound) (rw (H .told, G .view) (handed (polled empty (polls (some i) (rw (ne-eqb i nobody d)))))) (G .kept)
+
+-- ---- next wake
+
+module _ (v : View) {e : ℕ} (h : v .elapsed ≡ e) {r : Wake} (W : WakeIs e (v .lists) r) where
+  pub wake-never : r ≡ Never → Wakes v never
+  wake-never q = sleeps (rw q at W)
+
+  pub wake-at : {t : ℕ} → r ≡ Wake·At t → Wakes v (wake t)
+  wake-at q = let x = rw (q, ← h) at W in rw (x .3) (starts (x .2))
+
+-- ---- length
+
+pub pending-zero : (mk : ℕ → ℕ) → pendingIn mk 0 ≡ 0
+unfolding pendingIn
+pending-zero mk = refl
+
+pub pending-more : (mk : ℕ → ℕ) (i : ℕ) → ltb (mk i) free ≡ true → pendingIn mk (i + 1) ≡ pendingIn mk i + 1
+unfolding pendingIn
+pending-more mk i h = rw (add-one, h)
+
+pub pending-same : (mk : ℕ → ℕ) (i : ℕ) → ltb (mk i) free ≡ false → pendingIn mk (i + 1) ≡ pendingIn mk i
+unfolding pendingIn
+pending-same mk i h = rw (add-one, h) (omega arith)
+
+-- they are as many as the lists have members
+pub pending-is : {s : QueueWords} → Sound s → pendingIn (markOf s) (count s) ≡ pending (view s)
+unfolding pendingIn pending
+pending-is {s} S =
+    let L = view s .lists in
+    let W = S .standing .whole .stack in
+    let c = cat L free 0 in
+    let below : (i : ℕ) → Mem i c → i < count s = λ i m. let r = mem-cat L free 0 i m in stack-laws.member-below W (r .0) i (r .3) in
+    let same : (i : ℕ) → i < count s → ltb (markOf s i) free ≡ elem i c
+    = λ i h.
+    by-cases (decLt (markOf s i) free)
+    (λ g.
+    lt-ltb (markOf s i) free g
+    ∙ sym (mem-elem i c (cat-mem L free 0 (markOf s i) i (omega arith) (omega arith) (stack-laws.marked-member W i h (omega arith)))))
+    (λ g.
+    le-ltb (markOf s i) free (omega (arith, g))
+    ∙ sym (not-in (elem i c) (λ e.
+    let r = mem-cat L free 0 i (elem-mem i c e) in
+    g (omega (arith, stack-laws.member-mark W (r .0) i (r .3)))))) in
+    cnt-ext (λ i. ltb (markOf s i) free) (λ i. elem i c) (count s) same
+    ∙ cnt-elem c (count s) (cat-nodup L (markOf s) free 0 (λ q. stack-laws.list-nodup W q) (λ q i m. stack-laws.member-mark W q i m)) below
+    ∙ sym (omega (arith, total-scale 1 free L 0 free (omega arith), total-zero (λ p x. 1) L))
+  where
+    not-in : (b : Bool) → (b ≡ true → ⊥) → b ≡ false
+    not-in true h = absurd (h refl)
+    not-in false h = refl
+
+-- ---- clear
+
+at-mark : {s : QueueWords} → Standing s → {i : ℕ} → i < count s → markOf s i < free → At (view s) i (markOf s i)
+at-mark S {i} h g = record { timed = g; member = stack-laws.marked-member (S .whole .stack) i h (omega arith) }
+
+-- in a slot or on the expired stack after it, and so before it
+freed-at : (i : ℕ) (v : View) (j p : ℕ) → At (freed i v) j p → At v j p
+unfolding freed
+freed-at i v j p a =
+    by-cases (ℕ-discrete (v .turn i) lastTurn)
+    (λ z. rw (eq-eqb (v .turn i) lastTurn z) at a)
+    (λ z.
+    let b = rw (ne-eqb (v .turn i) lastTurn z) at a in
+    record { timed = b .timed; member = rw (change-other (v .lists) free _ p (omega arith)) at (b .member) })
+
+pub left-less : (p i : ℕ) (v : View) (q x : ℕ) → Mem x (left p i v .lists q) → Mem x (v .lists q)
+unfolding left
+left-less p i v q x m = ⊎-elim (λ a. rw (a .0) (mem-without i x (v .lists p) (a .1)))
+    (λ a. a .1) (mem-change (v .lists) p (without i (v .lists p)) q x m)
+
+module _ {s : QueueWords} (S : Standing s) {i : ℕ} (h : i < count s) where
+  pub clear-stays : free ≤ markOf s i → ClearsOne s i s
+  clear-stays g =
+      let out : (p : ℕ) → At (view s) i p → ⊥ = λ p a. omega (arith, stack-laws.member-mark (S .whole .stack) p i (a .member)) in
+      record {
+        stays = λ f. refl;
+        goes = λ p a. absurd (out p a);
+        gone = out;
+        others = λ j p a. a;
+        standing = S;
+        size = refl;
+        kept = past-refl (count s) s;
+      }
+
+  module _ (g : markOf s i < free) where
+    pub clear-leaves : CanLeave (s .wheel) i
+    clear-leaves = can-leave S (at-mark S h g)
+
+    module _ {t : WheelWords} (Q : Leaves (s .wheel) i t) where
+      abbrev s₃ : QueueWords
+      s₃ = queueWords t (s .values) (s .deadlines) (s .turns)
+
+      G₄ : Stands s (left (markOf s i) i (view s)) s₃
+      G₄ = stands-left S (at-mark S h g) Q
+
+      pub clear-frees : CanFree t (s .turns) i
+      clear-frees = record { whole = G₄ .standing .whole; item = Q .item; word = omega arith; turn = S .turns i h .1 }
+
+      pub clear-goes : {u : WheelWords} {ts : List ℕ} → LeavesTo t (s .turns) i u ts
+          → ClearsOne s i (queueWords u (s .values) (s .deadlines) ts)
+      clear-goes {u} {ts} P =
+          let H = stands-freed (G₄ .standing) (Q .item) P in
+          let G = stands-then (freed i) G₄ H in
+          let before : (j p : ℕ) → At (view (queueWords u (s .values) (s .deadlines) ts)) j p → At (view s₃) j p
+          = λ j p a. freed-at i (view s₃) j p (rw (H .view) at a) in
+          record {
+            stays = λ f. absurd (f (markOf s i) (at-mark S h g));
+            goes = λ p a. let e : markOf s i ≡ p = stack-laws.member-mark (S .whole .stack) p i (a .member) in rw (← e) G;
+            gone = λ p a. loose-out (G₄ .standing) (Q .item) p (before i p a .member);
+            others = λ j p a.
+                let b = rw (G₄ .view) at (before j p a) in
+                record { timed = b .timed; member = left-less (markOf s i) i (view s) p j (b .member) };
+            standing = G .standing;
+            size = G .size;
+            kept = G .kept;
+          }
+
+-- the first i records are done
+pub record ClearedSo (s : QueueWords) (i : ℕ) (s′ : QueueWords) : Type 0 where
+  pub standing : Standing s′
+  pub size : count s′ ≡ count s
+  pub kept : PastKept (count s) s s′
+  pub clears : Clears (view s) i (view s′)
+  pub gone : (j : ℕ) → j < i → (p : ℕ) → At (view s′) j p → ⊥
+
+pub clear-none : {s : QueueWords} → Standing s → ClearedSo s 0 s
+clear-none {s} S = record { standing = S; size = refl; kept = past-refl (count s) s; clears = begun; gone = λ j h. absurd (omega arith) }
+
+pub clear-turn : {s s₁ s₂ : QueueWords} {i : ℕ} → ClearedSo s i s₁ → i < count s₁ → ClearsOne s₁ i s₂ → ClearedSo s (i + 1) s₂
+clear-turn {s} {s₁} {s₂} {i} C h Q =
+    record {
+      standing = Q .standing;
+      size = Q .size ∙ C .size;
+      kept = past-then (C .size) (C .kept) (Q .kept);
+      clears = rw (add-one i) (by (decLt (markOf s₁ i) free));
+      gone = below-more _ i (λ j g p a. C .gone j g p (Q .others j p a)) (Q .gone);
+    }
+  where
+    by : Dec (markOf s₁ i < free) → Clears (view s) (suc i) (view s₂)
+    by (yes g) = let a = at-mark (C .standing) h g in rw (Q .goes (markOf s₁ i) a .view) (gave (C .clears) a)
+    by (no g) =
+        let out : (p : ℕ) → At (view s₁) i p → ⊥ = λ p a. g
+        (omega (arith, stack-laws.member-mark (C .standing .whole .stack) p i (a .member))) in
+        rw (Q .stays out) (kept (C .clears) out)
+
+-- nobody is pending, and elapsed is 0
+pub clear-done : {s s₁ : QueueWords} {i : ℕ} → ClearedSo s i s₁ → i ≡ count s
+    → ClearOn s A.Done (queueWords (wheelWords 0 (s₁ .wheel .occupied) (s₁ .wheel .stack)) (s₁ .values) (s₁ .deadlines) (s₁ .turns))
+clear-done {s} {s₁} {i} C e =
+    let S = C .standing in
+    let out : (p x : ℕ) → p < free → Mem x (view s₁ .lists p) → ⊥
+    = λ p x h m. C .gone x (omega (arith, stack-laws.member-below (S .whole .stack) p x m)) p (record { timed = h; member = m }) in
+    record {
+      cleared = view s₁;
+      clears = subst (λ k. Clears (view s) k (view s₁)) e (C .clears);
+      done = record {
+        told = refl;
+        sound = record {
+          standing = record {
+            fits = record {
+              some = S .fits .some;
+              few = S .fits .few;
+              room = record {
+                values = S .fits .room .values;
+                deadlines = S .fits .room .deadlines;
+                links = S .fits .room .links;
+                turns = S .fits .room .turns;
+              };
+            };
+            whole = record { stack = S .whole .stack; rows = S .whole .rows };
+            turns = S .turns;
+          };
+          rule = record { wheel = λ p x h m. absurd (out p x (omega arith) m); stack = λ x m. absurd (out expired x (omega arith) m) };
+        };
+        view = refl;
+        kept = record { links = C .kept .links; values = C .kept .values; deadlines = C .kept .deadlines; turns = C .kept .turns };
+      };
+    }
+
+-- ---- there are as many records as before
+
+takes-size : {v : View} {now : ℕ} {got : Option ℕ} {m n : ℕ} {u : View} → TakesOut v now got m n u → u .n ≡ v .n
+takes-size (popped e) = refl
+takes-size (polled e P) = refl
+
+pub polls-size : {v : View} {now : ℕ} {x : Told} {u : View} → QueuePolls v now x u → u .n ≡ v .n
+polls-size (handed {r} {u = w} T) = freed-size r w ∙ takes-size T
+polls-size (nothing T) = takes-size T
+
+pub clears-size : {v : View} {k : ℕ} {u : View} → Clears v k u → u .n ≡ v .n
+clears-size begun = refl
+clears-size (kept r n) = clears-size r
+clears-size (gave {k} {p} {u} r a) = freed-size k (left p k u) ∙ left-size p k u ∙ clears-size r

@@ -1,0 +1,36 @@
+-- What the inner functions leave: a record handed out, the number of pending ones, one record cleared.
+use mathlib.Core.Path.{_≡_}
+use Prim.Native.Nat.{ℕ}
+use lib.Dec.{ltb}
+use Rattle.links.specs.Count.{cnt}
+use Rattle.stack.specs.Places.{free}
+use Rattle.queue.specs.declared.Answer.{Answer}
+use Rattle.queue.specs.Told.{told, Hands}
+use Rattle.records.specs.Records.{keyOf, At, left, freed}
+use Rattle.queue.specs.Steps.{kept}
+use Rattle.records.specs.Words.{QueueWords, count, view, Standing, PastKept}
+use Rattle.records.specs.Inner.{Stands, Goes}
+
+-- ---- a loose record is handed out and freed
+
+pub record HandsOut (s : QueueWords) (i moves drains : ℕ) (a : Answer) (s′ : QueueWords) : Type 0 where
+  pub told : Hands (told a) (keyOf (view s) i) (view s .value i) (view s .deadline i) moves drains
+  pub goes : Goes s (freed i (view s)) s′
+
+-- ---- length
+
+-- the records whose mark is a slot or the expired stack
+unfoldable pub pendingIn : (ℕ → ℕ) → ℕ → ℕ
+pendingIn mk n = cnt (λ i. ltb (mk i) free) n
+
+-- ---- clear
+
+-- a record that is pending leaves; another stays
+pub record ClearsOne (s : QueueWords) (i : ℕ) (s′ : QueueWords) : Type 0 where
+  pub stays : ((p : ℕ) → At (view s) i p → ⊥) → s′ ≡ s
+  pub goes : (p : ℕ) → At (view s) i p → Stands s (freed i (left p i (view s))) s′
+  pub gone : (p : ℕ) → At (view s′) i p → ⊥
+  pub others : (j p : ℕ) → At (view s′) j p → At (view s) j p
+  pub standing : Standing s′
+  pub size : count s′ ≡ count s
+  pub kept : PastKept (count s) s s′

@@ -1,0 +1,5 @@
+pub mod View
+pub mod Words
+pub mod Inner
+pub mod Found
+pub mod Cases

@@ -1,0 +1,35 @@
+-- The cases of the table, none left out: a deadline is too far, in another block, or taken; a key names a record or it does not.
+use mathlib.Core.Path.{refl}
+use mathlib.Core.Logic.{by-cases}
+use Prim.Native.Nat.{ℕ, _-_}
+use native.Mathlib.Decide.{ℕ-discrete, decLt}
+use native.Mathlib.Omega.{arith}
+use Rattle.times.specs.Times.{maxDuration, block}
+use Rattle.links.specs.Links.{at}
+use Rattle.stack.specs.Places.{free}
+use Rattle.records.specs.Records.{turnIn, numberIn, Names, TooFar, OtherBlock, Takes}
+use Rattle.records.specs.Words.{QueueWords, count, markOf, view, Sound}
+use Rattle.records.proofs.laws.Found.{key-names, names-key, find-turn}
+
+pub by-deadline : {P : Type 0} (e w : ℕ) → (TooFar e w → P) → (OtherBlock e w → P) → (Takes e w → P) → P
+by-deadline e w f g h =
+    by-cases (decLt e w)
+    (λ l.
+    by-cases (decLt maxDuration (w - e))
+    (λ k. f (l, k))
+    (λ k. by-cases (ℕ-discrete (block w) (block e)) (λ b. h (λ z. b)) (λ d. g (l, omega (arith, k), d))))
+    (λ l. h (λ k. absurd (l k)))
+
+pub by-key : {P : Type 0} {s : QueueWords} → Sound s → (key : ℕ) → ((r p : ℕ) → Names (view s) key r p → P)
+    → (((r p : ℕ) → Names (view s) key r p → ⊥) → P) → P
+by-key {P} {s} S key f g =
+    let i : ℕ = numberIn key in
+    by-cases (decLt i (count s))
+    (λ b.
+    by-cases (decLt (markOf s i) free)
+    (λ m.
+    by-cases (ℕ-discrete (at (s .turns) i) (turnIn key))
+    (λ t. f i (markOf s i) (key-names S key (record { number = refl; below = b; pending = m; turn = t })))
+    (λ d. g (λ r p N. find-turn refl refl d r (names-key S key N))))
+    (λ m. g (λ r p N. m (rw (← N .number) (names-key S key N .pending)))))
+    (λ b. g (λ r p N. b (omega (arith, N .number, N .below))))

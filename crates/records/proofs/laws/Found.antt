@@ -1,0 +1,103 @@
+-- A deadline by its number, a key by its record: the laws that the proofs of `deadline_no` and `find` cite.
+use mathlib.Core.Path.{_≡_, refl, sym, ap, _∙_, subst}
+use mathlib.Core.Logic.{_≢_}
+use mathlib.Core.Bool.{Bool, true, false, not}
+use mathlib.Core.List.{List}
+use Prim.Native.Nat.{ℕ, _-_, _≤_, _<_}
+use native.Mathlib.Omega.{arith}
+use lib.Dec.{eqb, ltb}
+use borrow.Author.Tests.{eqb-true, eqb-false, ltb-true, ltb-false}
+use Rattle.times.specs.Times.{maxDuration, block}
+use Rattle.links.specs.Links.{at}
+use Rattle.stack.specs.Places.{free}
+use Rattle.stack.proofs.laws.Asked.{not-below, is-below}
+use Rattle.stack.proofs.laws.Whole as stack-laws
+use Rattle.records.specs.declared.Found.{Found}
+use Rattle.records.specs.declared.Found.the-variants as F
+use Rattle.records.specs.Records.{turnIn, numberIn, Names}
+use Rattle.records.specs.Words.{QueueWords, count, markOf, view, Sound}
+use Rattle.records.specs.Found.{DeadlineNo, KeyIs, FindIs}
+
+-- ---- refusals 4 and 5
+
+module _ (e w : ℕ) where
+  pub no-past : w ≤ e → DeadlineNo e w 0
+  no-past h = record {
+    far = λ f. absurd (omega (arith, f));
+    other = λ f. absurd (omega (arith, f));
+    near = λ n. refl;
+    taken = λ z g. absurd (omega (arith, g));
+  }
+
+  pub no-far : e < w → true ≡ ltb maxDuration (w - e) → DeadlineNo e w 4
+  no-far h t =
+      let f : maxDuration < w - e = ltb-true maxDuration (w - e) (sym t) in
+      record {
+        far = λ g. refl;
+        other = λ g. absurd (omega (arith, f, g .1));
+        near = λ n. absurd (omega (arith, f, n h));
+        taken = λ z. absurd (omega arith);
+      }
+
+  pub no-near : e < w → false ≡ ltb maxDuration (w - e) → true ≡ eqb (block w) (block e) → DeadlineNo e w 0
+  no-near h f t =
+      let n : w - e ≤ maxDuration = ltb-false maxDuration (w - e) (sym f) in
+      let b : block w ≡ block e = eqb-true (block w) (block e) (sym t) in
+      record { far = λ g. absurd (omega (arith, n, g .1)); other = λ g. absurd (g .2 b); near = λ g. refl; taken = λ z g. b }
+
+  pub no-other : e < w → false ≡ ltb maxDuration (w - e) → false ≡ eqb (block w) (block e) → DeadlineNo e w 5
+  no-other h f t =
+      let n : w - e ≤ maxDuration = ltb-false maxDuration (w - e) (sym f) in
+      let b : block w ≢ block e = eqb-false (block w) (block e) (sym t) in
+      record {
+        far = λ g. absurd (omega (arith, n, g .1));
+        other = λ g. refl;
+        near = λ g. absurd (b (g h));
+        taken = λ z. absurd (omega arith);
+      }
+
+-- ---- a key
+
+module _ {s : QueueWords} (S : Sound s) (key : ℕ) where
+  -- and by the view
+  pub key-names : {i : ℕ} → KeyIs (count s) (s .turns) (s .wheel .stack .links .marks) key i → Names (view s) key i (markOf s i)
+  key-names {i} K =
+      record {
+        number = K .number;
+        below = K .below;
+        pending = record {
+          timed = K .pending;
+          member = stack-laws.marked-member (S .standing .whole .stack) i (K .below)
+              (omega (arith, K .pending));
+        };
+        turn = K .turn;
+      }
+
+  pub names-key : {i p : ℕ} → Names (view s) key i p → KeyIs (count s) (s .turns) (s .wheel .stack .links .marks) key i
+  names-key {i} {p} N =
+      record {
+        number = N .number;
+        below = N .below;
+        pending = omega (arith, stack-laws.member-mark (S .standing .whole .stack) p i (N .pending .member), N .pending .timed);
+        turn = N .turn;
+      }
+
+module _ {n : ℕ} {ts ms : List ℕ} {key : ℕ} where
+  module _ {i : ℕ} (e : i ≡ numberIn key) where
+    pub find-mark : {b : Bool} → b ≡ ltb (at ms i) free → not b ≡ true → (j : ℕ) → KeyIs n ts ms key j → ⊥
+    find-mark f h j K =
+        let m : free ≤ at ms i = not-below f h in
+        omega (arith, K .pending, ap (at ms) (K .number ∙ sym e))
+
+    pub find-turn : {c : ℕ} → c ≡ turnIn key → at ts i ≢ c → (j : ℕ) → KeyIs n ts ms key j → ⊥
+    find-turn f h j K = h (ap (at ts) (e ∙ sym (K .number)) ∙ K .turn ∙ sym f)
+
+    pub found : {b : Bool} {c : ℕ} → i < n → b ≡ ltb (at ms i) free → not b ≡ false → c ≡ turnIn key → at ts i ≡ c → KeyIs n ts ms key i
+    found l f h g k = record { number = e; below = l; pending = is-below f h; turn = k ∙ g }
+
+  -- by the answer's case
+  pub find-at : {r : Found} → FindIs n ts ms key r → (i : ℕ) → r ≡ F.At i → KeyIs n ts ms key i
+  find-at G i e = subst (FindIs n ts ms key) e G
+
+  pub find-nowhere : {r : Found} → FindIs n ts ms key r → r ≡ F.Nowhere → (i : ℕ) → KeyIs n ts ms key i → ⊥
+  find-nowhere G e = subst (FindIs n ts ms key) e G

@@ -1,0 +1,72 @@
+-- Words past N, and that a view and the words past N fix the words of a sound store (`view-fixed`).
+use mathlib.Core.Path.{_≡_, refl, sym, ap, _∙_, subst, fun-ext}
+use mathlib.Core.Logic.{_≢_, by-cases}
+use mathlib.Core.List.{List}
+use Prim.Native.Nat.{ℕ, _<_}
+use native.Mathlib.Decide.{ℕ-discrete}
+use lib.ListN.{length, set}
+use lib.Seq.{ext-getD, getD-set-same, getD-set-other}
+use borrow.Author.Tests.{eq-eqb, ne-eqb}
+use Rattle.links.specs.Links.{links, at}
+use Rattle.links.proofs.laws.Whole.{kept-refl, kept-trans, links-refl, links-trans}
+use Rattle.stack.proofs.laws.Whole as stack-laws
+use Rattle.wheel.proofs.laws.Rows.{rows-fixed}
+use Rattle.wheel.specs.Words.{wheelWords, lists as listsIn}
+use Rattle.records.specs.View.{upd}
+use Rattle.records.specs.Words.{QueueWords, queueWords, count, elapsed, view, Sound, PastKept}
+
+pub past-refl : (n : ℕ) (s : QueueWords) → PastKept n s s
+past-refl n s =
+    record {
+      links = links-refl n (s .wheel .stack .links);
+      values = kept-refl n (s .values);
+      deadlines = kept-refl n (s .deadlines);
+      turns = kept-refl n (s .turns);
+    }
+
+pub past-trans : {n : ℕ} {s t u : QueueWords} → PastKept n s t → PastKept n t u → PastKept n s u
+past-trans A B =
+    record {
+      links = links-trans (A .links) (B .links);
+      values = kept-trans (A .values) (B .values);
+      deadlines = kept-trans (A .deadlines) (B .deadlines);
+      turns = kept-trans (A .turns) (B .turns);
+    }
+
+-- one store after the other, of as many records
+pub past-then : {s t u : QueueWords} → count t ≡ count s → PastKept (count s) s t → PastKept (count t) t u → PastKept (count s) s u
+past-then {s} {t} {u} e A B = past-trans A (subst (λ n. PastKept n t u) e B)
+
+-- ---- a store in a slice, as a change of what stands at an index
+
+pub upd-same : (f : ℕ → ℕ) (i x : ℕ) → upd f i x i ≡ x
+unfolding upd
+upd-same f i x = rw (eq-eqb i i refl)
+
+pub upd-other : (f : ℕ → ℕ) (i x j : ℕ) → j ≢ i → upd f i x j ≡ f j
+unfolding upd
+upd-other f i x j d = rw (ne-eqb j i d)
+
+pub at-set : (l : List ℕ) (i x : ℕ) → i < length l → at (set l i x) ≡ upd (at l) i x
+at-set l i x h =
+    fun-ext (λ j.
+    by-cases (ℕ-discrete j i)
+    (λ e. rw e (getD-set-same l i x 0 h ∙ sym (upd-same (at l) i x)))
+    (λ d. getD-set-other l i j x 0 d ∙ sym (upd-other (at l) i x j d)))
+
+-- ---- a view, and the words past N, fix the words of a sound store
+
+words-same : (l m : List ℕ) → length m ≡ length l → at m ≡ at l → m ≡ l
+words-same l m n e = ext-getD 0 m l n (λ i h. ap (λ f. f i) e)
+
+pub view-fixed : {s s′ : QueueWords} → Sound s → Sound s′ → view s′ ≡ view s → PastKept (count s) s s′ → s′ ≡ s
+view-fixed {s} {s′} S S′ e K =
+    let l : listsIn (s′ .wheel) ≡ listsIn (s .wheel) = ap (λ v. v .lists) e in
+    let t : s′ .wheel .stack ≡ s .wheel .stack = stack-laws.lists-fixed (S .standing .whole .stack) (S′ .standing .whole .stack) l
+    (record { size = ap (λ v. v .n) e; links = K .links }) in
+    let o : s′ .wheel .occupied ≡ s .wheel .occupied = rows-fixed (S .standing .whole .rows) (rw l at (S′ .standing .whole .rows)) in
+    let c : elapsed s′ ≡ elapsed s = ap (λ v. v .elapsed) e in
+    let a = words-same (s .values) (s′ .values) (K .values .size) (ap (λ v. v .value) e) in
+    let b = words-same (s .deadlines) (s′ .deadlines) (K .deadlines .size) (ap (λ v. v .deadline) e) in
+    let f = words-same (s .turns) (s′ .turns) (K .turns .size) (ap (λ v. v .turn) e) in
+    λ i. queueWords (wheelWords (c i) (o i) (t i)) (a i) (b i) (f i)

@@ -1,0 +1,31 @@
+-- What `deadline_no` and `find` say.
+use mathlib.Core.Path.{_≡_}
+use mathlib.Core.List.{List}
+use Prim.Native.Nat.{ℕ, _<_}
+use Rattle.links.specs.Links.{at}
+use Rattle.stack.specs.Places.{free}
+use Rattle.records.specs.declared.Found.{Found}
+use Rattle.records.specs.declared.Found.the-variants as F
+use Rattle.records.specs.Records.{turnIn, numberIn, TooFar, OtherBlock, Takes}
+
+-- ---- refusals 4 and 5
+
+-- 4 where the deadline is too far, 5 where it lies in another block, and 0 just where it is taken
+pub record DeadlineNo (e w r : ℕ) : Type 0 where
+  pub far : TooFar e w → r ≡ 4
+  pub other : OtherBlock e w → r ≡ 5
+  pub near : Takes e w → r ≡ 0
+  pub taken : r ≡ 0 → Takes e w
+
+-- ---- a key
+
+-- the key's record, by the words
+pub record KeyIs (n : ℕ) (ts ms : List ℕ) (key i : ℕ) : Type 0 where
+  pub number : i ≡ numberIn key
+  pub below : i < n
+  pub pending : at ms i < free
+  pub turn : at ts i ≡ turnIn key
+
+abbrev pub FindIs : ℕ → List ℕ → List ℕ → ℕ → Found → Type 0
+FindIs n ts ms key F.Nowhere = (i : ℕ) → KeyIs n ts ms key i → ⊥
+FindIs n ts ms key (F.At i) = KeyIs n ts ms key i

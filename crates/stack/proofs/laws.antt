@@ -1,0 +1,6 @@
+pub mod Asked
+pub mod Heads
+pub mod Words
+pub mod Judge
+pub mod Whole
+pub mod Format

@@ -1,0 +1,4 @@
+pub mod Widths
+pub mod Quotients
+pub mod Starts
+pub mod Levels

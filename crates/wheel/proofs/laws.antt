@@ -1,0 +1,11 @@
+pub mod Sums
+pub mod Between
+pub mod Next
+pub mod Drain
+pub mod Poll
+pub mod One
+pub mod Rows
+pub mod Words
+pub mod Expiration
+pub mod Turns
+pub mod Judged

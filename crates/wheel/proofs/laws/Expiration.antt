@@ -1,0 +1,78 @@
+-- The next expiration, found in the occupied rows, is the first slot of the lists whose rows they are.
+use mathlib.Core.Path.{_≡_, refl, sym, ap, _∙_}
+use mathlib.Core.Logic.{inl}
+use mathlib.Core.Bool.{false}
+use mathlib.Core.List.{List, [], _∷_}
+use Prim.Native.Nat.{ℕ, _+_, _/_, _%_, _≤_, _<_}
+use native.Mathlib.Omega.{arith}
+use Rattle.times.specs.Times.{width, slotOf, startAt}
+use Rattle.times.proofs.laws.Quotients.{slot-lt}
+use Rattle.row.specs.Row.{flagAt, FirstFrom}
+use Rattle.row.proofs.laws.Rows.{flag-none}
+use Rattle.links.specs.Links.{at}
+use Rattle.stack.specs.Places.{slotPlace, slots, levelAt, slotAt}
+use Rattle.wheel.specs.declared.Expiration.{Expiration}
+use Rattle.wheel.specs.declared.Next.the-variants.{At}
+use Rattle.wheel.specs.declared.Wake.the-variants.{At as Wake·At}
+use Rattle.wheel.specs.Wheel.{Lists, FirstSlot, EmptyWheel}
+use Rattle.wheel.specs.Rows.{filled, Rows}
+use Rattle.wheel.proofs.laws.Rows.{flag-is, unfilled, filled-some}
+use Rattle.wheel.specs.Between.{Between}
+use Rattle.wheel.proofs.laws.Between.{place-level, place-slot}
+use Rattle.wheel.proofs.laws.Next.{not-passed}
+use Rattle.wheel.specs.Expiration.{NotPassed, NextIs, WakeIs}
+
+pub wake-at : {e : ℕ} {L : Lists} (x : Expiration) → NextIs e L (At x) → WakeIs e L (Wake·At (x .deadline))
+wake-at x N = (x .level, x .slot, N .0, N .1)
+
+-- the rule inside a poll has it that no slot was passed
+pub between-passed : {d : ℕ → ℕ} {e : ℕ} {L : Lists} {occ : List ℕ} → Between d e L → Rows occ L → NotPassed e occ
+between-passed {d} {e} {L} {occ} B R = record {
+  passed = λ k s hk h. flag-is R k s hk (omega (arith, slot-lt e k))
+      ∙ by k s hk h (L (slotPlace k s)) refl;
+}
+  where
+    by : (k s : ℕ) → k < 6 → s < slotOf e k → (l : List ℕ) → L (slotPlace k s) ≡ l → filled l ≡ false
+    by k s hk h [] q = refl
+    by k s hk h (x ∷ l) q =
+        let hs : s < 64 = omega (arith, slot-lt e k) in
+        let p = B .spot (slotPlace k s) x (omega (arith, hs)) (rw q (inl refl)) in
+        let a : slotPlace k s / 64 ≡ k = place-level k s hs in
+        let b : slotPlace k s % 64 ≡ s = place-slot k s hs in
+        let n : slotOf e k ≤ slotOf (d x) k = rw a at (not-passed (slotPlace k s / 64) e (d x) (p .lies)) in
+        absurd (omega (arith, n, h, sym b ∙ p .slot ∙ ap (slotOf (d x)) a))
+
+module _ {occ : List ℕ} {L : Lists} (R : Rows occ L) where
+  -- a row of 0 is an empty level
+  none-at : (q : ℕ) → q < slots → at occ (levelAt q) ≡ 0 → L q ≡ []
+  none-at q h z =
+      let p : slotPlace (levelAt q) (slotAt q) ≡ q = omega arith in
+      unfilled (L q)
+      (ap (λ (r : ℕ). filled (L r)) (sym p) ∙ sym (flag-is R (levelAt q) (slotAt q) (omega arith) (omega arith)) ∙ ap
+      (λ (x : ℕ). flagAt x (slotAt q)) z ∙ flag-none (slotAt q))
+
+  pub none-found : ((j : ℕ) → j < 6 → at occ j ≡ 0) → EmptyWheel L
+  none-found z q h = none-at q h (z (levelAt q) (omega arith))
+
+  pub slot-found : (e k s : ℕ) → k < 6 → ((j : ℕ) → j < k → at occ j ≡ 0) → FirstFrom (flagAt (at occ k)) (e / width k % 64) s
+      → FirstSlot e L k s
+  unfolding slotOf
+  slot-found e k s hk z F =
+      let hs : s < 64 = omega (arith, F .is) in
+      let c = filled-some (L (slotPlace k s)) (sym (flag-is R k s hk hs) ∙ F .marked) in
+      record {
+        within = hk;
+        lowest = λ q h. none-at q (omega (arith, h)) (z (levelAt q) (omega (arith, h)));
+        steps = F .steps;
+        near = F .within;
+        is = F .is;
+        before = λ j h. unfilled _ (sym (flag-is R k ((e / width k % 64 + j) % 64) hk (omega arith)) ∙ F .before j h);
+        head = c .0;
+        rest = c .1;
+        filled = c .2;
+      }
+
+  -- the same with the quotient as the code has it
+  pub next-found : (e k s w t : ℕ) → k < 6 → ((j : ℕ) → j < k → at occ j ≡ 0) → w ≡ e / width k → FirstFrom (flagAt (at occ k)) (w % 64) s
+      → t ≡ startAt e k s → NextIs e L (At (record { level = k; slot = s; deadline = t }))
+  next-found e k s w t hk z ew F et = (slot-found e k s hk z (rw ew at F), et)
