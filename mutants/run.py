@@ -55,7 +55,7 @@ def shown(m):
 
 
 class Copy:
-    """A copy of the repository. One of the laws alone has no function, so that a check of it takes seconds: there only specs/ can fail."""
+    """A copy of the repository. One of the laws alone has no function, so that a check of it takes seconds: there only definitions and laws can fail."""
 
     def __init__(self, room, laws=False):
         self.path, self.laws, self.warm = room / ("laws" if laws else "whole"), laws, {}
@@ -67,8 +67,9 @@ class Copy:
             if other.read_text() != text:
                 other.write_text(text)
         if laws:
-            for folder in self.path.glob("crates/*/proofs"):
-                shutil.rmtree(folder)
+            for folder in self.path.glob("crates/*/proofs/*/"):
+                if folder.name != "laws":
+                    shutil.rmtree(folder)
             status, out = self.run("check", "promises", "answering", "bench")
             if status != 0:
                 sys.exit(f"mutants/try: the laws alone are not proved\n{out[-2000:]}")

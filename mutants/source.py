@@ -116,7 +116,7 @@ class Source:
 
 
 def without_functions(text):
-    """The file without its functions: types and constants are left, so that the laws of specs/ can be checked alone."""
+    """The file without its functions: types and constants are left, so that definitions and laws can be checked alone."""
     source = Source(text)
     for name, _, end in reversed(source.functions):
         start = source.starts[name]
