@@ -54,12 +54,12 @@ fn blank(x: u64) -> Image
     [x; 467]
 }
 
-// The contracts give the lengths alone, so that no proof meets the words. A record of such words is a retired one: its turn is in
-// range, its links and its mark are nobody.
+// The contracts give the lengths alone, so that no proof meets the words. A record of such words is a retired one: its turn is the
+// last, its links and its mark are nobody.
 fn words() -> [u64; 1025]
     ensures { λ r. ⌜ length r ≡ 1025 ⌝ }
 {
-    [65535; 1025]
+    [records::LAST_TURN; 1025]
 }
 
 fn numbers() -> [u16; 1025]
@@ -74,7 +74,7 @@ fn words_rest(words: &[u64; 1025]) -> u64
 {
     let mut i: usize = 12;
     while i < 1025 {
-        if words[i] != 65535 {
+        if words[i] != records::LAST_TURN {
             return 1;
         }
         i += 1;
@@ -328,6 +328,28 @@ pub fn store(x: u64) -> Image {
 pub fn polled(x: u64) -> Image {
     let mut image = store(x);
     ask(&mut image, whole(), Call::Poll(100));
+    image
+}
+
+// Three timers at 70 in one slot of level 1: 2, then 1, then 0.
+fn three() -> Image {
+    let mut image = blank(77);
+    image[REST] = 0;
+    ask(&mut image, whole(), Call::Format(3, 1));
+    ask(&mut image, whole(), Call::Insert(10, 70));
+    ask(&mut image, whole(), Call::Insert(11, 70));
+    ask(&mut image, whole(), Call::Insert(12, 70));
+    image
+}
+
+// The same with the middle one cut out of its list, as the first half of a reset leaves it: in no list, at turn 1.
+pub fn cut() -> Image {
+    let mut image = three();
+    image[NEXTS + 2] = 0;
+    image[PREVS] = 2;
+    image[NEXTS + 1] = wide(links::NOBODY);
+    image[PREVS + 1] = wide(links::NOBODY);
+    image[MARKS + 1] = wide(links::NOBODY);
     image
 }
 

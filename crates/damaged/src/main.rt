@@ -20,6 +20,8 @@ use damage::show_lent;
 
 const NOBODY: u64 = 65535;
 
+const LAST_TURN: u64 = (1 << 48) - 1;
+
 // Slices one word too short.
 fn short(image: &Image) {
     show_lent(image, VALUES, 8);
@@ -77,6 +79,9 @@ fn turns(image: &Image) {
     show(image, TURNS + 7, 1 << 48);
     show(image, TURNS, 0);
     show(image, TURNS, u64::MAX);
+    // a retired one at a lower turn
+    show(image, TURNS, 1);
+    show(image, TURNS, LAST_TURN - 1);
     show_each(image, TURNS, 9);
 }
 
@@ -151,10 +156,9 @@ fn sound(image: &Image) {
     show(image, DEADLINES + 5, 2147483647);
     show(image, DEADLINES + 7, u64::MAX);
     show(image, DEADLINES, 0);
-    // of a pending one, a free one, a retired one
+    // of a pending one, a free one
     show(image, TURNS + 4, 1);
     show(image, TURNS + 7, 5);
-    show(image, TURNS, 1);
     // past the last record
     show(image, VALUES + 9, 0);
     show(image, DEADLINES + 9, 0);
@@ -200,6 +204,14 @@ fn quiet(image: &Image) {
     show(image, ELAPSED, (1 << 36) + 100);
 }
 
+// A timer that a reset has unlinked and not placed: it is in no list, and not at the last turn. At the last turn it is retired.
+fn lost(image: &Image) {
+    damage::say(b"three timers at 70, the middle one cut out of its list:\n");
+    damage::show_whole(image);
+    show(image, TURNS + 1, LAST_TURN - 1);
+    show(image, TURNS + 1, LAST_TURN);
+}
+
 fn main() {
     let image = damage::store(77);
     damage::say(b"not sound:\n");
@@ -216,6 +228,7 @@ fn main() {
     sound(&image);
     enough(&image);
     quiet(&damage::polled(77));
-    retired(&damage::store(65535));
+    retired(&damage::store(LAST_TURN));
     single(&damage::begun(1, 77));
+    lost(&damage::cut());
 }

@@ -56,7 +56,8 @@ fn is_place(elapsed: u64, when: u64, place: u16) -> bool
     place == stack::slot_place(level, slot)
 }
 
-// Whether the turn is in range, and the deadline obeys the rule of the place that the mark tells.
+// Whether the turn is in range, and the last one where the mark tells no place, and the deadline obeys the rule of the
+// place.
 fn record_agrees(elapsed: u64, when: u64, turn: u64, mark: u16) -> bool
     ensures { λ r. ⌜ Tells (RecordAgrees elapsed when turn mark) r ⌝ }
 {
@@ -71,6 +72,9 @@ fn record_agrees(elapsed: u64, when: u64, turn: u64, mark: u16) -> bool
     }
     if mark == stack::EXPIRED {
         return when == elapsed;
+    }
+    if mark == links::NOBODY {
+        return turn == records::LAST_TURN;
     }
     true
 }

@@ -7,6 +7,7 @@ pub mod KeysOne
 pub mod KeysReach
 pub mod KeysStay
 pub mod Looking
+pub mod Lost
 pub mod Met
 pub mod Mornings
 pub mod Moves

@@ -3,7 +3,7 @@ ghost use mathlib.Core.Path.{_≡_};
 ghost use Prim.Native.Nat.{_≤_, _<_};
 ghost use lib.ListN.{length};
 ghost use Rattle.contracts.specs.Lent.{old};
-ghost use Rattle.records.specs.Words.{lent, before, after, count, Standing, Sound};
+ghost use Rattle.records.specs.Words.{lent, before, after, count, Standing, SoundBut, Sound};
 ghost use Rattle.queue.specs.Calls.{InsertOn, ResetOn, RemoveOn, PollOn, ClearOn};
 ghost use Rattle.records.specs.Inner.{LooseAt};
 ghost use Rattle.queue.specs.Inner.{HandsOut, pendingIn, ClearsOne};
@@ -176,7 +176,7 @@ fn hand_out(
     moves: u64,
     drains: u64,
 ) -> Answer
-    requires { ⌜ Sound (lent elapsed rows tops heads values deadlines nexts prevs turns marks) ⌝ }
+    requires { ⌜ SoundBut item (lent elapsed rows tops heads values deadlines nexts prevs turns marks) ⌝ }
     requires { ⌜ LooseAt (lent elapsed rows tops heads values deadlines nexts prevs turns marks) item ⌝ }
     ensures { λ r. ⌜
         HandsOut (before elapsed rows tops heads values deadlines nexts prevs turns marks)

@@ -1,30 +1,38 @@
--- What the functions that place and free one record ask and leave. A record on its way is in no list, as a retired one is.
+-- What the functions that place and free one record ask and leave. A record on its way is in no list, as a retired one is: the store is sound but
+-- for it.
 use mathlib.Core.Path.{_≡_}
 use mathlib.Core.Logic.{_≢_}
 use mathlib.Core.List.{List}
 use Prim.Native.Nat.{ℕ, _+_, _^_, _<_, max}
 use lib.ListN.{length, set}
-use Rattle.links.specs.Lists.{change}
+use Rattle.links.specs.Lists.{nobody, change}
 use Rattle.links.specs.Links.{at}
 use Rattle.stack.specs.Places.{free, put}
 use Rattle.wheel.specs.Words.{WheelWords, WheelWhole, Becomes, LooseIn, lists as listsIn}
 use Rattle.records.specs.View.{View}
 use Rattle.records.specs.Records.{lastTurn, Near, target}
-use Rattle.records.specs.Words.{QueueWords, count, view, Standing, Sound, PastKept}
+use Rattle.records.specs.Words.{QueueWords, count, view, StandingBut, SoundBut, PastKept}
 
--- the store stands and has the view v now, N and words past it are kept
-pub record Stands (s : QueueWords) (v : View) (s′ : QueueWords) : Type 0 where
-  pub standing : Standing s′
+-- the store stands but for item and has the view v now, N and words past it are kept
+pub record StandsBut (item : ℕ) (s : QueueWords) (v : View) (s′ : QueueWords) : Type 0 where
+  pub standing : StandingBut item s′
   pub view : view s′ ≡ v
   pub size : count s′ ≡ count s
   pub kept : PastKept (count s) s s′
 
--- and it is sound
-pub record Goes (s : QueueWords) (v : View) (s′ : QueueWords) : Type 0 where
-  pub sound : Sound s′
+-- and it is sound but for item
+pub record GoesBut (item : ℕ) (s : QueueWords) (v : View) (s′ : QueueWords) : Type 0 where
+  pub sound : SoundBut item s′
   pub view : view s′ ≡ v
   pub size : count s′ ≡ count s
   pub kept : PastKept (count s) s s′
+
+-- for nobody
+abbrev pub Stands : QueueWords → View → QueueWords → Type 0
+Stands s v s′ = StandsBut nobody s v s′
+
+abbrev pub Goes : QueueWords → View → QueueWords → Type 0
+Goes s v s′ = GoesBut nobody s v s′
 
 -- the record i is there and in no list
 abbrev pub LooseAt : QueueWords → ℕ → Type 0

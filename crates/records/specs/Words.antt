@@ -1,7 +1,10 @@
 -- The words of a store, when they are sound, their view, and what is kept of them.
+use mathlib.Core.Path.{_≡_}
+use mathlib.Core.Logic.{_≢_}
 use mathlib.Core.List.{List}
 use Prim.Native.Nat.{ℕ, _^_, _<_}
 use Rattle.contracts.specs.Lent.{Lent, Turned, old, new}
+use Rattle.links.specs.Lists.{nobody}
 use Rattle.links.specs.Links.{links, at}
 use Rattle.stack.specs.Words.{stackWords}
 use Rattle.links.specs.Whole.{Kept, LinksKept}
@@ -9,6 +12,7 @@ use Rattle.wheel.specs.Wheel.{Rule}
 use Rattle.wheel.specs.declared.Wheel.{Wheel}
 use Rattle.wheel.specs.Words.{WheelWords, wheelWords, WheelWhole, words as wheeled, lists as listsIn, count as countIn, markOf as markIn}
 use Rattle.records.specs.View.{View, viewOf}
+use Rattle.records.specs.Records.{lastTurn}
 use Rattle.records.specs.Slices.{Slices, Fits}
 
 pub record QueueWords : Type 0 where
@@ -58,17 +62,26 @@ view s = viewOf (count s) (elapsed s) (listsIn (s .wheel)) (at (s .values)) (at 
 abbrev pub slices : QueueWords → Slices
 slices s = record { values = s .values; deadlines = s .deadlines; links = s .wheel .stack .links; turns = s .turns }
 
--- "A store is sound when every record is in exactly one place .., links agree both ways, occupied bits name exactly the non-empty slots, marks tell the
--- true place, .. and N and turns are in range": all of it but the deadlines
-pub record Standing (s : QueueWords) : Type 0 where
+-- "A store is sound when every record is in exactly one place (free, retired, expired stack or one slot), links agree both ways, occupied bits name
+-- exactly the non-empty slots, marks tell the true place, .. and N and turns are in range": all of it but the deadlines. One in no list is retired, and
+-- so "At turn 2^48-1": but for `item`, which is on its way from one list to another
+pub record StandingBut (item : ℕ) (s : QueueWords) : Type 0 where
   pub fits : Fits (slices s) (count s)
   pub whole : WheelWhole (s .wheel)
   pub turns : (i : ℕ) → i < count s → (0 < at (s .turns) i) × (at (s .turns) i < 2 ^ 48)
+  pub retired : (i : ℕ) → i < count s → i ≢ item → markOf s i ≡ nobody → at (s .turns) i ≡ lastTurn
 
 -- ".. all pending deadlines obey the rules below"
-pub record Sound (s : QueueWords) : Type 0 where
-  pub standing : Standing s
+pub record SoundBut (item : ℕ) (s : QueueWords) : Type 0 where
+  pub standing : StandingBut item s
   pub rule : Rule (at (s .deadlines)) (elapsed s) (listsIn (s .wheel))
+
+-- nobody is on its way
+abbrev pub Standing : QueueWords → Type 0
+Standing s = StandingBut nobody s
+
+abbrev pub Sound : QueueWords → Type 0
+Sound s = SoundBut nobody s
 
 -- "Words of a slice past what N records need are never changed by any call": those, and all lengths
 pub record PastKept (n : ℕ) (s s′ : QueueWords) : Type 0 where

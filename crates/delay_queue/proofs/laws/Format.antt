@@ -104,6 +104,10 @@ module _ (s : QueueWords) {n turn : ℕ} (F : Fits (slices s) n) (T : InRange tu
   unfolding formatted
   sized = refl
 
+  all-free : (i : ℕ) → i < n → at (made .links .marks) i ≡ free
+  unfolding formatted
+  all-free i h = over-at n (λ j. free) _ (F .room .links .marks) i h
+
   new-sound : Sound new
   new-sound =
       record {
@@ -129,6 +133,7 @@ module _ (s : QueueWords) {n turn : ℕ} (F : Fits (slices s) n) (T : InRange tu
           };
           turns = λ i h. let e : at (over n (λ j. turn) (s .turns)) i ≡ turn = over-at n
               (λ j. turn) (s .turns) (F .room .turns) i (omega (arith, sized)) in (omega arith, omega arith);
+          retired = λ i h d z. absurd (omega (arith, all-free i (omega (arith, sized))));
         };
         rule = record {
           wheel = λ p x h m. absurd (nobody-in p x (omega arith) m);

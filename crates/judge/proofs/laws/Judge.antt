@@ -10,6 +10,7 @@ use borrow.Author.Count.{below-more}
 use Rattle.contracts.specs.Tells.{Tells}
 use Rattle.contracts.proofs.laws.Tells.{tells-by, tells-eq}
 use Rattle.times.specs.Times.{slotOf, levelOf, block}
+use Rattle.links.specs.Lists.{nobody}
 use Rattle.links.specs.Links.{at}
 use Rattle.stack.specs.Places.{slotPlace, slots, expired}
 use Rattle.stack.proofs.laws.Whole as stack-laws
@@ -18,6 +19,7 @@ use Rattle.wheel.specs.Words.{WheelWhole}
 use Rattle.records.specs.Records.{lastTurn}
 use Rattle.records.specs.Slices.{Fits}
 use Rattle.records.specs.Words.{QueueWords, count, elapsed, markOf, slices, Sound}
+use Rattle.records.proofs.laws.Inner.{sound-retired}
 use Rattle.judge.specs.Judge.{RecordAgrees, RecordsAgree}
 
 -- ---- a record
@@ -31,18 +33,22 @@ module _ {p e w : ℕ} where
       tells-by (tells-eq p r) (λ q. record { place = q ∙ is; late = h; near = b }) (λ o. o .place ∙ sym is)
 
 module _ {e w t m : ℕ} (some : t ≢ 0) (last : t ≤ lastTurn) where
+  agrees : (m < slots → OnWheel m e w) → (m ≡ expired → w ≡ e) → (m ≡ nobody → t ≡ lastTurn) → RecordAgrees e w t m
+  agrees f g h = record { some = omega arith; last = omega arith; wheel = f; stack = g; retired = h }
+
   pub record-slot : {b : Bool} → m < slots → Tells (OnWheel m e w) b → Tells (RecordAgrees e w t m) b
-  record-slot h T =
-      tells-by T (λ o. record { some = omega arith; last = omega arith; wheel = λ g. o; stack = λ q. absurd (omega arith) })
-      (λ R. R .wheel h)
+  record-slot h T = tells-by T (λ o. agrees (λ g. o) (λ q. absurd (omega arith)) (λ q. absurd (omega arith))) (λ R. R .wheel h)
 
   pub record-stack : m ≡ expired → Tells (RecordAgrees e w t m) (eqb w e)
   record-stack h =
-      tells-by (tells-eq w e) (λ o. record { some = omega arith; last = omega arith; wheel = λ g. absurd (omega arith); stack = λ q. o })
-      (λ R. R .stack h)
+      tells-by (tells-eq w e) (λ o. agrees (λ g. absurd (omega arith)) (λ q. o) (λ q. absurd (omega arith))) (λ R. R .stack h)
 
-  pub record-aside : slots ≤ m → m ≢ expired → RecordAgrees e w t m
-  record-aside h d = record { some = omega arith; last = omega arith; wheel = λ g. absurd (omega arith); stack = λ q. absurd (d q) }
+  pub record-retired : m ≡ nobody → Tells (RecordAgrees e w t m) (eqb t lastTurn)
+  record-retired h =
+      tells-by (tells-eq t lastTurn) (λ o. agrees (λ g. absurd (omega arith)) (λ q. absurd (omega arith)) (λ q. o)) (λ R. R .retired h)
+
+  pub record-aside : slots ≤ m → m ≢ expired → m ≢ nobody → RecordAgrees e w t m
+  record-aside h d n = agrees (λ g. absurd (omega arith)) (λ q. absurd (d q)) (λ q. absurd (n q))
 
 pub record-next : {e n : ℕ} (ds ts ms : List ℕ) → RecordsAgree e n ds ts ms → RecordAgrees e (at ds n) (at ts n) (at ms n)
     → RecordsAgree e (n + 1) ds ts ms
@@ -68,6 +74,7 @@ module _ {s : QueueWords} where
               last = S .standing .turns i h .1;
               wheel = λ m. S .rule .wheel (markOf s i) i m (stack-laws.marked-member W i h (omega arith));
               stack = λ m. S .rule .stack i (rw m at (stack-laws.marked-member W i h (omega arith)));
+              retired = sound-retired S i h;
             };
       }
 
@@ -79,6 +86,7 @@ module _ {s : QueueWords} where
           fits = J .fits;
           whole = J .whole;
           turns = λ i h. let r = J .records i h in (r .some, r .last);
+          retired = λ i h d. J .records i h .retired;
         };
         rule = record {
           wheel = λ p x h m.

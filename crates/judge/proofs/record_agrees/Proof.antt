@@ -3,7 +3,7 @@ use borrow.Author.Needs.{needs}
 use native.Mathlib.Omega.{arith}
 use Rattle.stack.proofs.laws.Asked.{below, past}
 use Rattle.contracts.proofs.laws.Tells.{tells-yes, tells-no}
-use Rattle.judge.proofs.laws.Judge.{record-slot, record-stack, record-aside}
+use Rattle.judge.proofs.laws.Judge.{record-slot, record-stack, record-retired, record-aside}
 use Rattle.judge.proofs.record_agrees.Statement.{statement}
 use Rattle.judge.proofs.record_agrees.Tie as tie
 
@@ -31,9 +31,16 @@ returns-4 c =
 
 returns-5 : tie.Need-returns-5
 returns-5 c =
-    let s = c .before .before in
-    tells-yes (record-aside (s .before .before .if1 .left) (s .before .if2 .left) (past (s .is-slot .ensures) (c .before .if3 .left)) (c .if4 .left))
+    let s = c .before .before .before in
+    record-retired (s .before .before .if1 .left) (s .before .if2 .left) (c .if5 .taken)
+
+returns-6 : tie.Need-returns-6
+returns-6 c =
+    let s = c .before .before .before in
+    tells-yes
+    (record-aside (s .before .before .if1 .left) (s .before .if2 .left) (past (s .is-slot .ensures) (c .before .before .if3 .left))
+    (c .before .if4 .left) (c .if5 .left))
 
 pub record-agrees-spec : {M : Type 1} → statement M
 record-agrees-spec =
-    tie.close (tie.spec returns returns-2 is-slot-requires is-place-requires returns-3 returns-4 returns-5)
+    tie.close (tie.spec returns returns-2 is-slot-requires is-place-requires returns-3 returns-4 returns-5 returns-6)

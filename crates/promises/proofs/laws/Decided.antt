@@ -9,6 +9,7 @@ use native.Mathlib.Omega.{arith}
 use lib.ListN.{length, getD}
 use Rattle.times.specs.Times.{block}
 use Rattle.row.specs.Row.{rowOf}
+use Rattle.links.specs.Lists.{nobody}
 use Rattle.links.specs.Links.{at}
 use Rattle.stack.specs.Places.{slots, expired}
 use Rattle.stack.specs.Heads.{Shape}
@@ -23,6 +24,7 @@ use Rattle.wheel.proofs.laws.Judged.{whole-row, whole-from}
 use Rattle.judge.specs.Judge.{RecordAgrees}
 use Rattle.judge.proofs.laws.Judge.{sound-judged, judged-sound}
 use Rattle.delay_queue.specs.Claims.{InRange}
+use Rattle.records.specs.Records.{lastTurn}
 use Rattle.records.specs.Slices.{Slices, Room, limit, Fits}
 
 -- ---- soundness, and what format asks
@@ -91,9 +93,10 @@ agrees-dec : (e w t m : ℕ) → Dec (RecordAgrees e w t m)
 agrees-dec e w t m =
     by-dec
     (Dec·and (Dec·and (decLt 0 t) (decLt t (2 ^ 48)))
-    (Dec·and (implies-dec (decLt m slots) (wheel-dec m e w)) (implies-dec (ℕ-discrete m expired) (ℕ-discrete w e))))
-    (λ x. record { some = x .0 .0; last = x .0 .1; wheel = x .1 .0; stack = x .1 .1 })
-    (λ R. ((R .some, R .last), (R .wheel, R .stack)))
+    (Dec·and (implies-dec (decLt m slots) (wheel-dec m e w))
+    (Dec·and (implies-dec (ℕ-discrete m expired) (ℕ-discrete w e)) (implies-dec (ℕ-discrete m nobody) (ℕ-discrete t lastTurn)))))
+    (λ x. record { some = x .0 .0; last = x .0 .1; wheel = x .1 .0; stack = x .1 .1 .0; retired = x .1 .1 .1 })
+    (λ R. ((R .some, R .last), (R .wheel, (R .stack, R .retired))))
 
 pub sound-dec : (s : QueueWords) → Dec (Sound s)
 sound-dec s =

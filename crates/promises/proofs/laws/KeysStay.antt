@@ -4,17 +4,15 @@ use mathlib.Core.Logic.{_≢_, inl, inr, ⊎-elim, by-cases}
 use mathlib.Core.Bool.{false, not, true≢false}
 use mathlib.Core.List.{List, [], _∷_}
 use mathlib.Core.Option.{Option}
-use Prim.Native.Nat.{ℕ, _≤_, _<_, max}
+use Prim.Native.Nat.{ℕ, _≤_, max}
 use native.Mathlib.Decide.{ℕ-discrete}
 use native.Mathlib.Omega.{arith}
-use borrow.Author.Tests.{eq-eqb, ne-eqb}
+use borrow.Author.Tests.{ne-eqb}
 use Rattle.links.specs.Lists.{Mem, without, change}
-use Rattle.links.proofs.laws.Lists.{change-same, change-other}
-use Rattle.stack.specs.Places.{slots, expired, free}
+use Rattle.stack.specs.Places.{expired, free}
 use Rattle.wheel.specs.Wheel.{Lists}
-use Rattle.wheel.proofs.laws.Sums.{put-mem, hits, lies-times, times-lies}
-use Rattle.wheel.proofs.laws.Drain.{amount}
-use Rattle.wheel.proofs.laws.Poll.{Promise, given}
+use Rattle.wheel.proofs.laws.Sums.{mem-kept, put-mem, hits}
+use Rattle.wheel.proofs.laws.Poll.{Promise, given, waits-on}
 use Rattle.queue.specs.Told.{Told}
 use Rattle.queue.specs.Told as T
 use Rattle.records.specs.View.{View, withElapsed, withLists, withValue, upd}
@@ -22,6 +20,7 @@ use Rattle.records.specs.Records.{keyOf, At, Names, taken, left, target, placed
 use Rattle.queue.specs.Steps.{QueuePolls, polled, popped, handed, nothing}
 use Rattle.records.specs.Words.{QueueWords, view, Sound}
 use Rattle.records.proofs.laws.Words.{upd-other}
+use Rattle.records.proofs.laws.Inner.{mem-other}
 use Rattle.delay_queue.specs.declared.Call.{Call}
 use Rattle.promises.specs.Step.{isNo}
 use Rattle.promises.proofs.laws.Steps.{Steps, refuses, formats, inserts, resets, removes, polls, wakes, counts, clears}
@@ -56,12 +55,6 @@ stays-then A B =
       waits = λ p a. let b = A .waits p a in B .waits (b .0) (b .1);
     }
 
-mem-kept : (L : Lists) (p : ℕ) (l : List ℕ) (q x : ℕ) → (Mem x (L p) → Mem x l) → Mem x (L q) → Mem x (change L p l q)
-mem-kept L p l q x h m =
-    by-cases (ℕ-discrete q p)
-    (λ e. rw (e, change-same) (h (rw e at m)))
-    (λ d. rw (change-other L p l q d) m)
-
 -- one list changes, and r stays in it
 stays-lists : (v : View) (p : ℕ) (l : List ℕ) (r : ℕ) → (Mem r (v .lists p) → Mem r l) → Stays v (withLists (change (v .lists) p l) v) r
 stays-lists v p l r h =
@@ -72,13 +65,6 @@ stays-lists v p l r h =
       deadline = refl;
       waits = λ q a. (q, record { timed = a .timed; member = mem-kept (v .lists) p l q r h (a .member) });
     }
-
-mem-other : (i x : ℕ) (l : List ℕ) → x ≢ i → Mem x l → Mem x (without i l)
-mem-other i x [] d m = m
-mem-other i x (y ∷ l) d m =
-    by-cases (ℕ-discrete y i)
-    (λ e. rw (eq-eqb y i e) (⊎-elim (λ z. absurd (d (z ∙ e))) (λ k. k) m))
-    (λ n. rw (ne-eqb y i n) (⊎-elim (λ z. inl z) (λ k. inr (mem-other i x l d k)) m))
 
 stays-left : (p i : ℕ) (v : View) (r : ℕ) → r ≢ i → Stays v (left p i v) r
 unfolding left
@@ -136,8 +122,7 @@ stays-taken v {i} {l} value e r d =
 stays-wheel : {v : View} {now m n e : ℕ} {o : Option ℕ} {L : Lists} → v .lists expired ≡ []
     → Promise (v .deadline) now (v .elapsed) (v .lists) o m n e L
     → (r : ℕ) → given (hits r) o ≡ 0 → Stays v (withElapsed e (withLists L v)) r
-unfolding amount
-stays-wheel {v} {L = L} x P r z =
+stays-wheel {v} x P r z =
     record {
       n = refl;
       turn = refl;
@@ -146,10 +131,7 @@ stays-wheel {v} {L = L} x P r z =
       waits = λ p a.
           by-cases (ℕ-discrete p expired)
           (λ e. absurd (rw (e, x) at (a .member)))
-          (λ d.
-          let h : p < slots = omega arith in
-          let b = times-lies slots L r (omega (arith, P .kept (hits r), lies-times slots (v .lists) r p h (a .member))) in
-          (b .0, record { timed = omega arith; member = b .2 }));
+          (λ d. let b = waits-on P r z (p, omega arith, a .member) in (b .0, record { timed = omega arith; member = b .2 }));
     }
 
 -- ---- one call

@@ -26,7 +26,7 @@ use Rattle.queue.specs.declared.Answer.{Answer}
 use Rattle.queue.specs.declared.Answer.the-variants as A
 use Rattle.records.specs.Records.{lastTurn}
 use Rattle.queue.specs.Steps.{sleeps, starts}
-use Rattle.records.specs.Words.{QueueWords, queueWords, count, elapsed, markOf, view, Sound, Standing}
+use Rattle.records.specs.Words.{QueueWords, queueWords, count, elapsed, markOf, view, Standing, SoundBut, Sound}
 use Rattle.queue.specs.Calls.{Refused, InsertOn, ResetOn, RemoveOn, PollOn, WakeOn}
 use Rattle.records.specs.Found.{DeadlineNo}
 use Rattle.records.proofs.laws.Found.{no-past, no-far, no-near, no-other, key-names, names-key}
@@ -350,7 +350,7 @@ module _ {t₀ : WheelWords} {ds : List ℕ} {now : ℕ} (C : CanPoll t₀ ds no
   wheel-met = poll-loop (suc (heights (listsIn t₀))) t₀ 0 0 (poll-start C) (omega arith)
 
 -- the record that was found is freed
-out-met : {s : QueueWords} → Sound s → {i : ℕ} → LooseAt s i → (moves drains : ℕ) → Met (HandsOut s i moves drains)
+out-met : {s : QueueWords} {i : ℕ} → SoundBut i s → LooseAt s i → (moves drains : ℕ) → Met (HandsOut s i moves drains)
 out-met S o moves drains = let F = free-met (out-frees S o) in (A.Out _ _ _ _ _, _, out-done S o moves drains (F .2) refl)
 
 poll-on : {s : QueueWords} → Sound s → (time : ℕ) → Met (PollOn s time)

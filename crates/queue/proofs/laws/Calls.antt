@@ -23,12 +23,13 @@ use Rattle.queue.specs.Steps.{kept}
 use Rattle.records.specs.Words.{QueueWords, queueWords, count, elapsed, markOf, view, Sound}
 use Rattle.records.proofs.laws.Words.{past-then}
 use Rattle.queue.specs.Calls.{Answered, InsertOn, ResetOn, RemoveOn}
-use Rattle.records.specs.Inner.{Stands, Goes, LooseAt, CanPlace, PlacesTo, CanFree, LeavesTo}
+use Rattle.records.specs.Inner.{StandsBut, GoesBut, Goes, LooseAt, CanPlace, PlacesTo, CanFree, LeavesTo}
 use Rattle.records.proofs.laws.Inner.{goes-taken, goes-valued, can-leave, goes-left, goes-placed, goes-freed}
 use Rattle.records.specs.Found.{DeadlineNo, KeyIs}
 use Rattle.records.proofs.laws.Found.{key-names, names-key}
 
-pub stands-then : {s s₁ s₂ : QueueWords} {v : View} (f : View → View) → Stands s v s₁ → Stands s₁ (f (view s₁)) s₂ → Stands s (f v) s₂
+pub stands-then : {i j : ℕ} {s s₁ s₂ : QueueWords} {v : View} (f : View → View) → StandsBut i s v s₁ → StandsBut j s₁ (f (view s₁)) s₂
+    → StandsBut j s (f v) s₂
 stands-then f G H =
     record {
       standing = H .standing;
@@ -37,7 +38,8 @@ stands-then f G H =
       kept = past-then (G .size) (G .kept) (H .kept);
     }
 
-pub goes-then : {s s₁ s₂ : QueueWords} {v : View} (f : View → View) → Goes s v s₁ → Goes s₁ (f (view s₁)) s₂ → Goes s (f v) s₂
+pub goes-then : {i j : ℕ} {s s₁ s₂ : QueueWords} {v : View} (f : View → View) → GoesBut i s v s₁ → GoesBut j s₁ (f (view s₁)) s₂
+    → GoesBut j s (f v) s₂
 goes-then f G H =
     record {
       sound = H .sound;
@@ -97,8 +99,8 @@ module _ {s : QueueWords} (S : Sound s) (value when : ℕ) where
       loose₁ : LooseAt s₁ item
       loose₁ = Q .some item (c .1) was .1
 
-      G₁ : Goes s (taken (c .1) (view s)) s₁
-      G₁ = goes-taken S (c .1) (Q .some item (c .1) was .2)
+      G₁ : GoesBut item s (taken (c .1) (view s)) s₁
+      G₁ = goes-taken S was (Q .some item (c .1) was .2)
 
       pub item-below : item < count s
       item-below = omega (arith, loose₁ .below, G₁ .size)
@@ -114,7 +116,7 @@ module _ {s : QueueWords} (S : Sound s) (value when : ℕ) where
       abbrev s₂ : QueueWords
       s₂ = queueWords t (set (s .values) item value) (s .deadlines) (s .turns)
 
-      G₂ : Goes s (withValue (upd (view s .value) item value) (taken (c .1) (view s))) s₂
+      G₂ : GoesBut item s (withValue (upd (view s .value) item value) (taken (c .1) (view s))) s₂
       G₂ = goes-then (λ v. withValue (upd (v .value) item value) v) G₁ (goes-valued (G₁ .sound) item value (loose₁ .below))
 
       near : Near (elapsed s₂) when
@@ -193,7 +195,7 @@ module _ {s : QueueWords} (S : Sound s) (key when : ℕ) where
           }
 
       module _ (z : n ≡ 0) {t : WheelWords} (Q : Leaves (s .wheel) i t) where
-        H₁ : Goes s (left (markOf s i) i (view s)) (queueWords t (s .values) (s .deadlines) (s .turns))
+        H₁ : GoesBut i s (left (markOf s i) i (view s)) (queueWords t (s .values) (s .deadlines) (s .turns))
         H₁ = goes-left S (M .pending) Q
 
         near-left : Near (t .elapsed) when
@@ -214,7 +216,7 @@ module _ {s : QueueWords} (S : Sound s) (key when : ℕ) where
             }
 
     module _ {t : WheelWords} (Q : Leaves (s .wheel) i t) where
-      H₃ : Goes s (left (markOf s i) i (view s)) (queueWords t (s .values) (s .deadlines) (s .turns))
+      H₃ : GoesBut i s (left (markOf s i) i (view s)) (queueWords t (s .values) (s .deadlines) (s .turns))
       H₃ = goes-left S (M .pending) Q
 
       pub remove-frees : CanFree t (s .turns) i

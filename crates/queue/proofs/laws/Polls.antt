@@ -15,38 +15,37 @@ use borrow.Author.Tests.{eq-eqb, ne-eqb, lt-ltb, le-ltb}
 use Rattle.links.specs.Lists.{nobody, Mem, without, change}
 use Rattle.links.proofs.laws.Lists.{change-other}
 use Rattle.links.specs.Links.{at}
-use Rattle.links.proofs.laws.Whole.{kept-refl}
 use Rattle.links.proofs.laws.Count.{elem, cnt-ext, cnt-elem, mem-elem, elem-mem}
 use Rattle.links.proofs.laws.Judge.{cat, mem-cat, cat-mem, cat-nodup}
-use Rattle.stack.specs.Places.{expired, free}
+use Rattle.stack.specs.Places.{slots, expired, free}
 use Rattle.stack.proofs.laws.Whole as stack-laws
 use Rattle.wheel.specs.Wheel.{Polls}
-use Rattle.wheel.proofs.laws.Sums.{mem-change, mem-left, total-zero, total-scale}
-use Rattle.wheel.proofs.laws.Between.{rule-less}
+use Rattle.wheel.proofs.laws.Sums.{mem-change, mem-left, total-zero, total-scale, hits}
+use Rattle.wheel.proofs.laws.Between.{rule-less, rule-between}
+use Rattle.wheel.proofs.laws.Poll.{given, Promise, waits-on, poll-law}
 use Rattle.wheel.specs.declared.Wake.{Wake}
 use Rattle.wheel.specs.declared.Wake.the-variants.{At as Wake·At, Never}
 use Rattle.wheel.specs.Expiration.{WakeIs}
-use Rattle.wheel.specs.Words.{WheelWords, wheelWords, Becomes, Pops, CanLeave, Leaves, lists as listsIn, count as countIn}
+use Rattle.wheel.specs.Words.{WheelWords, wheelWords, Becomes, Pops, CanLeave, Leaves, lists as listsIn}
 use Rattle.wheel.specs.Turns.{CanPoll, PollsTo, gotten}
 use Rattle.wheel.proofs.laws.Turns.{popped-empty, popped-cons}
 use Rattle.queue.specs.declared.Answer.{Answer}
 use Rattle.queue.specs.declared.Answer.the-variants as A
 use Rattle.queue.specs.Told.{Told, told, out, wake, never}
 use Rattle.records.specs.View.{View, withElapsed, withLists}
-use Rattle.records.proofs.laws.View.{view-eq}
 use Rattle.records.specs.Records.{lastTurn, packed, At, left, freed}
 use Rattle.queue.specs.Steps.{TakesOut, popped, polled, QueuePolls, handed, nothing, Wakes, sleeps, starts, pending, Clears, begun, kept, gave}
-use Rattle.records.specs.Words.{QueueWords, queueWords, count, elapsed, markOf, view, Standing, Sound, PastKept}
+use Rattle.records.specs.Words.{QueueWords, queueWords, count, elapsed, markOf, view, Standing, SoundBut, Sound, PastKept}
 use Rattle.records.proofs.laws.Words.{past-refl, past-then}
 use Rattle.queue.specs.Calls.{PollOn, ClearOn}
-use Rattle.records.specs.Inner.{Stands, Goes, LooseAt, CanFree, LeavesTo}
-use Rattle.records.proofs.laws.Inner.{with-rule, loose-out, stands-lists, can-leave, mem-without, stands-left, stands-freed, goes-freed, left-size, freed-size}
+use Rattle.records.specs.Inner.{StandsBut, GoesBut, Goes, LooseAt, CanFree, LeavesTo}
+use Rattle.records.proofs.laws.Inner.{with-rule, loose-out, StayBut, stay-all, stay-popped, stands-wheel, stands-lists, can-leave, mem-without, stands-left, stands-freed, goes-freed, left-size, freed-size}
 use Rattle.queue.proofs.laws.Calls.{stands-then, goes-then}
 use Rattle.queue.specs.Inner.{HandsOut, pendingIn, ClearsOne}
 
 -- ---- a loose record is handed out and freed
 
-module _ {s : QueueWords} (S : Sound s) {i : ℕ} (o : LooseAt s i) where
+module _ {s : QueueWords} {i : ℕ} (S : SoundBut i s) (o : LooseAt s i) where
   pub out-words : (i < length (s .values)) × (i < length (s .deadlines)) × (i < length (s .turns)) × (at (s .turns) i < 2 ^ 48)
   out-words = (
     omega arith,
@@ -66,6 +65,13 @@ module _ {s : QueueWords} (S : Sound s) {i : ℕ} (o : LooseAt s i) where
 
 -- ---- poll
 
+-- another than i is not what was handed out
+not-given : {i x : ℕ} → i ≢ x → given (hits x) (gotten i) ≡ 0
+not-given {i} {x} d =
+    by-cases (ℕ-discrete i nobody)
+    (λ z. rw (eq-eqb i nobody z))
+    (λ z. rw (ne-eqb i nobody z, ne-eqb i x d))
+
 module _ {s : QueueWords} (S : Sound s) (time : ℕ) where
   pub poll-back : time < elapsed s → PollOn s time (A.No 7) s
   poll-back h = record { back = λ g. record { told = refl; same = refl }; done = λ g. absurd (omega arith) }
@@ -84,12 +90,13 @@ module _ {s : QueueWords} (S : Sound s) (time : ℕ) where
         was : (l : List ℕ) × (view s .lists expired ≡ item ∷ l)
         was = popped-cons (S .standing .whole) Q some
 
-        G₁ : Goes s (withLists (change (view s .lists) expired (was .0)) (view s)) s₁
+        G₁ : GoesBut item s (withLists (change (view s .lists) expired (was .0)) (view s)) s₁
         G₁ =
-            with-rule (stands-lists (S .standing) (Q .some item (was .0) (was .1) .2))
+            with-rule
+            (stands-lists (S .standing) (Q .some item (was .0) (was .1) .2) (stay-popped (view s .lists) expired item (was .0) (was .1)))
             (rule-less (S .rule) (mem-left (view s .lists) expired item (was .0) (was .1)))
 
-        pub stack-loose : Sound s₁ × LooseAt s₁ item
+        pub stack-loose : SoundBut item s₁ × LooseAt s₁ item
         stack-loose = (G₁ .sound, Q .some item (was .0) (was .1) .1)
 
         pub poll-popped : {a : Answer} {s′ : QueueWords} → HandsOut s₁ item 0 0 a s′ → PollOn s time a s′
@@ -106,7 +113,7 @@ module _ {s : QueueWords} (S : Sound s) (time : ℕ) where
         B = Q .none empty .1
 
         G₂ : Goes s (view s) s₁
-        G₂ = with-rule (stands-lists (S .standing) B) (S .rule)
+        G₂ = with-rule (stands-lists (S .standing) B (stay-all nobody (view s .lists))) (S .rule)
 
         pub wheel-can : CanPoll t (s .deadlines) time
         wheel-can =
@@ -122,47 +129,27 @@ module _ {s : QueueWords} (S : Sound s) (time : ℕ) where
           abbrev s₂ : QueueWords
           s₂ = queueWords u (s .values) (s .deadlines) (s .turns)
 
-          size : countIn u ≡ count s
-          size = R .kept .size ∙ B .kept .size
-
-          G₃ : Goes s (withElapsed (u .elapsed) (withLists (listsIn u) (view s))) s₂
-          G₃ =
-              record {
-                sound = record {
-                  standing = record {
-                    fits = record {
-                      some = omega (arith, size);
-                      few = omega (arith, size);
-                      room = record {
-                        values = omega (arith, size);
-                        deadlines = omega (arith, size);
-                        links = stack-laws.room (R .whole .stack);
-                        turns = omega (arith, size);
-                      };
-                    };
-                    whole = R .whole;
-                    turns = λ j h. S .standing .turns j (omega (arith, size));
-                  };
-                  rule = R .rule;
-                };
-                view = view-eq size refl refl refl refl refl;
-                size = size;
-                kept = record {
-                  links = stack-laws.kept-trans (B .kept) (R .kept) .links;
-                  values = kept-refl (count s) (s .values);
-                  deadlines = kept-refl (count s) (s .deadlines);
-                  turns = kept-refl (count s) (s .turns);
-                };
-              }
-
           polls : (o : Option ℕ) → gotten i ≡ o → Polls (view s .deadline) time (view s .elapsed) (view s .lists) o m n (u .elapsed)
               (listsIn u)
           polls o e = rw (B .elapsed, B .lists, e) at (R .polls)
 
-          pub poll-none : i ≡ nobody → PollOn s time (A.Nothing m n) s₂
-          poll-none z = ends (G₃ .sound) (rw (G₃ .view) (nothing (polled empty (polls none (rw (eq-eqb i nobody z)))))) (G₃ .kept)
+          promise : Promise (view s .deadline) time (view s .elapsed) (view s .lists) (gotten i) m n (u .elapsed) (listsIn u)
+          promise = poll-law (rule-between (S .rule)) empty not-back (polls (gotten i) refl)
 
-          pub wheel-loose : i ≢ nobody → Sound s₂ × LooseAt s₂ i
+          -- only i has left the lists
+          stays : StayBut i (view s .lists) (listsIn u)
+          stays p x k d =
+              by-cases (decLt p slots)
+              (λ h. let w = waits-on promise x (not-given (λ z. d (sym z))) (p, h, k) in (w .0, w .2))
+              (λ h. (p, rw (promise .aside p (omega arith)) k))
+
+          G₃ : GoesBut i s (withElapsed (u .elapsed) (withLists (listsIn u) (view s))) s₂
+          G₃ = with-rule (stands-wheel (S .standing) (R .whole) (stack-laws.kept-trans (B .kept) (R .kept)) refl refl stays) (R .rule)
+
+          pub poll-none : i ≡ nobody → PollOn s time (A.Nothing m n) s₂
+          poll-none z = ends (rw z at (G₃ .sound)) (rw (G₃ .view) (nothing (polled empty (polls none (rw (eq-eqb i nobody z)))))) (G₃ .kept)
+
+          pub wheel-loose : i ≢ nobody → SoundBut i s₂ × LooseAt s₂ i
           wheel-loose d = (G₃ .sound, R .loose d)
 
           pub poll-handed : i ≢ nobody → {a : Answer} {s′ : QueueWords} → HandsOut s₂ i m n a s′ → PollOn s time a s′
@@ -262,7 +249,7 @@ module _ {s : QueueWords} (S : Standing s) {i : ℕ} (h : i < count s) where
       abbrev s₃ : QueueWords
       s₃ = queueWords t (s .values) (s .deadlines) (s .turns)
 
-      G₄ : Stands s (left (markOf s i) i (view s)) s₃
+      G₄ : StandsBut i s (left (markOf s i) i (view s)) s₃
       G₄ = stands-left S (at-mark S h g) Q
 
       pub clear-frees : CanFree t (s .turns) i
@@ -322,31 +309,16 @@ clear-done {s} {s₁} {i} C e =
     let S = C .standing in
     let out : (p x : ℕ) → p < free → Mem x (view s₁ .lists p) → ⊥
     = λ p x h m. C .gone x (omega (arith, stack-laws.member-below (S .whole .stack) p x m)) p (record { timed = h; member = m }) in
+    let G : Goes s₁ (withElapsed 0 (view s₁))
+    (queueWords (wheelWords 0 (s₁ .wheel .occupied) (s₁ .wheel .stack)) (s₁ .values) (s₁ .deadlines) (s₁ .turns))
+    = with-rule
+    (stands-wheel S (record { stack = S .whole .stack; rows = S .whole .rows }) (stack-laws.kept-refl (s₁ .wheel .stack)) refl refl
+    (stay-all nobody (view s₁ .lists)))
+    (record { wheel = λ p x h m. absurd (out p x (omega arith) m); stack = λ x m. absurd (out expired x (omega arith) m) }) in
     record {
       cleared = view s₁;
       clears = subst (λ k. Clears (view s) k (view s₁)) e (C .clears);
-      done = record {
-        told = refl;
-        sound = record {
-          standing = record {
-            fits = record {
-              some = S .fits .some;
-              few = S .fits .few;
-              room = record {
-                values = S .fits .room .values;
-                deadlines = S .fits .room .deadlines;
-                links = S .fits .room .links;
-                turns = S .fits .room .turns;
-              };
-            };
-            whole = record { stack = S .whole .stack; rows = S .whole .rows };
-            turns = S .turns;
-          };
-          rule = record { wheel = λ p x h m. absurd (out p x (omega arith) m); stack = λ x m. absurd (out expired x (omega arith) m) };
-        };
-        view = refl;
-        kept = record { links = C .kept .links; values = C .kept .values; deadlines = C .kept .deadlines; turns = C .kept .turns };
-      };
+      done = record { told = refl; sound = G .sound; view = G .view; kept = past-then (C .size) (C .kept) (G .kept) };
     }
 
 -- ---- there are as many records as before

@@ -1,5 +1,6 @@
 -- One record at a time: taken from the free list, given a value, placed, unlinked, freed. Each takes a sound store to a sound store, and its view to what
--- document 01 makes of it; unlinked and freed also where the store only stands. A record on its way is in no list, as a retired one is.
+-- document 01 makes of it; unlinked and freed also where the store only stands. A record on its way is in no
+-- list, as a retired one is: the store stands, and is sound, but for it.
 use mathlib.Core.Path.{_≡_, refl, sym, ap, _∙_, subst}
 use mathlib.Core.Logic.{_≢_, inl, inr, ⊎-elim, by-cases}
 use mathlib.Core.List.{List, [], _∷_}
@@ -11,26 +12,28 @@ use borrow.Author.Tests.{eq-eqb, ne-eqb}
 use Rattle.times.specs.Times.{levelOf, block}
 use Rattle.times.proofs.laws.Quotients.{slot-lt}
 use Rattle.times.proofs.laws.Levels.{level-is}
-use Rattle.links.specs.Lists.{Mem, without, change}
+use Rattle.links.specs.Lists.{nobody, Mem, without, change}
 use Rattle.links.proofs.laws.Lists.{change-same, change-other}
 use Rattle.links.specs.Links.{at}
 use Rattle.links.specs.Whole.{Kept}
 use Rattle.links.proofs.laws.Whole.{kept-refl, kept-set}
 use Rattle.stack.specs.Places.{slots, expired, free, put}
+use Rattle.stack.specs.Whole as stack
 use Rattle.stack.proofs.laws.Whole as stack-laws
 use Rattle.wheel.specs.Wheel.{Lists, placeFor, Rule, arrive}
-use Rattle.wheel.proofs.laws.Sums.{mem-joined}
+use Rattle.wheel.proofs.laws.Sums.{mem-kept, put-mem, mem-joined}
 use Rattle.wheel.proofs.laws.Between.{rule-less}
-use Rattle.wheel.specs.Words.{WheelWords, Becomes, CanPush, CanLeave, Leaves, lists as listsIn}
+use Rattle.wheel.specs.Words.{WheelWords, WheelWhole, Becomes, CanPush, CanLeave, Leaves, lists as listsIn, markOf as markIn}
 use Rattle.wheel.specs.Turns.{CanInsert}
-use Rattle.records.specs.View.{View, viewOf, withLists, withValue, upd}
+use Rattle.records.specs.View.{View, viewOf, withElapsed, withLists, withValue, upd}
 use Rattle.records.proofs.laws.View.{view-eq}
 use Rattle.records.specs.Records.{lastTurn, At, Near, taken, left, target, placed, freed}
-use Rattle.records.specs.Words.{QueueWords, queueWords, count, elapsed, markOf, view, Standing, Sound}
+use Rattle.records.specs.Words.{QueueWords, queueWords, count, elapsed, markOf, view, StandingBut, Standing, SoundBut, Sound}
 use Rattle.records.proofs.laws.Words.{past-refl, upd-same, upd-other, at-set}
-use Rattle.records.specs.Inner.{Stands, Goes, LooseAt, PlacesTo, CanPlace, LeavesTo, CanFree}
+use Rattle.records.specs.Inner.{StandsBut, Stands, GoesBut, Goes, LooseAt, PlacesTo, CanPlace, LeavesTo, CanFree}
 
-pub with-rule : {s s′ : QueueWords} {v : View} → Stands s v s′ → Rule (v .deadline) (v .elapsed) (v .lists) → Goes s v s′
+pub with-rule : {item : ℕ} {s s′ : QueueWords} {v : View} → StandsBut item s v s′ → Rule (v .deadline) (v .elapsed) (v .lists)
+    → GoesBut item s v s′
 with-rule P R =
     record {
       sound = record { standing = P .standing; rule = subst (λ (u : View). Rule (u .deadline) (u .elapsed) (u .lists)) (sym (P .view)) R };
@@ -39,36 +42,76 @@ with-rule P R =
       kept = P .kept;
     }
 
-pub loose-out : {s : QueueWords} → Standing s → {i : ℕ} → LooseAt s i → (p : ℕ) → Mem i (view s .lists p) → ⊥
-loose-out S {i} o p m =
-    omega (arith, stack-laws.member-mark (S .whole .stack) p i m, stack-laws.member-place (S .whole .stack) p i m)
+unmarked-out : {t : WheelWords} → WheelWhole t → (i : ℕ) → markIn t i ≡ nobody → (p : ℕ) → Mem i (listsIn t p) → ⊥
+unmarked-out W i z p m = omega (arith, stack-laws.member-mark (W .stack) p i m, stack-laws.member-place (W .stack) p i m)
 
--- ---- the lists and the words of the records change: what is left to show is that turns are in range
+pub loose-out : {j : ℕ} {s : QueueWords} → StandingBut j s → {i : ℕ} → LooseAt s i → (p : ℕ) → Mem i (view s .lists p) → ⊥
+loose-out S {i} o = unmarked-out (S .whole) i (o .loose)
 
-stands : {s : QueueWords} → Standing s → {L : Lists} {t : WheelWords} → Becomes (s .wheel) L t → {vs ds ts : List ℕ}
-    → Kept (count s) (s .values) vs
+-- ---- who is retired, by the lists
+
+-- who is in no list of L has the last turn, but for item
+abbrev RetiredBut : ℕ → ℕ → Lists → (ℕ → ℕ) → Type 0
+RetiredBut item n L k = (i : ℕ) → i < n → i ≢ item → ((p : ℕ) → Mem i (L p) → ⊥) → k i ≡ lastTurn
+
+retired-but : {j : ℕ} {s : QueueWords} → StandingBut j s → RetiredBut j (count s) (view s .lists) (view s .turn)
+retired-but S i h d out = S .retired i h d (stack-laws.unlisted-mark (S .whole .stack) i h out)
+
+-- no record has nobody's number: all that are in no list are retired
+pub sound-retired : {s : QueueWords} → Sound s → (i : ℕ) → i < count s → markOf s i ≡ nobody → at (s .turns) i ≡ lastTurn
+sound-retired S i h m = S .standing .retired i h (omega arith) m
+
+-- who is in a list of L is in one of M, but for item
+abbrev pub StayBut : ℕ → Lists → Lists → Type 0
+StayBut item L M = (p x : ℕ) → Mem x (L p) → x ≢ item → (q : ℕ) × Mem x (M q)
+
+pub stay-all : (item : ℕ) (L : Lists) → StayBut item L L
+stay-all item L p x m d = (p, m)
+
+-- the head of a list leaves it
+pub stay-popped : (L : Lists) (p x : ℕ) (l : List ℕ) → L p ≡ x ∷ l → StayBut x L (change L p l)
+stay-popped L p x l e q y m d = (q, mem-kept L p l q y (λ k. ⊎-elim (λ z. absurd (d z)) (λ n. n) (rw e at k)) m)
+
+-- ---- the wheel and the words of the records change: what is left to show is that turns are in range, and who is retired
+
+stands : {j : ℕ} {s : QueueWords} → StandingBut j s → {e : ℕ} {L : Lists} {t : WheelWords} → WheelWhole t
+    → stack.StackKept (s .wheel .stack) (t .stack)
+    → t .elapsed ≡ e → listsIn t ≡ L → {vs ds ts : List ℕ} → Kept (count s) (s .values) vs
     → Kept (count s) (s .deadlines) ds → Kept (count s) (s .turns) ts → {v d k : ℕ → ℕ} → at vs ≡ v → at ds ≡ d → at ts ≡ k
-    → ((i : ℕ) → i < count s → (0 < k i) × (k i < 2 ^ 48)) → Stands s (viewOf (count s) (elapsed s) L v d k) (queueWords t vs ds ts)
-stands S B vals dues terms ev ed et turns =
+    → ((i : ℕ) → i < count s → (0 < k i) × (k i < 2 ^ 48)) → {item : ℕ} → RetiredBut item (count s) L k
+    → StandsBut item s (viewOf (count s) e L v d k) (queueWords t vs ds ts)
+stands S W K ee el vals dues terms ev ed et turns retired =
     record {
       standing = record {
         fits = record {
           some = omega arith;
           few = omega arith;
-          room = record { values = omega arith; deadlines = omega arith; links = stack-laws.room (B .whole .stack); turns = omega arith };
+          room = record { values = omega arith; deadlines = omega arith; links = stack-laws.room (W .stack); turns = omega arith };
         };
-        whole = B .whole;
+        whole = W;
         turns = λ i h. rw (ap (λ f. f i) et) (turns i (omega arith));
+        retired = λ i h d z. rw (ap (λ f. f i) et) (retired i (omega arith) d (rw el at (unmarked-out W i z)));
       };
-      view = view-eq (B .kept .size) (B .elapsed) (B .lists) ev ed et;
-      size = B .kept .size;
-      kept = record { links = B .kept .links; values = vals; deadlines = dues; turns = terms };
+      view = view-eq (K .size) ee el ev ed et;
+      size = K .size;
+      kept = record { links = K .links; values = vals; deadlines = dues; turns = terms };
     }
 
--- the lists change, and nothing else
-pub stands-lists : {s : QueueWords} → Standing s → {L : Lists} {t : WheelWords} → Becomes (s .wheel) L t
-    → Stands s (withLists L (view s)) (queueWords t (s .values) (s .deadlines) (s .turns))
-stands-lists S B = stands S B (kept-refl _ _) (kept-refl _ _) (kept-refl _ _) refl refl refl (S .turns)
+-- the wheel changes, and nothing else
+abbrev shifted : QueueWords → WheelWords → QueueWords
+shifted s t = queueWords t (s .values) (s .deadlines) (s .turns)
+
+module _ {s : QueueWords} (S : Standing s) {t : WheelWords} where
+  pub stands-wheel : {e item : ℕ} {L : Lists} → WheelWhole t → stack.StackKept (s .wheel .stack) (t .stack) → t .elapsed ≡ e
+      → listsIn t ≡ L → StayBut item (view s .lists) L → StandsBut item s (withElapsed e (withLists L (view s))) (shifted s t)
+  stands-wheel W K ee el stay =
+      stands S W K ee el (kept-refl _ _) (kept-refl _ _) (kept-refl _ _) refl refl refl (S .turns)
+      (λ i h d out. retired-but S i h (omega arith) (λ p m. let r = stay p i m d in out (r .0) (r .1)))
+
+  -- its lists alone
+  pub stands-lists : {item : ℕ} {L : Lists} → Becomes (s .wheel) L t → StayBut item (view s .lists) L
+      → StandsBut item s (withLists L (view s)) (shifted s t)
+  stands-lists B stay = stands-wheel (B .whole) (B .kept) (B .elapsed) (B .lists) stay
 
 -- the rule looks at slots and the expired stack alone
 rule-beside : {d : ℕ → ℕ} {e : ℕ} {L : Lists} → Rule d e L → (l : List ℕ) → Rule d e (change L free l)
@@ -80,26 +123,26 @@ rule-beside {d} {e} {L} R l =
 
 -- ---- taken from the free list
 
-pub goes-taken : {s : QueueWords} (S : Sound s) (l : List ℕ) {t : WheelWords} → Becomes (s .wheel) (change (view s .lists) free l) t
-    → Goes s (taken l (view s)) (queueWords t (s .values) (s .deadlines) (s .turns))
-goes-taken S l B = with-rule (stands-lists (S .standing) B) (rule-beside (S .rule) l)
+pub goes-taken : {s : QueueWords} (S : Sound s) {i : ℕ} {l : List ℕ} → view s .lists free ≡ i ∷ l → {t : WheelWords}
+    → Becomes (s .wheel) (change (view s .lists) free l) t
+    → GoesBut i s (taken l (view s)) (queueWords t (s .values) (s .deadlines) (s .turns))
+goes-taken {s} S {i} {l} e B =
+    with-rule (stands-lists (S .standing) B (stay-popped (view s .lists) free i l e)) (rule-beside (S .rule) l)
 
 -- ---- given a value
 
-pub goes-valued : {s : QueueWords} → Sound s → (i x : ℕ) → i < count s
-    → Goes s (withValue (upd (view s .value) i x) (view s)) (queueWords (s .wheel) (set (s .values) i x) (s .deadlines) (s .turns))
-goes-valued {s} S i x h =
+pub goes-valued : {j : ℕ} {s : QueueWords} → SoundBut j s → (i x : ℕ) → i < count s
+    → GoesBut j s (withValue (upd (view s .value) i x) (view s)) (queueWords (s .wheel) (set (s .values) i x) (s .deadlines) (s .turns))
+goes-valued {s = s} S i x h =
     let T = S .standing in
-    let same : Becomes (s .wheel) (view s .lists) (s .wheel)
-    = record { whole = T .whole; lists = refl; elapsed = refl; kept = stack-laws.kept-refl (s .wheel .stack) } in
     with-rule
-    (stands T same (kept-set (count s) (s .values) i x h) (kept-refl _ _) (kept-refl _ _) (at-set (s .values) i x (omega arith)) refl refl
-    (T .turns))
+    (stands T (T .whole) (stack-laws.kept-refl (s .wheel .stack)) refl refl (kept-set (count s) (s .values) i x h) (kept-refl _ _)
+    (kept-refl _ _) (at-set (s .values) i x (omega arith)) refl refl (T .turns) (retired-but T))
     (S .rule)
 
 -- ---- unlinked from the list of p
 
-pub mark-at : {s : QueueWords} → Standing s → {i p : ℕ} → At (view s) i p → markOf s i ≡ p
+pub mark-at : {j : ℕ} {s : QueueWords} → StandingBut j s → {i p : ℕ} → At (view s) i p → markOf s i ≡ p
 mark-at S {i} {p} a = stack-laws.member-mark (S .whole .stack) p i (a .member)
 
 pub can-leave : {s : QueueWords} → Standing s → {i p : ℕ} → At (view s) i p → CanLeave (s .wheel) i
@@ -117,13 +160,23 @@ mem-without i x (y ∷ l) m =
     (λ e. inr (rw (eq-eqb y i e) at m))
     (λ d. ⊎-elim inl (λ k. inr (mem-without i x l k)) (rw (ne-eqb y i d) at m))
 
+pub mem-other : (i x : ℕ) (l : List ℕ) → x ≢ i → Mem x l → Mem x (without i l)
+mem-other i x [] d m = m
+mem-other i x (y ∷ l) d m =
+    by-cases (ℕ-discrete y i)
+    (λ e. rw (eq-eqb y i e) (⊎-elim (λ z. absurd (d (z ∙ e))) (λ k. k) m))
+    (λ n. rw (ne-eqb y i n) (⊎-elim (λ z. inl z) (λ k. inr (mem-other i x l d k)) m))
+
 pub stands-left : {s : QueueWords} (S : Standing s) {i p : ℕ} → At (view s) i p → {t : WheelWords} → Leaves (s .wheel) i t
-    → Stands s (left p i (view s)) (queueWords t (s .values) (s .deadlines) (s .turns))
+    → StandsBut i s (left p i (view s)) (queueWords t (s .values) (s .deadlines) (s .turns))
 unfolding left
-stands-left S a Q = stands-lists S (rw (mark-at S a) at (Q .becomes))
+stands-left {s} S {i} {p} a Q =
+    let L = view s .lists in
+    stands-lists S (rw (mark-at S a) at (Q .becomes))
+    (λ q x m d. (q, mem-kept L p (without i (L p)) q x (mem-other i x (L p) d) m))
 
 pub goes-left : {s : QueueWords} (S : Sound s) {i p : ℕ} → At (view s) i p → {t : WheelWords} → Leaves (s .wheel) i t
-    → Goes s (left p i (view s)) (queueWords t (s .values) (s .deadlines) (s .turns))
+    → GoesBut i s (left p i (view s)) (queueWords t (s .values) (s .deadlines) (s .turns))
 unfolding left
 goes-left {s} S {i} {p} a Q =
     let L = view s .lists in
@@ -205,44 +258,67 @@ rule-placed {d} {e} {L} R x w out late near =
           (mem-joined L p x expired y m);
     })
 
-pub goes-placed : {s : QueueWords} (S : Sound s) {i : ℕ} → LooseAt s i → (when : ℕ) → Near (elapsed s) when → {t : WheelWords} {ds : List ℕ}
+-- i comes into a list: who is in none now was in none before it, and is not i
+come-retired : {i : ℕ} {s : QueueWords} → StandingBut i s → (p : ℕ)
+    → (x : ℕ) → x < count s → ((q : ℕ) → Mem x (change (view s .lists) p (put p i (view s .lists p)) q) → ⊥)
+    → (x ≢ i) × (view s .turn x ≡ lastTurn)
+come-retired {i} {s} S p x h out =
+    let L = view s .lists in
+    let d : x ≢ i = λ e. out p (rw change-same (put-mem p i x (L p) (inl e))) in
+    (d, retired-but S x h d (λ q m. out q (mem-kept L p _ q x (λ k. put-mem p i x (L p) (inr k)) m)))
+
+pub goes-placed : {s : QueueWords} {i : ℕ} (S : SoundBut i s) → LooseAt s i → (when : ℕ) → Near (elapsed s) when → {t : WheelWords} {ds : List ℕ}
     → PlacesTo (s .wheel) (s .deadlines) i when t ds → Goes s (placed i when (view s)) (queueWords t (s .values) ds (s .turns))
 unfolding placed
-goes-placed {s} S {i} o when near P =
+goes-placed {s} {i} S o when near P =
+    let T = S .standing in
+    let B = P .becomes in
     let w : ℕ = max when (elapsed s) in
     let p : ℕ = target (elapsed s) w in
     let L : Lists = change (view s .lists) p (put p i (view s .lists p)) in
     let same : w ≢ elapsed s → block w ≡ block (elapsed s)
     = λ z. let a : w ≡ when = omega (arith, z) in rw a (near (omega (arith, z))) in
-    let R : Rule (upd (at (s .deadlines)) i w) (elapsed s) L = rule-placed (S .rule) i w (loose-out (S .standing) o) (omega arith) same in
+    let R : Rule (upd (at (s .deadlines)) i w) (elapsed s) L = rule-placed (S .rule) i w (loose-out T o) (omega arith) same in
     with-rule
-    (stands (S .standing) (P .becomes) (kept-refl _ _) (rw (P .deadlines) (kept-set (count s) (s .deadlines) i w (o .below)))
-    (kept-refl _ _)
-    refl (ap at (P .deadlines) ∙ at-set (s .deadlines) i w (omega arith)) refl (S .standing .turns))
+    (stands T (B .whole) (B .kept) (B .elapsed) (B .lists) (kept-refl _ _)
+    (rw (P .deadlines) (kept-set (count s) (s .deadlines) i w (o .below))) (kept-refl _ _)
+    refl (ap at (P .deadlines) ∙ at-set (s .deadlines) i w (omega arith)) refl (T .turns) (λ x h d out. come-retired T p x h out .1))
     R
 
 -- ---- freed
 
-pub stands-freed : {s : QueueWords} (S : Standing s) {i : ℕ} → LooseAt s i → {t : WheelWords} {ts : List ℕ}
+-- at the last turn it stays where it is: no other is on its way
+none-but : {s : QueueWords} {i : ℕ} → StandingBut i s → at (s .turns) i ≡ lastTurn → Standing s
+none-but {s} {i} S z =
+    record {
+      fits = S .fits;
+      whole = S .whole;
+      turns = S .turns;
+      retired = λ j h d m. by-cases (ℕ-discrete j i) (λ (e : j ≡ i). rw e z) (λ n. S .retired j h n m);
+    }
+
+pub stands-freed : {s : QueueWords} {i : ℕ} (S : StandingBut i s) → LooseAt s i → {t : WheelWords} {ts : List ℕ}
     → LeavesTo (s .wheel) (s .turns) i t ts
     → Stands s (freed i (view s)) (queueWords t (s .values) (s .deadlines) ts)
 unfolding freed
-stands-freed {s} S {i} o {t} {ts} P =
+stands-freed {s} {i} S o {t} {ts} P =
     by-cases (ℕ-discrete (at (s .turns) i) lastTurn)
     (λ z.
     let r = P .retired z in
     let e : queueWords t (s .values) (s .deadlines) ts ≡ s = λ j. queueWords (r .0 j) (s .values) (s .deadlines) (r .1 j) in
-    rw (eq-eqb (at (s .turns) i) lastTurn z) (rw e (record { standing = S; view = refl; size = refl; kept = past-refl (count s) s })))
+    rw (eq-eqb (at (s .turns) i) lastTurn z) (rw e (record { standing = none-but S z; view = refl; size = refl; kept = past-refl (count s) s })))
     (λ z.
     let r = P .given z in
     let x : ℕ = at (s .turns) i + 1 in
     rw (ne-eqb (at (s .turns) i) lastTurn z)
-    (stands S (r .0) (kept-refl _ _) (kept-refl _ _) (rw (r .1) (kept-set (count s) (s .turns) i x (o .below)))
+    (stands S (r .0 .whole) (r .0 .kept) (r .0 .elapsed) (r .0 .lists) (kept-refl _ _) (kept-refl _ _)
+    (rw (r .1) (kept-set (count s) (s .turns) i x (o .below)))
     refl refl (ap at (r .1) ∙ at-set (s .turns) i x (omega arith))
     (λ j g.
     by-cases (ℕ-discrete j i)
     (λ (q : j ≡ i). rw (q, upd-same) (omega (arith, S .turns i (o .below))))
-    (λ q. rw (upd-other (at (s .turns)) i x j q) (S .turns j g)))))
+    (λ q. rw (upd-other (at (s .turns)) i x j q) (S .turns j g)))
+    (λ j g d out. let r = come-retired S free j g out in upd-other (at (s .turns)) i x j (r .0) ∙ r .1)))
 
 -- who is freed leaves slots and expired stack as they are
 rule-freed : (v : View) → Rule (v .deadline) (v .elapsed) (v .lists) → (i : ℕ) → let u = freed i v in
@@ -253,10 +329,10 @@ rule-freed v R i =
     (λ z. rw (eq-eqb (v .turn i) lastTurn z) R)
     (λ z. rw (ne-eqb (v .turn i) lastTurn z) (rule-beside R (put free i (v .lists free))))
 
-pub goes-freed : {s : QueueWords} (S : Sound s) {i : ℕ} → LooseAt s i → {t : WheelWords} {ts : List ℕ}
+pub goes-freed : {s : QueueWords} {i : ℕ} (S : SoundBut i s) → LooseAt s i → {t : WheelWords} {ts : List ℕ}
     → LeavesTo (s .wheel) (s .turns) i t ts
     → Goes s (freed i (view s)) (queueWords t (s .values) (s .deadlines) ts)
-goes-freed {s} S {i} o P = with-rule (stands-freed (S .standing) o P) (rule-freed (view s) (S .rule) i)
+goes-freed {s} {i} S o P = with-rule (stands-freed (S .standing) o P) (rule-freed (view s) (S .rule) i)
 
 module _ {t : WheelWords} {ts : List ℕ} {i : ℕ} (C : CanFree t ts i) where
   pub free-push : CanPush t free i

@@ -1,7 +1,7 @@
 -- What a client of this layer cites: words that hold the lists of the places (`Whole`), the lists that they hold (`lists`), and how each function
 -- changes them. One list changes, every other stays, the words stay whole, words past n records are kept.
 use mathlib.Core.Path.{_≡_, refl, sym, ap, _∙_, subst}
-use mathlib.Core.Logic.{_≢_, inl}
+use mathlib.Core.Logic.{_≢_, inl, ⊎-elim}
 use mathlib.Core.List.{List, [], _∷_}
 use mathlib.Core.Bool.{true}
 use Prim.Native.Nat.{ℕ, _≤_, _<_}
@@ -65,6 +65,11 @@ module _ {t : StackWords} (W : Whole t) where
   pub marked-member : (i : ℕ) → i < count t → markOf t i < places → Mem i (lists t (markOf t i))
   unfolding lists
   marked-member i hi h = fam-marked (W .held .fam) i hi h
+
+  -- one in no list is marked nobody
+  pub unlisted-mark : (i : ℕ) → i < count t → ((p : ℕ) → Mem i (lists t p) → ⊥) → markOf t i ≡ nobody
+  unfolding lists
+  unlisted-mark i hi out = ⊎-elim (λ m. absurd (out (markOf t i) m)) (λ l. l .mark) (W .held .fam .cover i hi)
 
   -- no record is in two lists, so that all lists together have no more members than there are records
   pub members-few : length (cat (lists t) places 0) ≤ count t

@@ -41,6 +41,12 @@ waits-same : (L M : Lists) → ((v : ℕ → ℕ) → amount v M ≡ amount v L)
 unfolding amount
 waits-same L M e y k = times-lies slots M y (omega (arith, e (hits y), lies-times slots L y (k .0) (k .1) (k .2)))
 
+-- and so has what is left, but for what was handed out
+pub waits-on : {d : ℕ → ℕ} {now e : ℕ} {L : Lists} {got : Option ℕ} {moves drains e′ : ℕ} {N : Lists}
+    → Promise d now e L got moves drains e′ N → (y : ℕ) → given (hits y) got ≡ 0 → Waits L y → Waits N y
+unfolding amount
+waits-on {L = L} {N = N} P y z k = times-lies slots N y (omega (arith, P .kept (hits y), lies-times slots L y (k .0) (k .1) (k .2)))
+
 -- ---- the ways it ends
 
 module _ {d : ℕ → ℕ} {now e : ℕ} {L : Lists} (B : Between d e L) (stack : L expired ≡ []) (later : e ≤ now) where

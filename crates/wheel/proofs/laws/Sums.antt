@@ -24,6 +24,12 @@ mem-change L p l q x m =
     (λ (e : q ≡ p). inl (e, rw (e, change-same) at m))
     (λ d. inr (d, rw (change-other L p l q d) at m))
 
+pub mem-kept : (L : Lists) (p : ℕ) (l : List ℕ) (q x : ℕ) → (Mem x (L p) → Mem x l) → Mem x (L q) → Mem x (change L p l q)
+mem-kept L p l q x h m =
+    by-cases (ℕ-discrete q p)
+    (λ e. rw (e, change-same) (h (rw e at m)))
+    (λ d. rw (change-other L p l q d) m)
+
 -- one more, or one less
 pub mem-put : (p x y : ℕ) (l : List ℕ) → Mem y (put p x l) → (y ≡ x) ⊎ Mem y l
 unfolding put
