@@ -12,6 +12,7 @@ ghost use Rattle.records.specs.Store.{before, after, wheelOf};
 ghost use Rattle.delay_queue.specs.Claims.{InRange, FormatClaim, InsertClaim, ResetClaim, RemoveClaim};
 ghost use Rattle.delay_queue.specs.Claims.{PollClaim, WakeClaim, LengthClaim, ClearClaim};
 ghost use Rattle.delay_queue.specs.Format.{FormatNo, MakesOf};
+ghost use Rattle.delay_queue.specs.NoStore.{NoStoreClaim};
 
 // A call, with its arguments in document 01's order.
 pub enum Call {
@@ -52,6 +53,23 @@ pub fn rows_of(heads: Heads) -> [[u16; 64]; 6]
     ensures { λ r. ⌜ r ≡ heads .rows ⌝ }
 {
     heads.rows
+}
+
+// No store yet, for the first format, which does not look at it. It has no record, so every other call answers number 2.
+pub fn no_store() -> Wheel
+    ensures { λ r. ⌜ NoStoreClaim r ⌝ }
+{
+    let occupied = [0u64; 6];
+    let stacks = Stacks {
+        n: 0,
+        expired: links::NOBODY,
+        free: links::NOBODY,
+    };
+    Wheel {
+        elapsed: 0,
+        occupied,
+        stacks,
+    }
 }
 
 // The number alone, and everything handed back as it is.

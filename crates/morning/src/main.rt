@@ -5,12 +5,11 @@ use delay_queue::Reply;
 use delay_queue::format;
 use delay_queue::insert;
 use delay_queue::next_wake;
+use delay_queue::no_store;
 use delay_queue::poll;
 use delay_queue::remove;
 use libc::STDOUT_FILENO;
 use queue::Answer;
-use stack::Stacks;
-use wheel::Wheel;
 
 // Room for four records: each of their six fields is an array.
 type Words = [u64; 4];
@@ -19,21 +18,6 @@ type Numbers = [u16; 4];
 
 // The value of a timer says what to do when it comes out: here, to cut the vacuum.
 const CUT: u64 = 7;
-
-// No store yet: format does not look at it, and every other call would answer number 2.
-fn no_store() -> Wheel {
-    let occupied = [0u64; 6];
-    let stacks = Stacks {
-        n: 0,
-        expired: links::NOBODY,
-        free: links::NOBODY,
-    };
-    Wheel {
-        elapsed: 0,
-        occupied,
-        stacks,
-    }
-}
 
 fn say(words: &[u8], n: u64) {
     io::write_all(STDOUT_FILENO, words);
@@ -123,6 +107,7 @@ fn milk(
     turns: &mut Words,
     marks: &mut Numbers,
 ) {
+    // format does not look at what was before it; every other call would answer number 2
     let s = no_store();
     let h = [[links::NOBODY; 64]; 6];
     let made = format(s, h, values, deadlines, nexts, prevs, turns, marks, 4, 1);

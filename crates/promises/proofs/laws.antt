@@ -1,3 +1,4 @@
+pub mod Bounded
 pub mod Cleared
 pub mod Decided
 pub mod Does
@@ -11,6 +12,7 @@ pub mod Lost
 pub mod Met
 pub mod Mornings
 pub mod Moves
+pub mod NoStore
 pub mod Once
 pub mod Order
 pub mod Outs

@@ -1,3 +1,4 @@
+pub mod Bounded
 pub mod Cleared
 pub mod Does
 pub mod Keys
@@ -8,6 +9,7 @@ pub mod Looking
 pub mod Lost
 pub mod Met
 pub mod Mornings
+pub mod NoStore
 pub mod Once
 pub mod Order
 pub mod Outs

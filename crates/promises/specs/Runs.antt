@@ -86,3 +86,8 @@ moves (x ∷ l) = movesOf (told (x .answer)) + moves l
 -- no format of the run is accepted: "until the next format"
 abbrev pub NoFormat : List Asked → Type 0
 NoFormat l = All (λ x. (isFormat (x .call) && accepted x) ≡ false) l
+
+-- P is said of each call of a run: of the store that it finds, of the call with its answer, and of the store that it leaves
+abbrev pub Each : (QueueWords → Asked → QueueWords → Type 0) → {s u : QueueWords} {l : List Asked} → Runs s l u → Type 0
+Each P rest = Unit {0}
+Each P (next {s} {t} {u} {x} {l} A R) = P s x t × Each P R

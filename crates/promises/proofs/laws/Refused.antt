@@ -26,6 +26,7 @@ use Rattle.records.proofs.laws.Cases.{by-deadline}
 use Rattle.promises.proofs.laws.Decided.{sound-dec, fits-dec, range-dec}
 use Rattle.promises.proofs.laws.Quiet.{expired-shown}
 use Rattle.promises.specs.Step.{isNo, reach}
+use Rattle.promises.specs.Runs.{isFormat}
 use Rattle.promises.proofs.laws.Step.{polls-says, wakes-says, refusal-same}
 use Rattle.queue.proofs.laws.Polls.{polls-size, clears-size}
 use Rattle.promises.specs.Refused.{NoSuchKey, absent, beyond, stale, Lines, end, line, linesOf, First, numbers, RefusedBy, Settled, accepted, refused, whenOf}
@@ -194,6 +195,21 @@ module _ (c : Call) (s : QueueWords) (a : Answer) (t : QueueWords) (A : CallClai
       by : Settled (reach c s) s a t (linesOf c s) → (t ≡ s) ⊎ ((isNo (told a) ≡ false) × (count t ≡ reach c s) × PastKept (reach c s) s t)
       by (refused x R) = inl (R .same)
       by (accepted f e n K) = inr (e, n, K)
+
+two : (c : Call) (s : QueueWords) → isFormat c ≡ false → (Sound s → ⊥) → RefusedBy c s 2
+two (C.Format n turn) s e f = absurd (true≢false e)
+two (C.Insert value when) s e f = inl (refl, f)
+two (C.Reset key when) s e f = inl (refl, f)
+two (C.Remove key) s e f = inl (refl, f)
+two (C.Poll now) s e f = inl (refl, f)
+two C.Wake s e f = inl (refl, f)
+two C.Length s e f = inl (refl, f)
+two C.Clear s e f = inl (refl, f)
+
+-- "Every call but format judges this first": 2 is "slices too short or store not sound"
+pub unsound-refused : (c : Call) (s : QueueWords) (a : Answer) (t : QueueWords) → CallClaim c s a t → isFormat c ≡ false → (Sound s → ⊥)
+    → (told a ≡ T.no 2) × (t ≡ s)
+unsound-refused c s a t A e f = refused-exactly c s a t A 2 .0 (two c s e f)
 
 -- "Number 7 is judged even with an expired timer waiting."
 pub seven-though-waiting : {s t : QueueWords} {a : Answer} {now : ℕ} → PollClaim s now a t → Sound s → {r : ℕ} {l : List ℕ}

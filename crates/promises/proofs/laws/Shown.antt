@@ -91,7 +91,7 @@ waiting-value : view waiting .value 0 ≡ 7
 unfolding placed
 waiting-value = ap (λ v. v .value 0) waiting-view ∙ upd-same (view one .value) 0 7
 
-waiting-deadline : view waiting .deadline 0 ≡ 70
+pub waiting-deadline : view waiting .deadline 0 ≡ 70
 unfolding placed
 waiting-deadline = ap (λ v. v .deadline 0) waiting-view ∙ upd-same (view one .deadline) 0 70
 
@@ -120,7 +120,7 @@ waiting-heights : heights (view waiting .lists) ≡ 1
 unfolding heights
 waiting-heights = waiting-total (λ p x. levelAt p) slots (omega arith) (omega arith)
 
-waiting-pending : pending (view waiting) ≡ 1
+pub waiting-pending : pending (view waiting) ≡ 1
 unfolding pending
 waiting-pending = waiting-total (λ p x. 1) free (omega arith) (omega arith)
 

@@ -157,7 +157,7 @@ module _ (c : Call) (s : QueueWords) (a : Answer) (t : QueueWords) (A : CallClai
 
 -- ---- a sound store there is: one record, freshly formatted over words of 0
 
-fits : Fits (slices blank) 1
+pub fits : Fits (slices blank) 1
 fits =
     record {
       some = omega arith;
@@ -170,7 +170,7 @@ fits =
       };
     }
 
-one-made : Formatted blank 1 1 A.Done one
+pub one-made : Formatted blank 1 1 A.Done one
 one-made =
     formats blank fits (record { some = omega arith; last = omega arith })
     (record { wheel = refl; values = refl; deadlines = refl; turns = refl }) refl

@@ -8,7 +8,7 @@ use Prim.Native.Nat.{ℕ, _+_, _≤_, _<_}
 use native.Mathlib.Decide.{ℕ-discrete}
 use native.Mathlib.Omega.{arith}
 use lib.Dec.{eqb}
-use borrow.Author.Tests.{le-leb, lt-leb}
+use borrow.Author.Tests.{lt-leb}
 use Rattle.links.specs.Count.{bit}
 use Rattle.stack.specs.Places.{free}
 use Rattle.wheel.proofs.laws.Sums.{hits, total-le, lies-times}
@@ -24,7 +24,7 @@ use Rattle.delay_queue.specs.declared.Call.the-variants as C
 use Rattle.delay_queue.specs.Claims.{CallClaim}
 use Rattle.promises.specs.Step.{isNo}
 use Rattle.promises.proofs.laws.Step.{step-sound}
-use Rattle.promises.specs.Runs.{Asked, Runs, rest, next, accepted, isPoll, All, tally}
+use Rattle.promises.specs.Runs.{Asked, Runs, rest, next, accepted, All, tally}
 use Rattle.promises.proofs.laws.Steps.{Steps, refuses, formats, inserts, resets, removes, polls, wakes, counts, clears, call-steps, key-inserts}
 use Rattle.promises.specs.Polling.{Dead}
 use Rattle.promises.proofs.laws.Polling.{saysOf, Fairly, Polled, poll-works, none-out}
@@ -43,7 +43,7 @@ removed-fewer : (p r : ℕ) (v : View) → pending (freed r (left p r v)) ≤ pe
 unfolding pending
 removed-fewer p r v = omega (arith, freed-total (λ q x. 1) free r (left p r v) (omega arith), left-total (λ q x. 1) free p r v)
 
-pending-some : {v : View} {r p : ℕ} → At v r p → 0 < pending v
+pub pending-some : {v : View} {r p : ℕ} → At v r p → 0 < pending v
 unfolding pending
 pending-some {v} {r} {p} a =
     let few = total-le (λ q x. hits r x) (λ q x. 1) free (v .lists) (λ q x h. one (eqb x r)) in
@@ -56,7 +56,7 @@ pending-some {v} {r} {p} a =
 -- ---- one quiet call, and the timer that the key k reaches, with the value y and the deadline d
 
 -- an accepted poll at which d is due
-abbrev counted : ℕ → Call → Told → ℕ
+abbrev pub counted : ℕ → Call → Told → ℕ
 counted d c x = cond (duePoll d c && not (isNo x)) 1 0
 
 counted-one : (d : ℕ) (c : Call) (x : Told) → counted d c x ≤ 1
@@ -67,7 +67,7 @@ counted-one d c x = by (duePoll d c && not (isNo x))
     by false = omega arith
 
 -- it waits on, and each accepted poll at which it was due has handed out another; or it comes out; or it is removed
-data Went (v : View) (k y d : ℕ) (c : Call) (x : Told) (w : View) : Type 0 where
+pub data Went (v : View) (k y d : ℕ) (c : Call) (x : Told) (w : View) : Type 0 where
   waits : Reaches w k y d → pending w + counted d c x ≤ pending v → Went v k y d c x w
   comes : {now m n : ℕ} → c ≡ C.Poll now → Hands x k y d m n → Dead w k → Went v k y d c x w
   leaves : c ≡ C.Remove k → isNo x ≡ false → Dead w k → Went v k y d c x w
@@ -99,7 +99,7 @@ module _ {s : QueueWords} (S : Sound s) {k y d : ℕ} (R : Reaches (view s) k y 
           comes refl (rw (q .0, q .1) at z) (spent-unnamed (out-spent S (polls h Q) z .spent)))
           (λ n. waits-on (polls h Q) (λ a. absurd a) (λ o. n (cc)) (omega (arith, counted-one d (C.Poll now) x)))
 
-  went : {c : Call} {x : Told} {w : View} → Steps (view s) c x w → (disturbs c && not (isNo x)) ≡ false → Went (view s) k y d c x w
+  pub went : {c : Call} {x : Told} {w : View} → Steps (view s) c x w → (disturbs c && not (isNo x)) ≡ false → Went (view s) k y d c x w
   went (refuses {c}) quiet = waits R (rw (and-false (duePoll d c)) (omega arith))
   went formats quiet = absurd (true≢false quiet)
   went (inserts e) quiet = absurd (true≢false quiet)
@@ -128,7 +128,7 @@ dead-on {s} {k} x t S A quiet d r p N =
 
 -- ---- a quiet run
 
-dead-run : {s u : QueueWords} {l : List Asked} {k : ℕ} → Sound s → Runs s l u → All Undisturbed l → Dead (view s) k → Dead (view u) k
+pub dead-run : {s u : QueueWords} {l : List Asked} {k : ℕ} → Sound s → Runs s l u → All Undisturbed l → Dead (view s) k → Dead (view u) k
 dead-run S rest q d = d
 dead-run S (next {s} {t} {x = x} A r) q d = dead-run (step-sound (x .call) s (x .answer) t A S) r (q .1) (dead-on x t S A (q .0) d)
 
@@ -193,19 +193,3 @@ module _ {s u : QueueWords} {l : List Asked} {k r p : ℕ} (W : Waited s l u k r
       by (still R c) = absurd (out-of-time R c)
       by (out m d) = m
       by (gone m d) = absurd (never l kept m)
-
--- where every poll of the run is at or past the deadline w, those that are counted are all accepted polls
-pub all-due : (w : ℕ) (l : List Asked) → All (λ x. (now : ℕ) → x .call ≡ C.Poll now → w ≤ now) l → tally (duePoll w) l ≡ tally isPoll l
-all-due w [] h = refl
-all-due w (x ∷ l) h = omega (arith, same (x .call) (accepted x) (h .0), all-due w l (h .1))
-  where
-    same : (c : Call) (b : Bool) → ((now : ℕ) → c ≡ C.Poll now → w ≤ now)
-        → _≡_ {A = ℕ} (cond (duePoll w c && b) 1 0) (cond (isPoll c && b) 1 0)
-    same (C.Format n turn) b f = refl
-    same (C.Insert value when) b f = refl
-    same (C.Reset key when) b f = refl
-    same (C.Remove key) b f = refl
-    same (C.Poll now) b f = rw (le-leb w now (f now refl))
-    same C.Wake b f = refl
-    same C.Length b f = refl
-    same C.Clear b f = refl

@@ -1,0 +1,14 @@
+-- No store yet: what stands in for the state before the first format.
+use mathlib.Core.Path.{_≡_}
+use Prim.Native.Nat.{ℕ}
+use lib.ListN.{replicate}
+use Rattle.links.specs.Lists.{nobody}
+use Rattle.wheel.specs.declared.Wheel.{Wheel}
+
+-- elapsed is 0, no slot is occupied, there is no record, and nobody is expired or free. So it is not sound: "Before an accepted f all others answer `no 2`"
+pub record NoStoreClaim (w : Wheel) : Type 0 where
+  pub elapsed : w .elapsed ≡ 0
+  pub occupied : w .occupied ≡ replicate {A = ℕ} 6 0
+  pub records : w .stacks .n ≡ 0
+  pub expired : w .stacks .expired ≡ nobody
+  pub free : w .stacks .free ≡ nobody

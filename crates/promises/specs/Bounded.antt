@@ -1,0 +1,84 @@
+-- Demand 3 in its own sentences: "The work is bounded."
+use mathlib.Core.Path.{_≡_}
+use mathlib.Core.Bool.{true}
+use mathlib.Core.List.{List, [], _∷_, _++_}
+use Prim.Native.Nat.{ℕ, _+_, _*_, _≤_}
+use Rattle.wheel.specs.Drain.{heights}
+use Rattle.queue.specs.declared.Answer.{Answer}
+use Rattle.queue.specs.Told.{told, Hands}
+use Rattle.queue.specs.Told as T
+use Rattle.records.specs.Records.{Names}
+use Rattle.queue.specs.Steps.{pending}
+use Rattle.records.specs.Words.{QueueWords, view}
+use Rattle.delay_queue.specs.declared.Call.the-variants as C
+use Rattle.delay_queue.specs.Claims.{CallClaim}
+use Rattle.promises.specs.Runs.{Asked, Runs, accepted, isPlacing, isPoll, All, tally, movesOf, moves, Each}
+use Rattle.promises.specs.Polling.{Dead}
+use Rattle.promises.specs.Waiting.{Undisturbed}
+
+-- ---- moves
+
+-- "a fresh store": what an accepted format leaves, whatever it was lent
+pub record Fresh (t : QueueWords) : Type 0 where
+  pub lent : QueueWords
+  pub n : ℕ
+  pub turn : ℕ
+  pub answer : Answer
+  pub formats : CallClaim (C.Format n turn) lent answer t
+  pub done : told answer ≡ T.ok
+
+-- "each poll reports as many moves as the pending timers lost in levels during it": with those that it reports the heights after it are the heights before
+-- it. A timer that is handed out lies in no slot, and counts 0 after
+abbrev pub ReportsLost : QueueWords → Asked → QueueWords → Type 0
+ReportsLost s x t = (now : ℕ) → x .call ≡ C.Poll now → movesOf (told (x .answer)) + heights (view t .lists) ≡ heights (view s .lists)
+
+-- "each poll reports as many moves as the pending timers lost in levels during it, so all moves come to at most five for each accepted insert or reset"
+pub record MovesBounded {s u : QueueWords} {l : List Asked} (R : Runs s l u) : Type 0 where
+  pub each : Each ReportsLost R
+  pub all : moves l ≤ 5 * tally isPlacing l
+
+-- ---- waiting
+
+-- "every poll's now at or past its deadline": asked of the accepted polls alone
+abbrev pub AtOrPast : ℕ → Asked → Type 0
+AtOrPast deadline x = (now : ℕ) → x .call ≡ C.Poll now → accepted x ≡ true → deadline ≤ now
+
+-- "A timer that is due, with no insert, reset, clear or format after that and every poll's now at or past its deadline": the timer r is pending in s under the
+-- key k, and the calls l are made on s. Refused calls change nothing, so none is excluded
+pub record DueAfter (s : QueueWords) (k r p : ℕ) (l : List Asked) (u : QueueWords) : Type 0 where
+  pub names : Names (view s) k r p
+  pub runs : Runs s l u
+  pub undisturbed : All Undisturbed l
+  pub past : All (AtOrPast (view s .deadline r)) l
+
+-- "is out or removed": a poll hands out the key with the timer's value v and deadline d, or a remove of the key answers them
+pub data OutOrRemoved (k v d : ℕ) (x : Asked) : Type 0 where
+  out : {now m n : ℕ} → x .call ≡ C.Poll now → Hands (told (x .answer)) k v d m n → OutOrRemoved k v d x
+  removed : x .call ≡ C.Remove k → told (x .answer) ≡ T.gone v d → OutOrRemoved k v d x
+
+-- "within .. accepted polls": a call of the run is such a one, and up to it, itself included, the run has at most n accepted polls
+pub record Within (n : ℕ) (P : Asked → Type 0) (l : List Asked) : Type 0 where
+  pub before : List Asked
+  pub call : Asked
+  pub after : List Asked
+  pub split : l ≡ before ++ call ∷ after
+  pub such : P call
+  pub few : tally isPoll (before ++ call ∷ []) ≤ n
+
+-- it is so within n accepted polls, and pending no more at the end
+pub record LeavesWithin (n k v d : ℕ) (l : List Asked) (u : QueueWords) : Type 0 where
+  pub within : Within n (OutOrRemoved k v d) l
+  pub dead : Dead (view u) k
+
+-- "A timer that is due, .., is out or removed within as many accepted polls as timers were pending": if there are as many
+abbrev pub WaitsBounded : QueueWords → Type 0
+WaitsBounded s =
+    (k r p : ℕ) (l : List Asked) (u : QueueWords) → DueAfter s k r p l u → pending (view s) ≤ tally isPoll l
+    → LeavesWithin (pending (view s)) k (view s .value r) (view s .deadline r) l u
+
+-- ---- the demand
+
+-- "The work is bounded. From a fresh store and any calls on it, .." the moves, and what waits in a store that the calls lead to
+pub record WorkBounded (t : QueueWords) : Type 0 where
+  pub moves : (l : List Asked) (s : QueueWords) (R : Runs t l s) → MovesBounded R
+  pub waits : (l : List Asked) (s : QueueWords) → Runs t l s → WaitsBounded s
