@@ -1,26 +1,28 @@
 // What the calls do with a damaged store. Of a store of nine records one word is changed, or a slice is too short, and the seven
 // calls but format are asked, each of the store so changed. What is not sound gets no 2 from all seven, which change no word; what
 // is still sound gets it from none, and all but next wake and length change words.
-use damage::DEADLINES;
-use damage::ELAPSED;
-use damage::EXPIRED;
-use damage::FREE;
-use damage::HEADS;
-use damage::Image;
-use damage::MARKS;
-use damage::N;
-use damage::NEXTS;
-use damage::OCCUPIED;
-use damage::PREVS;
-use damage::TURNS;
-use damage::VALUES;
-use damage::show;
-use damage::show_each;
-use damage::show_lent;
+mod image;
 
-const NOBODY: u64 = 65535;
+use image::DEADLINES;
+use image::ELAPSED;
+use image::EXPIRED;
+use image::FREE;
+use image::HEADS;
+use image::Image;
+use image::MARKS;
+use image::N;
+use image::NEXTS;
+use image::OCCUPIED;
+use image::PREVS;
+use image::TURNS;
+use image::VALUES;
+use image::show;
+use image::show_each;
+use image::show_lent;
 
-const LAST_TURN: u64 = (1 << 48) - 1;
+const NOBODY: u64 = links::NOBODY as u64;
+
+const LAST_TURN: u64 = records::LAST_TURN;
 
 // Slices one word too short.
 fn short(image: &Image) {
@@ -142,7 +144,7 @@ fn rows(image: &Image) {
     show(image, HEADS + 42, 1);
     show(image, HEADS + 202, 7);
     show(image, HEADS + 383, 0);
-    show_each(image, HEADS, damage::SLOTS);
+    show_each(image, HEADS, image::SLOTS);
 }
 
 // Changes that leave the store sound.
@@ -180,7 +182,7 @@ fn enough(image: &Image) {
 
 // Every record behind the nine would be a retired one. As many as a store may have are sound, and one more is not.
 fn retired(image: &Image) {
-    damage::say(b"the words behind the nine records are those of retired ones:\n");
+    image::say(b"the words behind the nine records are those of retired ones:\n");
     show(image, N, 10);
     show(image, N, 1024);
     show(image, N, 1025);
@@ -188,15 +190,15 @@ fn retired(image: &Image) {
 
 // No list has a member, so that nothing but n itself is against none.
 fn single(image: &Image) {
-    damage::say(b"one record, and it is retired:\n");
-    damage::show_whole(image);
+    image::say(b"one record, and it is retired:\n");
+    image::show_whole(image);
     show(image, N, 0);
 }
 
 // Elapsed may be anything in its row of 64 that is not past the first timer. The poll at 100 changes it, or is refused by number 7.
 fn quiet(image: &Image) {
-    damage::say(b"nothing on the expired stack:\n");
-    damage::show_whole(image);
+    image::say(b"nothing on the expired stack:\n");
+    image::show_whole(image);
     show(image, ELAPSED, 63);
     show(image, ELAPSED, 64);
     show(image, ELAPSED, 105);
@@ -206,15 +208,15 @@ fn quiet(image: &Image) {
 
 // A timer that a reset has unlinked and not placed: it is in no list, and not at the last turn. At the last turn it is retired.
 fn lost(image: &Image) {
-    damage::say(b"three timers at 70, the middle one cut out of its list:\n");
-    damage::show_whole(image);
+    image::say(b"three timers at 70, the middle one cut out of its list:\n");
+    image::show_whole(image);
     show(image, TURNS + 1, LAST_TURN - 1);
     show(image, TURNS + 1, LAST_TURN);
 }
 
 fn main() {
-    let image = damage::store(77);
-    damage::say(b"not sound:\n");
+    let image = image::store(77);
+    image::say(b"not sound:\n");
     short(&image);
     deadlines(&image);
     nexts(&image);
@@ -223,12 +225,12 @@ fn main() {
     marks(&image);
     numbers(&image);
     rows(&image);
-    damage::say(b"sound:\n");
-    damage::show_whole(&image);
+    image::say(b"sound:\n");
+    image::show_whole(&image);
     sound(&image);
     enough(&image);
-    quiet(&damage::polled(77));
-    retired(&damage::store(LAST_TURN));
-    single(&damage::begun(1, 77));
-    lost(&damage::cut());
+    quiet(&image::polled(77));
+    retired(&image::store(LAST_TURN));
+    single(&image::begun(1, 77));
+    lost(&image::cut());
 }

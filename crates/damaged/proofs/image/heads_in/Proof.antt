@@ -1,19 +1,15 @@
--- `numbers_in` meets its contract: every turn takes one number.
+-- `heads_in` meets its contract: every turn takes one head.
 use borrow.Author.Needs.{needs}
-use mathlib.Core.Path.{_≡_}
 use Prim.Native.Nat.{_≤_, _-_}
-use lib.ListN.{length}
-use Rattle.damage.proofs.numbers_in.Statement.{statement}
-use Rattle.damage.proofs.numbers_in.Tie as tie
+use Rattle.stack.specs.Places.{slots}
+use Rattle.damaged.proofs.image.heads_in.Statement.{statement}
+use Rattle.damaged.proofs.image.heads_in.Tie as tie
 
 abbrev Inv-loop : tie.InvT-loop
-Inv-loop image from numbers₀ i₀ numbers i = (i ≤ 12) × (length numbers ≡ 1025)
+Inv-loop image heads₀ i₀ heads i = (i ≤ slots)
 
 abbrev μ-loop : tie.MeasureT-loop
-μ-loop image from numbers₀ i₀ numbers i = 12 - i
-
-numbers-requires : tie.Need-numbers-requires Inv-loop μ-loop
-numbers-requires c κs = search needs
+μ-loop image heads₀ i₀ heads i = slots - i
 
 loop-holds : tie.Need-loop-holds Inv-loop μ-loop
 loop-holds c = search needs
@@ -30,11 +26,8 @@ element-copy-out-narrow c = search needs
 narrow-requires : tie.Need-narrow-requires Inv-loop μ-loop
 narrow-requires c κs = search needs
 
-mul-numbers : tie.Need-mul-numbers Inv-loop μ-loop
-mul-numbers c = search needs
-
-array-write-numbers : tie.Need-array-write-numbers Inv-loop μ-loop
-array-write-numbers c = search needs
+put-head-requires : tie.Need-put-head-requires Inv-loop μ-loop
+put-head-requires c κs = search needs
 
 add-i : tie.Need-add-i Inv-loop μ-loop
 add-i c = search needs
@@ -48,20 +41,18 @@ loop-again c = search needs
 returns : tie.Need-returns Inv-loop μ-loop
 returns c = search needs
 
-pub numbers-in-spec : {M : Type 1} → statement M
-numbers-in-spec =
+pub heads-in-spec : {M : Type 1} → statement M
+heads-in-spec =
     tie.close
     (tie.spec
     Inv-loop
     μ-loop
-    numbers-requires
     loop-holds
     add-narrow
     mul-narrow
     element-copy-out-narrow
     narrow-requires
-    mul-numbers
-    array-write-numbers
+    put-head-requires
     add-i
     loop-less
     loop-again

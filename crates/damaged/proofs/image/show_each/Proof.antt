@@ -1,8 +1,8 @@
 -- `show_each` meets its contract: every turn counts at most seven calls.
 use borrow.Author.Needs.{needs}
 use Prim.Native.Nat.{_*_, _≤_, _-_}
-use Rattle.damage.proofs.show_each.Statement.{statement}
-use Rattle.damage.proofs.show_each.Tie as tie
+use Rattle.damaged.proofs.image.show_each.Statement.{statement}
+use Rattle.damaged.proofs.image.show_each.Tie as tie
 
 abbrev Inv-loop : tie.InvT-loop
 Inv-loop image from count refused₀ kept₀ i₀ t8 t9 refused kept i = (i ≤ count) × (refused ≤ 7 * i) × (kept ≤ 7 * i)

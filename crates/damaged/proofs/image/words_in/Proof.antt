@@ -3,8 +3,8 @@ use borrow.Author.Needs.{needs}
 use mathlib.Core.Path.{_≡_}
 use Prim.Native.Nat.{_≤_, _-_}
 use lib.ListN.{length}
-use Rattle.damage.proofs.words_in.Statement.{statement}
-use Rattle.damage.proofs.words_in.Tie as tie
+use Rattle.damaged.proofs.image.words_in.Statement.{statement}
+use Rattle.damaged.proofs.image.words_in.Tie as tie
 
 abbrev Inv-loop : tie.InvT-loop
 Inv-loop image from words₀ i₀ words i = (i ≤ 12) × (length words ≡ 1025)

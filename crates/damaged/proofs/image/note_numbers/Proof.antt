@@ -1,8 +1,8 @@
 -- `note_numbers` meets its contract: every turn notes one number.
 use borrow.Author.Needs.{needs}
 use Prim.Native.Nat.{_≤_, _-_}
-use Rattle.damage.proofs.note_numbers.Statement.{statement}
-use Rattle.damage.proofs.note_numbers.Tie as tie
+use Rattle.damaged.proofs.image.note_numbers.Statement.{statement}
+use Rattle.damaged.proofs.image.note_numbers.Tie as tie
 
 abbrev Inv-loop : tie.InvT-loop
 Inv-loop image₀ from numbers i₀ image i = (i ≤ 12)

@@ -1,15 +1,19 @@
--- `heads_in` meets its contract: every turn takes one head.
+-- `numbers_in` meets its contract: every turn takes one number.
 use borrow.Author.Needs.{needs}
+use mathlib.Core.Path.{_≡_}
 use Prim.Native.Nat.{_≤_, _-_}
-use Rattle.stack.specs.Places.{slots}
-use Rattle.damage.proofs.heads_in.Statement.{statement}
-use Rattle.damage.proofs.heads_in.Tie as tie
+use lib.ListN.{length}
+use Rattle.damaged.proofs.image.numbers_in.Statement.{statement}
+use Rattle.damaged.proofs.image.numbers_in.Tie as tie
 
 abbrev Inv-loop : tie.InvT-loop
-Inv-loop image heads₀ i₀ heads i = (i ≤ slots)
+Inv-loop image from numbers₀ i₀ numbers i = (i ≤ 12) × (length numbers ≡ 1025)
 
 abbrev μ-loop : tie.MeasureT-loop
-μ-loop image heads₀ i₀ heads i = slots - i
+μ-loop image from numbers₀ i₀ numbers i = 12 - i
+
+numbers-requires : tie.Need-numbers-requires Inv-loop μ-loop
+numbers-requires c κs = search needs
 
 loop-holds : tie.Need-loop-holds Inv-loop μ-loop
 loop-holds c = search needs
@@ -26,8 +30,11 @@ element-copy-out-narrow c = search needs
 narrow-requires : tie.Need-narrow-requires Inv-loop μ-loop
 narrow-requires c κs = search needs
 
-put-head-requires : tie.Need-put-head-requires Inv-loop μ-loop
-put-head-requires c κs = search needs
+mul-numbers : tie.Need-mul-numbers Inv-loop μ-loop
+mul-numbers c = search needs
+
+array-write-numbers : tie.Need-array-write-numbers Inv-loop μ-loop
+array-write-numbers c = search needs
 
 add-i : tie.Need-add-i Inv-loop μ-loop
 add-i c = search needs
@@ -41,18 +48,20 @@ loop-again c = search needs
 returns : tie.Need-returns Inv-loop μ-loop
 returns c = search needs
 
-pub heads-in-spec : {M : Type 1} → statement M
-heads-in-spec =
+pub numbers-in-spec : {M : Type 1} → statement M
+numbers-in-spec =
     tie.close
     (tie.spec
     Inv-loop
     μ-loop
+    numbers-requires
     loop-holds
     add-narrow
     mul-narrow
     element-copy-out-narrow
     narrow-requires
-    put-head-requires
+    mul-numbers
+    array-write-numbers
     add-i
     loop-less
     loop-again

@@ -2,8 +2,8 @@
 use borrow.Author.Needs.{needs}
 use Prim.Native.Nat.{_≤_, _-_}
 use Rattle.stack.specs.Places.{slots}
-use Rattle.damage.proofs.note_heads.Statement.{statement}
-use Rattle.damage.proofs.note_heads.Tie as tie
+use Rattle.damaged.proofs.image.note_heads.Statement.{statement}
+use Rattle.damaged.proofs.image.note_heads.Tie as tie
 
 abbrev Inv-loop : tie.InvT-loop
 Inv-loop image₀ heads i₀ image i = (i ≤ slots)

@@ -1,8 +1,8 @@
 -- `note_words` meets its contract: every turn notes one word.
 use borrow.Author.Needs.{needs}
 use Prim.Native.Nat.{_≤_, _-_}
-use Rattle.damage.proofs.note_words.Statement.{statement}
-use Rattle.damage.proofs.note_words.Tie as tie
+use Rattle.damaged.proofs.image.note_words.Statement.{statement}
+use Rattle.damaged.proofs.image.note_words.Tie as tie
 
 abbrev Inv-loop : tie.InvT-loop
 Inv-loop image₀ from words i₀ image i = (i ≤ 12)

@@ -1,14 +1,14 @@
--- `numbers_rest` meets its contract: every turn looks at one number.
+-- `words_rest` meets its contract: every turn looks at one word.
 use borrow.Author.Needs.{needs}
 use Prim.Native.Nat.{_≤_, _-_}
-use Rattle.damage.proofs.numbers_rest.Statement.{statement}
-use Rattle.damage.proofs.numbers_rest.Tie as tie
+use Rattle.damaged.proofs.image.words_rest.Statement.{statement}
+use Rattle.damaged.proofs.image.words_rest.Tie as tie
 
 abbrev Inv-loop : tie.InvT-loop
-Inv-loop numbers i₀ i = (i ≤ 1025)
+Inv-loop words i₀ i = (i ≤ 1025)
 
 abbrev μ-loop : tie.MeasureT-loop
-μ-loop numbers i₀ i = 1025 - i
+μ-loop words i₀ i = 1025 - i
 
 loop-holds : tie.Need-loop-holds Inv-loop μ-loop
 loop-holds c = search needs
@@ -34,8 +34,8 @@ loop-again c = search needs
 returns-2 : tie.Need-returns-2 Inv-loop μ-loop
 returns-2 c = search needs
 
-pub numbers-rest-spec : {M : Type 1} → statement M
-numbers-rest-spec =
+pub words-rest-spec : {M : Type 1} → statement M
+words-rest-spec =
     tie.close
     (tie.spec
     Inv-loop

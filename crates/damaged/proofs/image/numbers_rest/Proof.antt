@@ -1,14 +1,14 @@
--- `same` meets its contract: every turn compares one word.
+-- `numbers_rest` meets its contract: every turn looks at one number.
 use borrow.Author.Needs.{needs}
 use Prim.Native.Nat.{_≤_, _-_}
-use Rattle.damage.proofs.same.Statement.{statement}
-use Rattle.damage.proofs.same.Tie as tie
+use Rattle.damaged.proofs.image.numbers_rest.Statement.{statement}
+use Rattle.damaged.proofs.image.numbers_rest.Tie as tie
 
 abbrev Inv-loop : tie.InvT-loop
-Inv-loop a b i₀ i = (i ≤ 467)
+Inv-loop numbers i₀ i = (i ≤ 1025)
 
 abbrev μ-loop : tie.MeasureT-loop
-μ-loop a b i₀ i = 467 - i
+μ-loop numbers i₀ i = 1025 - i
 
 loop-holds : tie.Need-loop-holds Inv-loop μ-loop
 loop-holds c = search needs
@@ -18,12 +18,6 @@ mul-if1 c = search needs
 
 element-copy-out-if1 : tie.Need-element-copy-out-if1 Inv-loop μ-loop
 element-copy-out-if1 c = search needs
-
-mul-if1-2 : tie.Need-mul-if1-2 Inv-loop μ-loop
-mul-if1-2 c = search needs
-
-element-copy-out-if1-2 : tie.Need-element-copy-out-if1-2 Inv-loop μ-loop
-element-copy-out-if1-2 c = search needs
 
 returns : tie.Need-returns Inv-loop μ-loop
 returns c = search needs
@@ -40,8 +34,8 @@ loop-again c = search needs
 returns-2 : tie.Need-returns-2 Inv-loop μ-loop
 returns-2 c = search needs
 
-pub same-spec : {M : Type 1} → statement M
-same-spec =
+pub numbers-rest-spec : {M : Type 1} → statement M
+numbers-rest-spec =
     tie.close
     (tie.spec
     Inv-loop
@@ -49,8 +43,6 @@ same-spec =
     loop-holds
     mul-if1
     element-copy-out-if1
-    mul-if1-2
-    element-copy-out-if1-2
     returns
     add-i
     loop-less

@@ -1,8 +1,8 @@
 -- `ask_all` meets its contract: every turn counts at most one call.
 use borrow.Author.Needs.{needs}
 use Prim.Native.Nat.{_≤_, _-_}
-use Rattle.damage.proofs.ask_all.Statement.{statement}
-use Rattle.damage.proofs.ask_all.Tie as tie
+use Rattle.damaged.proofs.image.ask_all.Statement.{statement}
+use Rattle.damaged.proofs.image.ask_all.Tie as tie
 
 abbrev Inv-loop : tie.InvT-loop
 Inv-loop image part refused₀ kept₀ i₀ refused kept i = (i ≤ 7) × (refused ≤ i) × (kept ≤ i)
