@@ -4,7 +4,7 @@ import source, specs
 
 ROOT = pathlib.Path(__file__).resolve().parent.parent
 # the crates that a survivor has to pass too: every claim, law and promise stands in one of these or below
-ABOVE = ["promises", "step", "answering", "bench"]
+ABOVE = ["promises", "any_call", "answering", "bench"]
 LIMIT = 900
 
 
@@ -461,7 +461,7 @@ def main():
 
 
 # the functions of these claim bounds alone, or they are programs
-LEFT_OUT = ["contents", "damage", "face", "serve", "damaged", "replay", "replay_lists", "replay_contents", "promises"]
+LEFT_OUT = ["contents", "harness", "serve", "damaged", "replay", "replay_lists", "replay_contents", "promises"]
 
 if __name__ == "__main__":
     main()

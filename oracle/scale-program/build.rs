@@ -1,9 +1,9 @@
-//! Links the object that oracle/scale names: what crates/face exports.
+//! Links the object that oracle/scale names: what crates/harness exports.
 use std::env;
 
 fn main() {
-    println!("cargo:rerun-if-env-changed=NGAWDRELO_FACE");
-    let face = env::var("NGAWDRELO_FACE").expect("NGAWDRELO_FACE names the object of crates/face");
-    println!("cargo:rerun-if-changed={face}");
-    println!("cargo:rustc-link-arg-bins={face}");
+    println!("cargo:rerun-if-env-changed=NGAWDRELO_HARNESS");
+    let harness = env::var("NGAWDRELO_HARNESS").expect("NGAWDRELO_HARNESS names the object of crates/harness");
+    println!("cargo:rerun-if-changed={harness}");
+    println!("cargo:rustc-link-arg-bins={harness}");
 }

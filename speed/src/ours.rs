@@ -1,4 +1,4 @@
-//! Our queue, through the functions that crates/face exports. A slice crosses as its pointer and its length.
+//! Our queue, through the functions that crates/harness exports. A slice crosses as its pointer and its length.
 //! oracle/scale-program takes this file too.
 
 type State = [u64; 10];
@@ -15,16 +15,16 @@ pub const FORMAT: u64 = 0;
 
 #[rustfmt::skip]
 extern "C" {
-    fn face_call(state: &mut State, heads: &mut Heads, values: *mut u64, v: usize, deadlines: *mut u64, d: usize, nexts: *mut u16, x: usize,
+    fn harness_call(state: &mut State, heads: &mut Heads, values: *mut u64, v: usize, deadlines: *mut u64, d: usize, nexts: *mut u16, x: usize,
         prevs: *mut u16, p: usize, turns: *mut u64, t: usize, marks: *mut u16, m: usize, op: u64, a: u64, b: u64, answer: &mut Answer);
-    fn face_answers(state: &mut State, heads: &mut Heads, values: *mut u64, v: usize, deadlines: *mut u64, d: usize, nexts: *mut u16, x: usize,
+    fn harness_answers(state: &mut State, heads: &mut Heads, values: *mut u64, v: usize, deadlines: *mut u64, d: usize, nexts: *mut u16, x: usize,
         prevs: *mut u16, p: usize, turns: *mut u64, t: usize, marks: *mut u16, m: usize, script: *const u64, words: usize,
         answers: *mut u64, room: usize) -> bool;
-    fn face_judge(state: &State, heads: &Heads, values: *const u64, v: usize, deadlines: *const u64, d: usize, nexts: *const u16, x: usize,
+    fn harness_judge(state: &State, heads: &Heads, values: *const u64, v: usize, deadlines: *const u64, d: usize, nexts: *const u16, x: usize,
         prevs: *const u16, p: usize, turns: *const u64, t: usize, marks: *const u16, m: usize) -> bool;
-    fn face_inner(state: &mut State, heads: &mut Heads, values: *mut u64, v: usize, deadlines: *mut u64, d: usize, nexts: *mut u16, x: usize,
+    fn harness_inner(state: &mut State, heads: &mut Heads, values: *mut u64, v: usize, deadlines: *mut u64, d: usize, nexts: *mut u16, x: usize,
         prevs: *mut u16, p: usize, turns: *mut u64, t: usize, marks: *mut u16, m: usize, script: *const u64, words: usize) -> u64;
-    fn face_judged(state: &mut State, heads: &mut Heads, values: *mut u64, v: usize, deadlines: *mut u64, d: usize, nexts: *mut u16, x: usize,
+    fn harness_judged(state: &mut State, heads: &mut Heads, values: *mut u64, v: usize, deadlines: *mut u64, d: usize, nexts: *mut u16, x: usize,
         prevs: *mut u16, p: usize, turns: *mut u64, t: usize, marks: *mut u16, m: usize, script: *const u64, words: usize) -> u64;
 }
 
@@ -78,13 +78,13 @@ impl Store {
     }
 
     pub fn judge(&mut self) -> bool {
-        lend!(face_judge, self)
+        lend!(harness_judge, self)
     }
 
     /// One call, which judges first.
     pub fn call(&mut self, [op, a, b]: Call) -> Answer {
         let mut answer = [u64::MAX; 6];
-        lend!(face_call, self, op, a, b, &mut answer);
+        lend!(harness_call, self, op, a, b, &mut answer);
         answer
     }
 
@@ -92,16 +92,16 @@ impl Store {
     pub fn answers(&mut self, calls: &[Call], answers: &mut [Answer]) -> bool {
         let (script, words) = (calls.as_ptr().cast(), 3 * calls.len());
         let (to, room) = (answers.as_mut_ptr().cast(), 6 * answers.len());
-        lend!(face_answers, self, script, words, to, room)
+        lend!(harness_answers, self, script, words, to, room)
     }
 
     /// The whole script by the calls that judge nothing.
     pub fn inner(&mut self, script: &[Command]) -> u64 {
-        lend!(face_inner, self, script.as_ptr().cast(), 2 * script.len())
+        lend!(harness_inner, self, script.as_ptr().cast(), 2 * script.len())
     }
 
     /// The whole script by the calls that judge first.
     pub fn judged(&mut self, script: &[Command]) -> u64 {
-        lend!(face_judged, self, script.as_ptr().cast(), 2 * script.len())
+        lend!(harness_judged, self, script.as_ptr().cast(), 2 * script.len())
     }
 }

@@ -1,4 +1,4 @@
--- One step of the bench: a line, the store and what is written before it; the store and what is written after it.
+-- One line of the bench: it, the store and what is written before it; the store and what is written after it.
 use mathlib.Core.Path.{_≡_}
 use mathlib.Core.List.{List}
 use Prim.Native.Nat.{ℕ}

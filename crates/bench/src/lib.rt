@@ -1,4 +1,4 @@
-// One step of the bench: a line is read, asked of the store, and answered with a line.
+// One line of the bench: it is read, asked of the store, and answered with a line.
 use answering::write_answer;
 use answering::write_bad;
 use asking::Line;
@@ -9,7 +9,7 @@ ghost use Rattle.contracts.specs.Lent.{old, new};
 ghost use Rattle.records.specs.Store.{before, after};
 ghost use Rattle.bench.specs.Line.{LineClaim};
 
-// Where the answer ends in what is written, and the state and the heads after the step.
+// Where the answer ends in what is written, and the state and the heads after it.
 pub struct Step {
     pub at: usize,
     pub state: Wheel,
@@ -43,7 +43,7 @@ pub fn answer_line(
     let asked = read_line(line);
     match asked {
         Line::Asks(call) => {
-            let reply = step::step(
+            let reply = any_call::ask(
                 state,
                 heads,
                 values,

@@ -256,7 +256,7 @@ fn ask(image: &mut Image, part: Part, call: Call) -> bool {
     let mut prevs = numbers_in(image, PREVS);
     let mut turns = words_in(image, TURNS);
     let mut marks = numbers_in(image, MARKS);
-    let reply = step::step(
+    let reply = any_call::ask(
         state_in(image),
         heads_in(image),
         &mut values[0..lent(VALUES, part)],

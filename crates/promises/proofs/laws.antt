@@ -22,6 +22,6 @@ pub mod Quiet
 pub mod Refused
 pub mod Runs
 pub mod Shown
-pub mod Step
-pub mod Steps
+pub mod OneCall
+pub mod Views
 pub mod Waiting

@@ -19,5 +19,5 @@ pub mod Quiet
 pub mod Refused
 pub mod Runs
 pub mod Shown
-pub mod Step
+pub mod OneCall
 pub mod Waiting

@@ -14,7 +14,7 @@ use Rattle.queue.specs.Calls.{Refused}
 use Rattle.delay_queue.specs.declared.Call.{Call}
 use Rattle.delay_queue.specs.declared.Call.the-variants as C
 use Rattle.delay_queue.specs.Claims.{InRange}
-use Rattle.promises.specs.Step.{isNo}
+use Rattle.promises.specs.OneCall.{isNo}
 use Rattle.records.specs.Slices.{Fits}
 
 -- ---- the table

@@ -10,7 +10,7 @@ use Rattle.records.specs.Words.{QueueWords}
 use Rattle.delay_queue.specs.declared.Call.{Call}
 use Rattle.delay_queue.specs.declared.Call.the-variants as C
 use Rattle.delay_queue.specs.Claims.{CallClaim}
-use Rattle.promises.specs.Step.{isNo}
+use Rattle.promises.specs.OneCall.{isNo}
 
 -- a call with its answer
 pub record Asked : Type 0 where

@@ -238,7 +238,7 @@ impl Drop for Compared {
     }
 }
 
-/// A command in the words of crates/face.
+/// A command in the words of crates/harness.
 fn call(command: Command) -> ours::Call {
     match command {
         Command::Format { records, turn } => [ours::FORMAT, records, turn],
@@ -252,7 +252,7 @@ fn call(command: Command) -> ours::Call {
     }
 }
 
-/// An answer in the words of crates/face.
+/// An answer in the words of crates/harness.
 fn words(answer: Answer) -> ours::Answer {
     match answer {
         Answer::Ok => [0; 6],

@@ -4,15 +4,15 @@ use Rattle.bench.proofs.laws.Line.{line-asks, line-bad}
 use Rattle.bench.proofs.answer_line.Statement.{statement}
 use Rattle.bench.proofs.answer_line.Tie as tie
 
-abbrev to-step : tie.After-slice-known14 → tie.After-step
-to-step c =
+abbrev to-ask : tie.After-slice-known14 → tie.After-ask
+to-ask c =
     let a = c .before .before .before .before in
     let b = a .before .before .before .before in
     let d = b .before .before .before .before in
     let e = d .before .before .before .before in
     e .before .before
 
-abbrev to-asked : tie.After-step → tie.After-asked
+abbrev to-asked : tie.After-ask → tie.After-asked
 to-asked c =
     let a = c .before .before .before .before in
     a .before .before .before .before
@@ -28,8 +28,8 @@ read-line-requires c κs = search needs
 enum-known-asked : tie.Need-enum-known-asked
 enum-known-asked c = search needs
 
-step-requires : tie.Need-step-requires
-step-requires c κs = search needs
+ask-requires : tie.Need-ask-requires
+ask-requires c κs = search needs
 
 write-answer-requires : tie.Need-write-answer-requires
 write-answer-requires c κs = search needs
@@ -66,9 +66,9 @@ same-length-7 c = search needs
 
 returns : tie.Need-returns
 returns c =
-    let at-step = to-step c in
-    let at-asked = to-asked at-step in
-    line-asks _ (at-asked .before .before .read-line .ensures) (at-asked .asked .given .1) _ (at-step .step .ensures)
+    let at-ask = to-ask c in
+    let at-asked = to-asked at-ask in
+    line-asks _ (at-asked .before .before .read-line .ensures) (at-asked .asked .given .1) _ (at-ask .ask .ensures)
     (c .before .before .write-answer .ensures)
 
 same-length-8 : tie.Need-same-length-8
@@ -86,7 +86,7 @@ answer-line-spec =
     (tie.spec
     read-line-requires
     enum-known-asked
-    step-requires
+    ask-requires
     write-answer-requires
     enum-told
     write-bad-requires

@@ -4,7 +4,7 @@ use mathlib.Core.List.{List}
 use Prim.Native.Nat.{ℕ}
 use Rattle.queue.specs.declared.Answer.{Answer}
 use Rattle.records.specs.Words.{QueueWords}
-use Rattle.promises.proofs.laws.Step.{step-once}
+use Rattle.promises.proofs.laws.OneCall.{call-once}
 use Rattle.asking.specs.declared.Line.{Line}
 use Rattle.asking.specs.declared.Line.the-variants as L
 use Rattle.asking.specs.Text.{ReadClaim}
@@ -20,7 +20,7 @@ pub line-once : {l o o′ o″ : List ℕ} {s s′ s″ : QueueWords} {at end en
 line-once {l} {o} {o′} {o″} {s} {s′} {s″} {at} {end} {end″} (L.Asks c) R A B =
     let x = A .asks c (R .asks c .0 refl) in
     let y = B .asks c (R .asks c .0 refl) in
-    let e = step-once c s (x .answer) (y .answer) s′ s″ (x .done) (y .done) in
+    let e = call-once c s (x .answer) (y .answer) s′ s″ (x .done) (y .done) in
     let w : WriteClaim (y .answer) o at end o′ = subst (λ (a : Answer). WriteClaim a o at end o′) (e .0) (x .written) in
     let f = write-once w (y .written) in
     (e .1, f .0, f .1)

@@ -18,7 +18,7 @@ use Rattle.records.specs.Words.{QueueWords, elapsed, slices, view, Sound}
 use Rattle.delay_queue.specs.declared.Call.{Call}
 use Rattle.delay_queue.specs.declared.Call.the-variants as C
 use Rattle.delay_queue.specs.Claims.{InRange, Formatted, PollClaim, RemoveClaim, CallClaim}
-use Rattle.promises.specs.Step.{isNo, blank, one}
+use Rattle.promises.specs.OneCall.{isNo, blank, one}
 use Rattle.promises.specs.Runs.{Asked, Runs, rest, next, accepted, isPoll, All, tally, movesOf, Each}
 use Rattle.promises.specs.Polling.{Dead}
 use Rattle.promises.specs.Waiting.{Undisturbed, duePoll}
@@ -27,9 +27,9 @@ use Rattle.promises.specs.KeysReach.{Reaches}
 use Rattle.promises.specs.Shown.{polledAt70}
 use Rattle.promises.specs.Bounded.{Fresh, ReportsLost, AtOrPast, DueAfter, OutOrRemoved, out, removed, Within, LeavesWithin, WaitsBounded, WorkBounded}
 use Rattle.promises.proofs.laws.Decided.{fits-dec, range-dec}
-use Rattle.promises.proofs.laws.Step.{step-sound, fits, one-made, insert-shown}
+use Rattle.promises.proofs.laws.OneCall.{call-sound, fits, one-made, insert-shown}
 use Rattle.promises.proofs.laws.Runs.{run-sound}
-use Rattle.promises.proofs.laws.Steps.{call-steps}
+use Rattle.promises.proofs.laws.Views.{call-goes}
 use Rattle.promises.proofs.laws.Moves.{moves-are-heights, moves-bounded}
 use Rattle.promises.proofs.laws.Waiting.{pending-some, counted, Went, waits, comes, leaves, went, dead-run}
 use Rattle.promises.proofs.laws.Shown.{waiting, waiting-deadline, waiting-pending, waited-shown}
@@ -61,7 +61,7 @@ poll-lost {s} x t S A now e =
 -- "each poll reports as many moves as the pending timers lost in levels during it": so from any sound store
 pub each-lost : {s u : QueueWords} {l : List Asked} → Sound s → (R : Runs s l u) → Each ReportsLost R
 each-lost S rest = tt
-each-lost S (next {s} {t} {u} {x} {l} A R) = (poll-lost x t S A, each-lost (step-sound (x .call) s (x .answer) t A S) R)
+each-lost S (next {s} {t} {u} {x} {l} A R) = (poll-lost x t S A, each-lost (call-sound (x .call) s (x .answer) t A S) R)
 
 -- ---- waiting
 
@@ -107,10 +107,10 @@ due-ends : {s u : QueueWords} {l : List Asked} {k v d : ℕ} → Sound s → Rea
     → Ending s l u k v d
 due-ends S R rest q a = still R (omega arith)
 due-ends {k = k} {v = v} {d = d} S R (next {s} {t} {u} {x} {l} A r) q a =
-    by (went S R (call-steps (x .call) s (x .answer) t S A) (q .0)) (λ M. due-ends after M r (q .1) (a .1))
+    by (went S R (call-goes (x .call) s (x .answer) t S A) (q .0)) (λ M. due-ends after M r (q .1) (a .1))
   where
     after : Sound t
-    after = step-sound (x .call) s (x .answer) t A S
+    after = call-sound (x .call) s (x .answer) t A S
 
     same : counted d (x .call) (told (x .answer)) ≡ cond (isPoll (x .call) && accepted x) 1 0
     same = due-counted d (x .call) (accepted x) (a .0)

@@ -19,11 +19,11 @@ use Rattle.delay_queue.specs.declared.Call.the-variants as C
 use Rattle.delay_queue.specs.Claims.{CallClaim}
 use Rattle.promises.proofs.laws.Met.{insert-met, remove-met}
 use Rattle.promises.proofs.laws.Once.{told-one}
-use Rattle.promises.specs.Step.{one}
-use Rattle.promises.proofs.laws.Step.{step-sound, one-sound, insert-shown}
+use Rattle.promises.specs.OneCall.{one}
+use Rattle.promises.proofs.laws.OneCall.{call-sound, one-sound, insert-shown}
 use Rattle.promises.specs.Runs.{Asked, Runs, rest, next, All, NoFormat}
 use Rattle.promises.proofs.laws.Runs.{run-sound}
-use Rattle.promises.proofs.laws.Steps.{Steps, refuses, removes, call-steps}
+use Rattle.promises.proofs.laws.Views.{ViewGoes, refuses, removes, call-goes}
 use Rattle.promises.proofs.laws.KeysOne.{Onward, onward-same, onward-then, freed-more, does-onward}
 use Rattle.promises.proofs.laws.KeysGone.{Given, Spent, given-onward, spent-onward, names-given, spent-unnamed, given-kept, out-spent, spent-kept, remove-spent, clear-spent}
 use Rattle.promises.specs.KeysStay.{Out}
@@ -38,13 +38,13 @@ module _ {s : QueueWords} (S : Sound s) {k : ℕ} where
   spent-refused P = record { reset = λ when a t A. A .good S .dead (spent-unnamed P); remove = λ a t A. A .good S .dead (spent-unnamed P) }
 
   -- a key that leaves is spent
-  remove-left : {x : Told} {w : View} → Steps (view s) (C.Remove k) x w → {v d : ℕ} → x ≡ T.gone v d → Spent w k
+  remove-left : {x : Told} {w : View} → ViewGoes (view s) (C.Remove k) x w → {v d : ℕ} → x ≡ T.gone v d → Spent w k
   remove-left refuses z = let y : _≡_ {A = ℕ} 0 1 = cc in absurd (omega arith)
   remove-left (removes N) z = remove-spent S N
 
   left-spent : (c : Call) (a : Answer) (t : QueueWords) → Leaves s k (told a) c → CallClaim c s a t → Spent (view t) k
-  left-spent c a t (polled {now} e) A = out-spent S (call-steps (C.Poll now) s a t S A) e .spent
-  left-spent c a t (removed e) A = remove-left (call-steps (C.Remove k) s a t S A) e
+  left-spent c a t (polled {now} e) A = out-spent S (call-goes (C.Poll now) s a t S A) e .spent
+  left-spent c a t (removed e) A = remove-left (call-goes (C.Remove k) s a t S A) e
   left-spent c a t (cleared N) A = clear-spent S N A
 
 -- ---- a run
@@ -52,18 +52,18 @@ module _ {s : QueueWords} (S : Sound s) {k : ℕ} where
 pub run-onward : {s t : QueueWords} {l : List Asked} → Sound s → Runs s l t → NoFormat l → (r : ℕ) → Onward (view s) (view t) r
 run-onward {s} S rest f r = onward-same (view s) r
 run-onward S (next {s} {t} {x = x} c q) f r =
-    onward-then (does-onward S (call-steps (x .call) s (x .answer) t S c) (f .0) r)
-    (run-onward (step-sound (x .call) s (x .answer) t c S) q (f .1) r)
+    onward-then (does-onward S (call-goes (x .call) s (x .answer) t S c) (f .0) r)
+    (run-onward (call-sound (x .call) s (x .answer) t c S) q (f .1) r)
 
 module _ (P : Asked → Type 0) (I : View → Type 0) (r : ℕ) (stays : (v w : View) → Onward v w r → I v → I w)
-    (holds : (s : QueueWords) → Sound s → I (view s) → (x : Asked) (w : View) → Steps (view s) (x .call) (told (x .answer)) w → P x) where
+    (holds : (s : QueueWords) → Sound s → I (view s) → (x : Asked) (w : View) → ViewGoes (view s) (x .call) (told (x .answer)) w → P x) where
   -- what a view has and keeps is true of every call
   run-all : {s t : QueueWords} {l : List Asked} → Sound s → I (view s) → Runs s l t → NoFormat l → All P l
   run-all S i rest f = tt
   run-all S i (next {s} {t} {x = x} c q) f =
-      let D = call-steps (x .call) s (x .answer) t S c in (
+      let D = call-goes (x .call) s (x .answer) t S c in (
         holds s S i x (view t) D,
-        run-all (step-sound (x .call) s (x .answer) t c S) (stays (view s) (view t) (does-onward S D (f .0) r) i) q
+        run-all (call-sound (x .call) s (x .answer) t c S) (stays (view s) (view t) (does-onward S D (f .0) r) i) q
             (f .1),
       )
 
@@ -73,7 +73,7 @@ module _ {s t u : QueueWords} {l : List Asked} {k : ℕ} (S : Sound s) where
   module _ {value when : ℕ} {a : Answer} (I : CallClaim (C.Insert value when) s a t) (answer : told a ≡ T.key k) (r : Runs t l u)
       (f : NoFormat l) where
     after-insert : Sound t
-    after-insert = step-sound (C.Insert value when) s a t I S
+    after-insert = call-sound (C.Insert value when) s a t I S
 
     given : Given (view t) k
     given = names-given after-insert (insert-reaches S I answer .names)
@@ -88,11 +88,11 @@ module _ {s t u : QueueWords} {l : List Asked} {k : ℕ} (S : Sound s) where
     pub no-key-after : {x w : ℕ} {b : Answer} {z : QueueWords} → CallClaim (C.Insert x w) u b z → told b ≢ T.key k
     no-key-after {x} {w} {b} {z} B =
         let U = run-sound after-insert r in
-        given-kept U (call-steps (C.Insert x w) u b z U B) (given-onward (run-onward after-insert r f (numberIn k)) given)
+        given-kept U (call-goes (C.Insert x w) u b z U B) (given-onward (run-onward after-insert r f (numberIn k)) given)
 
   module _ (c : Call) (a : Answer) (A : CallClaim c s a t) (L : Leaves s k (told a) c) (r : Runs t l u) (f : NoFormat l) where
     after-leave : Sound t
-    after-leave = step-sound c s a t A S
+    after-leave = call-sound c s a t A S
 
     spent : Spent (view u) k
     spent = spent-onward (run-onward after-leave r f (numberIn k)) (left-spent S c a t L A)
@@ -122,7 +122,7 @@ module _ {s t u : QueueWords} {l : List Asked} {k : ℕ} (S : Sound s) where
 
     -- nor by one after it
     pub dead-not-out : (d : Call) (b : Answer) (w : QueueWords) → CallClaim d u b w → Out k (told b) → ⊥
-    dead-not-out d b w B o = let U = run-sound after-leave r in spent-kept U (call-steps d u b w U B) spent (o .4)
+    dead-not-out d b w B o = let U = run-sound after-leave r in spent-kept U (call-goes d u b w U B) spent (o .4)
 
 module _ {s t u : QueueWords} {l : List Asked} {a : Answer} {now k : ℕ} (S : Sound s) (A : CallClaim (C.Poll now) s a t)
     (o : Out k (told a)) (r : Runs t l u)
@@ -138,7 +138,7 @@ module _ {s t u : QueueWords} {l : List Asked} {a : Answer} {now k : ℕ} (S : S
 -- ---- such runs there are
 
 -- "has its turn raised by one and is taken next"
-taken-next : {u : View} {k : ℕ} {x : Told} {w : View} → Steps u (C.Remove k) x w → {v d : ℕ} → x ≡ T.gone v d → turnIn k ≢ lastTurn
+taken-next : {u : View} {k : ℕ} {x : Told} {w : View} → ViewGoes u (C.Remove k) x w → {v d : ℕ} → x ≡ T.gone v d → turnIn k ≢ lastTurn
     → (l : List ℕ) × (w .lists free ≡ numberIn k ∷ l) × (w .turn (numberIn k) ≡ turnIn k + 1)
 unfolding left put
 taken-next refuses z d = let y : _≡_ {A = ℕ} 0 1 = cc in absurd (omega arith)
@@ -153,8 +153,8 @@ dead-shown =
     let m = remove-met (I .0) 65536 in
     let e : m .0 ≡ A.Gone 7 70 = told-one (m .0) (A.Gone 7 70) (key-removes one-sound (I .1) refl rest tt (m .2)) in
     let R : CallClaim (C.Remove 65536) (I .0) (A.Gone 7 70) (m .1) = subst (λ a. CallClaim (C.Remove 65536) (I .0) a (m .1)) e (m .2) in
-    let S = step-sound (C.Remove 65536) (I .0) (A.Gone 7 70) (m .1) R (I .2) in
-    let h = taken-next (call-steps (C.Remove 65536) (I .0) (A.Gone 7 70) (m .1) (I .2) R) refl (omega arith) in
+    let S = call-sound (C.Remove 65536) (I .0) (A.Gone 7 70) (m .1) R (I .2) in
+    let h = taken-next (call-goes (C.Remove 65536) (I .0) (A.Gone 7 70) (m .1) (I .2) R) refl (omega arith) in
     let j = insert-met (m .1) 8 0 in
     let g : told (j .0) ≡ T.key 131072
     = j .2 .good S .done 0 (h .0) (h .1) (λ z. absurd (omega arith)) .told ∙ ap (λ c. T.key (packed c 0)) (h .2) in

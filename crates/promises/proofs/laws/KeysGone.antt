@@ -31,7 +31,7 @@ use Rattle.delay_queue.specs.Claims.{ClearClaim}
 use Rattle.delay_queue.proofs.laws.Back.{taken-up}
 use Rattle.promises.proofs.laws.Met.{clear-first}
 use Rattle.promises.proofs.laws.Once.{clear-once}
-use Rattle.promises.proofs.laws.Steps.{Steps, refuses, inserts, call-steps, key-inserts, out-polls}
+use Rattle.promises.proofs.laws.Views.{ViewGoes, refuses, inserts, call-goes, key-inserts, out-polls}
 use Rattle.promises.proofs.laws.Polling.{one-list, lies-once, key-of-names}
 use Rattle.promises.proofs.laws.KeysOne.{Onward, freed-last, freed-more, wheel-promise, does-onward}
 
@@ -170,7 +170,7 @@ module _ {s : QueueWords} (S : Sound s) where
   pub clear-spent : {k i p : ℕ} → Names (view s) k i p → {a : Answer} {t : QueueWords} → ClearClaim s a t → Spent (view t) k
   clear-spent {k} N {a} {t} A =
       record {
-        given = given-onward (does-onward S (call-steps C.Clear s a t S A) refl (numberIn k)) (names-given S N);
+        given = given-onward (does-onward S (call-goes C.Clear s a t S A) refl (numberIn k)) (names-given S N);
         gone = λ e p b. clear-empty A (numberIn k) p b;
       }
 
@@ -181,7 +181,7 @@ spent-unnamed {v} {k} P r p N =
     P .gone (ap (v .turn) (sym (N .number)) ∙ N .turn) p (rw (N .number) at (N .pending))
 
 module _ {s : QueueWords} (S : Sound s) {k : ℕ} where
-  insert-new : Given (view s) k → {value when : ℕ} {x : Told} {w : View} → Steps (view s) (C.Insert value when) x w → x ≢ T.key k
+  insert-new : Given (view s) k → {value when : ℕ} {x : Told} {w : View} → ViewGoes (view s) (C.Insert value when) x w → x ≢ T.key k
   insert-new G refuses z = let y : _≡_ {A = ℕ} 0 1 = cc in omega arith
   insert-new G (inserts {r = i} e) z =
       let h = stack-laws.member-below (S .standing .whole .stack) free i (rw e (inl refl)) in
@@ -190,7 +190,7 @@ module _ {s : QueueWords} (S : Sound s) {k : ℕ} where
       let turn : view s .turn i ≡ turnIn k = omega arith in
       (rw (← number) at (G .taken)) turn (rw e (inl refl))
 
-  module _ {c : Call} {x : Told} {w : View} (D : Steps (view s) c x w) where
+  module _ {c : Call} {x : Told} {w : View} (D : ViewGoes (view s) c x w) where
     -- a key that was given is not answered
     pub given-kept : Given (view s) k → x ≢ T.key k
     given-kept G z = insert-new G (rw (key-inserts D z .2) at D) z

@@ -27,9 +27,9 @@ use Rattle.queue.specs.Steps.{QueuePolls, polled, popped, handed, nothing, Clea
 use Rattle.records.specs.Words.{QueueWords, view, Sound}
 use Rattle.records.proofs.laws.Words.{upd-same, upd-other}
 use Rattle.delay_queue.specs.declared.Call.{Call}
-use Rattle.promises.specs.Step.{isNo}
+use Rattle.promises.specs.OneCall.{isNo}
 use Rattle.promises.specs.Runs.{isFormat}
-use Rattle.promises.proofs.laws.Steps.{Steps, refuses, formats, inserts, resets, removes, polls, wakes, counts, clears}
+use Rattle.promises.proofs.laws.Views.{ViewGoes, refuses, formats, inserts, resets, removes, polls, wakes, counts, clears}
 use Rattle.promises.specs.KeysOne.{raised}
 
 -- from v to w the turn of r does not fall; and if it stays, r is free only if it was, and pending only if it was free or pending
@@ -155,7 +155,7 @@ clears-onward (gave {k} {p} {u} c a) r = onward-then (clears-onward c r) (onward
 
 -- ---- any call but an accepted format
 
-pub does-onward : {s : QueueWords} → Sound s → {c : Call} {x : Told} {w : View} → Steps (view s) c x w
+pub does-onward : {s : QueueWords} → Sound s → {c : Call} {x : Told} {w : View} → ViewGoes (view s) c x w
     → (isFormat c && not (isNo x)) ≡ false → (r : ℕ)
     → Onward (view s) w r
 does-onward {s} S refuses f r = onward-same (view s) r

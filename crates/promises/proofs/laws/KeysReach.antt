@@ -20,10 +20,10 @@ use Rattle.records.specs.Words.{QueueWords, elapsed, view, Sound}
 use Rattle.records.proofs.laws.Words.{upd-same}
 use Rattle.delay_queue.specs.declared.Call.the-variants as C
 use Rattle.delay_queue.specs.Claims.{CallClaim}
-use Rattle.promises.proofs.laws.Step.{step-sound}
+use Rattle.promises.proofs.laws.OneCall.{call-sound}
 use Rattle.promises.specs.Runs.{Asked, Runs, rest, next, All}
 use Rattle.promises.proofs.laws.Runs.{run-sound}
-use Rattle.promises.proofs.laws.Steps.{Steps, refuses, inserts, resets, polls, call-steps}
+use Rattle.promises.proofs.laws.Views.{ViewGoes, refuses, inserts, resets, polls, call-goes}
 use Rattle.promises.proofs.laws.KeysOne.{target-timed}
 use Rattle.promises.proofs.laws.Polling.{key-of-names, saysOf, Fairly, Polled, poll-works, none-out}
 use Rattle.promises.proofs.laws.KeysStay.{Stays, does-stays}
@@ -55,7 +55,7 @@ placed-reaches u i when number below turn =
     }
 
 module _ {s : QueueWords} (S : Sound s) where
-  insert-does : {value when : ℕ} {x : Told} {w : View} → Steps (view s) (C.Insert value when) x w → {k : ℕ} → x ≡ T.key k
+  insert-does : {value when : ℕ} {x : Told} {w : View} → ViewGoes (view s) (C.Insert value when) x w → {k : ℕ} → x ≡ T.key k
       → Reaches w k value (max when (elapsed s))
   insert-does refuses z = let y : _≡_ {A = ℕ} 0 1 = cc in absurd (omega arith)
   insert-does {value} {when} (inserts {r = i} {l = l} e) {k} z =
@@ -67,7 +67,7 @@ module _ {s : QueueWords} (S : Sound s) where
       subst (λ x. Reaches (placed i when u) k x (max when (elapsed s))) (upd-same (view s .value) i value)
       (placed-reaches u i when number h turn)
 
-  reset-does : {k when : ℕ} {x : Told} {w : View} → Steps (view s) (C.Reset k when) x w → x ≡ T.ok → {y d : ℕ} → Reaches (view s) k y d
+  reset-does : {k when : ℕ} {x : Told} {w : View} → ViewGoes (view s) (C.Reset k when) x w → x ≡ T.ok → {y d : ℕ} → Reaches (view s) k y d
       → Reaches w k y (max when (elapsed s))
   unfolding left
   reset-does refuses z R = let y : _≡_ {A = ℕ} 0 1 = cc in absurd (omega arith)
@@ -94,7 +94,7 @@ module _ {s : QueueWords} (S : Sound s) where
           let j : i ≡ R .number = (rw (← q) at (key-of-names S (f .0 .1) .number)) ∙ sym (R .names .number) in
           (a ∙ ap (view s .value) j ∙ R .value, b ∙ ap (view s .deadline) j ∙ R .deadline)
 
-  out-does : {now : ℕ} {x : Told} {w : View} → Steps (view s) (C.Poll now) x w → {k y d v e m n : ℕ} → Reaches (view s) k y d
+  out-does : {now : ℕ} {x : Told} {w : View} → ViewGoes (view s) (C.Poll now) x w → {k y d v e m n : ℕ} → Reaches (view s) k y d
       → Hands x k v e m n
       → (v ≡ y) × (e ≡ d)
   out-does refuses R z = let y : _≡_ {A = ℕ} 0 1 = cc in absurd (omega arith)
@@ -131,13 +131,13 @@ module _ {s : QueueWords} (S : Sound s) where
   -- the key that an insert answers reaches what was inserted: "Insert and reset first raise the deadline to elapsed if it is smaller"
   pub insert-reaches : {t : QueueWords} {value when k : ℕ} {a : Answer} → CallClaim (C.Insert value when) s a t → told a ≡ T.key k
       → Reaches (view t) k value (max when (elapsed s))
-  insert-reaches {t} {value} {when} {a = a} A e = insert-does S (call-steps (C.Insert value when) s a t S A) e
+  insert-reaches {t} {value} {when} {a = a} A e = insert-does S (call-goes (C.Insert value when) s a t S A) e
 
   -- "A reset .. keeps its key": it reaches the same value, with the new deadline
   pub reset-reaches : {t : QueueWords} {when k x d : ℕ} {a : Answer} → Reaches (view s) k x d → CallClaim (C.Reset k when) s a t
       → told a ≡ T.ok
       → Reaches (view t) k x (max when (elapsed s))
-  reset-reaches {t} {when} {k} {a = a} R A e = reset-does S (call-steps (C.Reset k when) s a t S A) e R
+  reset-reaches {t} {when} {k} {a = a} R A e = reset-does S (call-goes (C.Reset k when) s a t S A) e R
 
   -- a remove of the key answers the value and the deadline that it reaches: "`gone value deadline`"
   pub remove-tells : {t : QueueWords} {k x d : ℕ} {a : Answer} → Reaches (view s) k x d → CallClaim (C.Remove k) s a t → told a ≡ T.gone x d
@@ -147,22 +147,22 @@ module _ {s : QueueWords} (S : Sound s) where
   pub out-tells : {t : QueueWords} {now k x d v e m n : ℕ} {a : Answer} → Reaches (view s) k x d → CallClaim (C.Poll now) s a t
       → Hands (told a) k v e m n
       → (v ≡ x) × (e ≡ d)
-  out-tells {t} {now} {a = a} R A z = out-does S (call-steps (C.Poll now) s a t S A) R z
+  out-tells {t} {now} {a = a} R A z = out-does S (call-goes (C.Poll now) s a t S A) R z
 
 -- it goes on reaching it over any run that leaves the timer alone
 pub reaches-on : {s t : QueueWords} {l : List Asked} {k x d : ℕ} → Sound s → Reaches (view s) k x d → Runs s l t → All (Spares k) l
     → Reaches (view t) k x d
 reaches-on S R rest a = R
 reaches-on S R (next {s} {t} {x = x} c r) a =
-    reaches-on (step-sound (x .call) s (x .answer) t c S)
-    (stays-reaches R (does-stays S (R .names) (call-steps (x .call) s (x .answer) t S c) (a .0 .0) (a .0 .1))) r (a .1)
+    reaches-on (call-sound (x .call) s (x .answer) t c S)
+    (stays-reaches R (does-stays S (R .names) (call-goes (x .call) s (x .answer) t S c) (a .0 .0) (a .0 .1))) r (a .1)
 
 module _ {s t u : QueueWords} {value when k : ℕ} {a : Answer} {l : List Asked} (S : Sound s) (I : CallClaim (C.Insert value when) s a t)
     (answer : told a ≡ T.key k) (r : Runs t l u) (spared : All (Spares k) l) where
   -- a pending timer's key reaches that timer: after any run that leaves it alone, the key names it, with the value and the deadline of the insert
   pub key-reaches : Reaches (view u) k value (max when (elapsed s))
-  key-reaches = reaches-on (step-sound (C.Insert value when) s a t I S) (insert-reaches S I answer) r spared
+  key-reaches = reaches-on (call-sound (C.Insert value when) s a t I S) (insert-reaches S I answer) r spared
 
   -- so a remove of the key answers what was inserted
   pub key-removes : {b : Answer} {w : QueueWords} → CallClaim (C.Remove k) u b w → told b ≡ T.gone value (max when (elapsed s))
-  key-removes B = remove-tells (run-sound (step-sound (C.Insert value when) s a t I S) r) key-reaches B
+  key-removes B = remove-tells (run-sound (call-sound (C.Insert value when) s a t I S) r) key-reaches B

@@ -22,8 +22,8 @@ use Rattle.records.specs.Words.{QueueWords, view, Sound}
 use Rattle.records.proofs.laws.Words.{upd-other}
 use Rattle.records.proofs.laws.Inner.{mem-other}
 use Rattle.delay_queue.specs.declared.Call.{Call}
-use Rattle.promises.specs.Step.{isNo}
-use Rattle.promises.proofs.laws.Steps.{Steps, refuses, formats, inserts, resets, removes, polls, wakes, counts, clears}
+use Rattle.promises.specs.OneCall.{isNo}
+use Rattle.promises.proofs.laws.Views.{ViewGoes, refuses, formats, inserts, resets, removes, polls, wakes, counts, clears}
 use Rattle.promises.proofs.laws.KeysOne.{wheel-promise}
 use Rattle.promises.proofs.laws.Polling.{one-list, freed-beside}
 use Rattle.promises.specs.KeysStay.{Aims, Out}
@@ -158,7 +158,7 @@ module _ {s : QueueWords} (S : Sound s) {k r p : ℕ} (N : Names (view s) k r p)
       (stays-freed i (withElapsed c (withLists L (view s))) r d)
   poll-stays h (nothing (polled e P)) out = stays-wheel e (wheel-promise S e h P) r refl
 
-  pub does-stays : {c : Call} {x : Told} {w : View} → Steps (view s) c x w → (Aims k c → not (isNo x) ≡ false) → (Out k x → ⊥)
+  pub does-stays : {c : Call} {x : Told} {w : View} → ViewGoes (view s) c x w → (Aims k c → not (isNo x) ≡ false) → (Out k x → ⊥)
       → Stays (view s) w r
   does-stays refuses aims out = stays-same (view s) r
   does-stays formats aims out = absurd (true≢false (aims tt))

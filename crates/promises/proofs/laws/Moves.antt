@@ -26,8 +26,8 @@ use Rattle.delay_queue.specs.declared.Call.{Call}
 use Rattle.delay_queue.specs.Claims.{Formatted, PollClaim}
 use Rattle.promises.specs.Does.{Does, refused, formatted, inserted, replaced, removed, polled, woke, measured, cleared}
 use Rattle.promises.proofs.laws.Does.{does}
-use Rattle.promises.specs.Step.{isNo}
-use Rattle.promises.proofs.laws.Step.{step-sound}
+use Rattle.promises.specs.OneCall.{isNo}
+use Rattle.promises.proofs.laws.OneCall.{call-sound}
 use Rattle.promises.specs.Runs.{Asked, Runs, rest, next, isPlacing, tally, movesOf, moves}
 use Rattle.promises.proofs.laws.Polling.{freed-beside, poll-parts, poll-counts}
 
@@ -160,7 +160,7 @@ pub run-paid : {s u : QueueWords} {l : List Asked} → Sound s → Runs s l u
     → moves l + heights (view u .lists) ≤ heights (view s .lists) + 5 * tally isPlacing l
 run-paid S rest = omega arith
 run-paid S (next {s} {t} {u} {x} {l} A R) =
-    omega (arith, does-paid s (x .answer) t (x .call) S (does S (x .call) A), run-paid (step-sound (x .call) s (x .answer) t A S) R)
+    omega (arith, does-paid s (x .answer) t (x .call) S (does S (x .call) A), run-paid (call-sound (x .call) s (x .answer) t A S) R)
 
 -- "over any run from a fresh store at most five moves for each accepted insert or reset"
 pub moves-bounded : {s t u : QueueWords} {n turn : ℕ} {a : Answer} {l : List Asked} → Formatted s n turn a t → Runs t l u

@@ -16,10 +16,10 @@ use Rattle.records.specs.Words.{QueueWords, words, Sound}
 use Rattle.delay_queue.specs.declared.Call.{Call}
 use Rattle.delay_queue.specs.Claims.{CallClaim}
 use Rattle.delay_queue.specs.NoStore.{NoStoreClaim}
-use Rattle.promises.specs.Step.{isNo}
+use Rattle.promises.specs.OneCall.{isNo}
 use Rattle.promises.specs.Runs.{Asked, Runs, rest, next, isFormat, NoFormat, Each}
 use Rattle.promises.specs.NoStore.{Answers2}
-use Rattle.promises.proofs.laws.Refused.{unsound-refused, step-size}
+use Rattle.promises.proofs.laws.Refused.{unsound-refused, call-size}
 
 -- ---- the claim of `no_store` leaves one state, and there is one
 
@@ -50,7 +50,7 @@ not-sound-call {s} f c a t A q = (λ e. unsound-refused c s a t A e f .0, by (is
   where
     by : (b : Bool) → isFormat c ≡ b → t ≡ s
     by false e = unsound-refused c s a t A e f .1
-    by true e = ⊎-elim (λ z. z) (λ y. absurd (true≢false (rw (e, y .0) at q))) (step-size c s a t A)
+    by true e = ⊎-elim (λ z. z) (λ y. absurd (true≢false (rw (e, y .0) at q))) (call-size c s a t A)
 
 -- until a format is accepted, every other call answers 2, and no call changes a word
 pub not-sound-run : {s u : QueueWords} {l : List Asked} → (Sound s → ⊥) → (R : Runs s l u) → NoFormat l → Each Answers2 R × (u ≡ s)

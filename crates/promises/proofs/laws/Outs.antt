@@ -27,9 +27,9 @@ use Rattle.delay_queue.specs.declared.Call.{Call}
 use Rattle.delay_queue.specs.declared.Call.the-variants as C
 use Rattle.delay_queue.specs.Claims.{InRange, CallClaim}
 use Rattle.promises.proofs.laws.Decided.{fits-dec, range-dec}
-use Rattle.promises.proofs.laws.Step.{step-sound}
+use Rattle.promises.proofs.laws.OneCall.{call-sound}
 use Rattle.promises.specs.Runs.{Asked, Runs, rest, next, All, NoFormat}
-use Rattle.promises.proofs.laws.Steps.{Steps, refuses, formats, inserts, resets, removes, polls, wakes, counts, clears, call-steps, key-inserts}
+use Rattle.promises.proofs.laws.Views.{ViewGoes, refuses, formats, inserts, resets, removes, polls, wakes, counts, clears, call-goes, key-inserts}
 use Rattle.promises.proofs.laws.Polling.{freed-beside}
 use Rattle.promises.proofs.laws.KeysOne.{wheel-promise, waits-before}
 use Rattle.promises.proofs.laws.KeysGone.{moved-out, left-out, handed-out, clear-empty, spent-unnamed, out-spent}
@@ -110,7 +110,7 @@ module _ {s : QueueWords} (S : Sound s) where
   named-was : {w : View} {k r p : ℕ} → Was (view s) w r → Names w k r p → (q : ℕ) × Names (view s) k r q
   named-was {p = p} F N = let b = F .was p (N .pending) in (b .1 .0, named-so N (b .0) (b .1 .1))
 
-  pub does-was : {c : Call} {x : Told} {w : View} → Steps (view s) c x w → (c ≡ C.Clear → (r p : ℕ) → At w r p → ⊥) → {k r p : ℕ}
+  pub does-was : {c : Call} {x : Told} {w : View} → ViewGoes (view s) c x w → (c ≡ C.Clear → (r p : ℕ) → At w r p → ⊥) → {k r p : ℕ}
       → Names w k r p
       → (x ≡ T.key k) ⊎ ((q : ℕ) × Names (view s) k r q)
   does-was refuses empty {p = p} N = inr (p, N)
@@ -171,8 +171,8 @@ record Bound (k : ℕ) (s : QueueWords) (l : List Asked) : Type 0 where
   few : ((r p : ℕ) → Names (view s) k r p → ⊥) → outs k l ≤ keys k l
 
 module _ {s : QueueWords} (S : Sound s) (x : Asked) (t : QueueWords) (A : CallClaim (x .call) s (x .answer) t) where
-  abbrev D : Steps (view s) (x .call) (told (x .answer)) (view t)
-  D = call-steps (x .call) s (x .answer) t S A
+  abbrev D : ViewGoes (view s) (x .call) (told (x .answer)) (view t)
+  D = call-goes (x .call) s (x .answer) t S A
 
   pub emptied : x .call ≡ C.Clear → (r p : ℕ) → At (view t) r p → ⊥
   emptied e = clear-empty S (rw e at A)
@@ -196,7 +196,7 @@ module _ {s : QueueWords} (S : Sound s) (x : Asked) (t : QueueWords) (A : CallCl
 
 bound : (k : ℕ) {s t : QueueWords} {l : List Asked} → Sound s → Runs s l t → Bound k s l
 bound k S rest = record { most = omega arith; few = λ f. omega arith }
-bound k S (next {s} {t} {x = x} c r) = bound-more S x t c (kind k (told (x .answer))) (bound k (step-sound (x .call) s (x .answer) t c S) r)
+bound k S (next {s} {t} {x = x} c r) = bound-more S x t c (kind k (told (x .answer))) (bound k (call-sound (x .call) s (x .answer) t c S) r)
 
 keys-none : (k : ℕ) (l : List Asked) → All (λ x. told (x .answer) ≢ T.key k) l → keys k l ≡ 0
 keys-none k [] a = refl
@@ -223,11 +223,11 @@ outs-most k S r = bound k S r .most
 pub keys-once : {s t : QueueWords} {l : List Asked} (k : ℕ) → Sound s → Runs s l t → NoFormat l → keys k l ≤ 1
 keys-once k S rest f = omega arith
 keys-once k S (next {s} {t} {x = x} {l = l} c r) f =
-    by (kind k (told (x .answer))) (keys-once k (step-sound (x .call) s (x .answer) t c S) r (f .1))
+    by (kind k (told (x .answer))) (keys-once k (call-sound (x .call) s (x .answer) t c S) r (f .1))
   where
     by : Kind k (told (x .answer)) → keys k l ≤ 1 → keyed k (told (x .answer)) + keys k l ≤ 1
     by (gives e) h =
-        let i = key-inserts (call-steps (x .call) s (x .answer) t S c) e .2 in
+        let i = key-inserts (call-goes (x .call) s (x .answer) t S c) e .2 in
         let A = subst (λ b. CallClaim b s (x .answer) t) i c in
         omega (arith, gives-counts e .0, keys-none k l (no-key-twice S A e r (f .1)))
     by (hands o) h = omega (arith, hands-counts o .0)

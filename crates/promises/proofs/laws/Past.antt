@@ -11,8 +11,8 @@ use Rattle.records.proofs.laws.Words.{past-refl, past-trans}
 use Rattle.delay_queue.specs.declared.Call.{Call}
 use Rattle.delay_queue.specs.declared.Call.the-variants as C
 use Rattle.delay_queue.specs.Claims.{CallClaim}
-use Rattle.promises.specs.Step.{reach}
-use Rattle.promises.proofs.laws.Refused.{step-size}
+use Rattle.promises.specs.OneCall.{reach}
+use Rattle.promises.proofs.laws.Refused.{call-size}
 use Rattle.promises.specs.Runs.{Asked, Runs, rest, next, All, NoFormat, accepted, isFormat}
 use Rattle.promises.specs.Past.{sizeOf}
 
@@ -43,14 +43,14 @@ past-beyond h P =
     }
 
 -- one call: what it leaves is no larger than m, and words past m are kept
-step-past : (m : ℕ) (s t : QueueWords) (x : Asked) → CallClaim (x .call) s (x .answer) t → count s ≤ m
+call-past : (m : ℕ) (s t : QueueWords) (x : Asked) → CallClaim (x .call) s (x .answer) t → count s ≤ m
     → (accepted x ≡ true → sizeOf (x .call) ≤ m)
     → (count t ≤ m) × PastKept m s t
-step-past m s t x A h f =
+call-past m s t x A h f =
     ⊎-elim
     (λ e. rw e (h, past-refl m s))
     (λ y. let g : reach (x .call) s ≤ m = reach-within (x .call) s h (f (ap not (y .0))) in (omega arith, past-beyond g (y .2)))
-    (step-size (x .call) s (x .answer) t A)
+    (call-size (x .call) s (x .answer) t A)
 
 -- "Words of a slice past what N records need are never changed by any call": whatever formats the run has, words past m are kept, and all lengths, where no
 -- N is over m
@@ -59,7 +59,7 @@ pub run-past : (m : ℕ) {s t : QueueWords} {l : List Asked} → Runs s l t → 
     → PastKept m s t
 run-past m (rest {s}) h f = past-refl m s
 run-past m (next {s} {t} {u} {x} c r) h f =
-    let p = step-past m s t x c h (f .0) in
+    let p = call-past m s t x c h (f .0) in
     past-trans (p .1) (run-past m r (p .0) (f .1))
 
 -- a call that is no accepted format asks for no records

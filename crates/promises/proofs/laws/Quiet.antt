@@ -21,8 +21,8 @@ use Rattle.queue.specs.Steps.{QueuePolls, polled, popped, handed, nothing}
 use Rattle.records.specs.Words.{QueueWords, count, elapsed, view, Sound}
 use Rattle.delay_queue.specs.Claims.{InsertClaim, PollClaim}
 use Rattle.promises.proofs.laws.Met.{insert-met, poll-met}
-use Rattle.promises.specs.Step.{one}
-use Rattle.promises.proofs.laws.Step.{one-sound, one-free}
+use Rattle.promises.specs.OneCall.{one}
+use Rattle.promises.proofs.laws.OneCall.{one-sound, one-free}
 use Rattle.promises.specs.Quiet.{Quiet}
 
 -- a poll takes it to any time

@@ -25,9 +25,9 @@ use Rattle.delay_queue.specs.Claims.{FormatClaim, Judging, ResetClaim, PollClai
 use Rattle.records.proofs.laws.Cases.{by-deadline}
 use Rattle.promises.proofs.laws.Decided.{sound-dec, fits-dec, range-dec}
 use Rattle.promises.proofs.laws.Quiet.{expired-shown}
-use Rattle.promises.specs.Step.{isNo, reach}
+use Rattle.promises.specs.OneCall.{isNo, reach}
 use Rattle.promises.specs.Runs.{isFormat}
-use Rattle.promises.proofs.laws.Step.{polls-says, wakes-says, refusal-same}
+use Rattle.promises.proofs.laws.OneCall.{polls-says, wakes-says, refusal-same}
 use Rattle.queue.proofs.laws.Polls.{polls-size, clears-size}
 use Rattle.promises.specs.Refused.{NoSuchKey, absent, beyond, stale, Lines, end, line, linesOf, First, numbers, RefusedBy, Settled, accepted, refused, whenOf}
 
@@ -189,8 +189,8 @@ module _ (c : Call) (s : QueueWords) (a : Answer) (t : QueueWords) (A : CallClai
       by (accepted f e n K) = (λ g. e, λ q. f)
 
   -- what a call leaves has the size that it reached, unless it was refused
-  pub step-size : (t ≡ s) ⊎ ((isNo (told a) ≡ false) × (count t ≡ reach c s) × PastKept (reach c s) s t)
-  step-size = by (settled c s a t A)
+  pub call-size : (t ≡ s) ⊎ ((isNo (told a) ≡ false) × (count t ≡ reach c s) × PastKept (reach c s) s t)
+  call-size = by (settled c s a t A)
     where
       by : Settled (reach c s) s a t (linesOf c s) → (t ≡ s) ⊎ ((isNo (told a) ≡ false) × (count t ≡ reach c s) × PastKept (reach c s) s t)
       by (refused x R) = inl (R .same)

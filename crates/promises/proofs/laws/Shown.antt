@@ -26,8 +26,8 @@ use Rattle.records.proofs.laws.Words.{upd-same}
 use Rattle.delay_queue.specs.Claims.{PollClaim}
 use Rattle.promises.proofs.laws.Met.{poll-met}
 use Rattle.promises.proofs.laws.Once.{told-one}
-use Rattle.promises.specs.Step.{one}
-use Rattle.promises.proofs.laws.Step.{one-sound, one-free, insert-shown}
+use Rattle.promises.specs.OneCall.{one}
+use Rattle.promises.proofs.laws.OneCall.{one-sound, one-free, insert-shown}
 use Rattle.promises.specs.Runs.{rest, next, All, movesOf}
 use Rattle.promises.specs.Polling.{drainsOf, HandsLeast}
 use Rattle.promises.proofs.laws.Polling.{poll-parts, poll-least, poll-drains}

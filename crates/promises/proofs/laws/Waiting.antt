@@ -22,10 +22,10 @@ use Rattle.records.specs.Words.{QueueWords, view, Sound}
 use Rattle.delay_queue.specs.declared.Call.{Call}
 use Rattle.delay_queue.specs.declared.Call.the-variants as C
 use Rattle.delay_queue.specs.Claims.{CallClaim}
-use Rattle.promises.specs.Step.{isNo}
-use Rattle.promises.proofs.laws.Step.{step-sound}
+use Rattle.promises.specs.OneCall.{isNo}
+use Rattle.promises.proofs.laws.OneCall.{call-sound}
 use Rattle.promises.specs.Runs.{Asked, Runs, rest, next, accepted, All, tally}
-use Rattle.promises.proofs.laws.Steps.{Steps, refuses, formats, inserts, resets, removes, polls, wakes, counts, clears, call-steps, key-inserts}
+use Rattle.promises.proofs.laws.Views.{ViewGoes, refuses, formats, inserts, resets, removes, polls, wakes, counts, clears, call-goes, key-inserts}
 use Rattle.promises.specs.Polling.{Dead}
 use Rattle.promises.proofs.laws.Polling.{saysOf, Fairly, Polled, poll-works, none-out}
 use Rattle.promises.proofs.laws.Moves.{left-total, freed-total}
@@ -74,7 +74,7 @@ pub data Went (v : View) (k y d : ℕ) (c : Call) (x : Told) (w : View) : Type 0
 
 module _ {s : QueueWords} (S : Sound s) {k y d : ℕ} (R : Reaches (view s) k y d) where
   -- the call does not take it
-  waits-on : {c : Call} {x : Told} {w : View} → Steps (view s) c x w → (Aims k c → not (isNo x) ≡ false) → (Out k x → ⊥)
+  waits-on : {c : Call} {x : Told} {w : View} → ViewGoes (view s) c x w → (Aims k c → not (isNo x) ≡ false) → (Out k x → ⊥)
       → pending w + counted d c x ≤ pending (view s) → Went (view s) k y d c x w
   waits-on D aims out few = waits (stays-reaches R (does-stays S (R .names) D aims out)) few
 
@@ -99,7 +99,7 @@ module _ {s : QueueWords} (S : Sound s) {k y d : ℕ} (R : Reaches (view s) k y 
           comes refl (rw (q .0, q .1) at z) (spent-unnamed (out-spent S (polls h Q) z .spent)))
           (λ n. waits-on (polls h Q) (λ a. absurd a) (λ o. n (cc)) (omega (arith, counted-one d (C.Poll now) x)))
 
-  pub went : {c : Call} {x : Told} {w : View} → Steps (view s) c x w → (disturbs c && not (isNo x)) ≡ false → Went (view s) k y d c x w
+  pub went : {c : Call} {x : Told} {w : View} → ViewGoes (view s) c x w → (disturbs c && not (isNo x)) ≡ false → Went (view s) k y d c x w
   went (refuses {c}) quiet = waits R (rw (and-false (duePoll d c)) (omega arith))
   went formats quiet = absurd (true≢false quiet)
   went (inserts e) quiet = absurd (true≢false quiet)
@@ -120,7 +120,7 @@ module _ {s : QueueWords} (S : Sound s) {k y d : ℕ} (R : Reaches (view s) k y 
 dead-on : {s : QueueWords} {k : ℕ} (x : Asked) (t : QueueWords) → Sound s → CallClaim (x .call) s (x .answer) t → Undisturbed x
     → Dead (view s) k → Dead (view t) k
 dead-on {s} {k} x t S A quiet d r p N =
-    let D = call-steps (x .call) s (x .answer) t S A in
+    let D = call-goes (x .call) s (x .answer) t S A in
     ⊎-elim
     (λ (e : told (x .answer) ≡ T.key k). let i = key-inserts D e in true≢false (rw (i .2, e) at quiet))
     (λ M. d r (M .0) (M .1))
@@ -130,7 +130,7 @@ dead-on {s} {k} x t S A quiet d r p N =
 
 pub dead-run : {s u : QueueWords} {l : List Asked} {k : ℕ} → Sound s → Runs s l u → All Undisturbed l → Dead (view s) k → Dead (view u) k
 dead-run S rest q d = d
-dead-run S (next {s} {t} {x = x} A r) q d = dead-run (step-sound (x .call) s (x .answer) t A S) r (q .1) (dead-on x t S A (q .0) d)
+dead-run S (next {s} {t} {x = x} A r) q d = dead-run (call-sound (x .call) s (x .answer) t A S) r (q .1) (dead-on x t S A (q .0) d)
 
 -- the key k is removed
 abbrev IsRemoved : ℕ → Asked → Type 0
@@ -146,10 +146,10 @@ run-ends : {s u : QueueWords} {l : List Asked} {k y d : ℕ} → Sound s → Rea
     → Ended s l u k y d
 run-ends S R rest q = still R (omega arith)
 run-ends {k = k} {y = y} {d = d} S R (next {s} {t} {u} {x} {l} A r) q =
-    by (went S R (call-steps (x .call) s (x .answer) t S A) (q .0)) (λ M. run-ends T M r (q .1))
+    by (went S R (call-goes (x .call) s (x .answer) t S A) (q .0)) (λ M. run-ends T M r (q .1))
   where
     T : Sound t
-    T = step-sound (x .call) s (x .answer) t A S
+    T = call-sound (x .call) s (x .answer) t A S
 
     later : pending (view t) + counted d (x .call) (told (x .answer)) ≤ pending (view s) → Ended t l u k y d → Ended s (x ∷ l) u k y d
     later c (still M h) = still M (omega arith)

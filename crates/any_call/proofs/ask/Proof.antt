@@ -1,9 +1,9 @@
--- `step` meets its claim: each call by its own function.
+-- `ask` meets its claim: each call by its own function.
 use borrow.Author.Needs.{needs}
 use Rattle.delay_queue.specs.Claims.{WakeClaim, LengthClaim}
 use Rattle.delay_queue.proofs.laws.Back.{back-same, by-call}
-use Rattle.step.proofs.step.Statement.{statement}
-use Rattle.step.proofs.step.Tie as tie
+use Rattle.any_call.proofs.ask.Statement.{statement}
+use Rattle.any_call.proofs.ask.Tie as tie
 
 abbrev to-format : tie.After-slice-known12 → tie.After-format
 to-format c =
@@ -314,8 +314,8 @@ returns-8 c =
     let at-clear = to-clear c in
     by-call _ _ _ (to-enum-told3 at-clear .enum-told3 .given .1) (at-clear .clear .ensures)
 
-pub step-spec : {M : Type 1} → statement M
-step-spec =
+pub ask-spec : {M : Type 1} → statement M
+ask-spec =
     tie.close
     (tie.spec
     enum-known-call

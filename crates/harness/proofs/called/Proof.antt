@@ -1,9 +1,9 @@
 -- `called` meets its contract: the store is sound again, whichever call it was.
 use borrow.Author.Needs.{needs}
 use Rattle.delay_queue.proofs.laws.Back.{not-passed, marks-long}
-use Rattle.face.proofs.laws.Stays.{insert-stays, reset-stays, remove-stays, poll-stays}
-use Rattle.face.proofs.called.Statement.{statement}
-use Rattle.face.proofs.called.Tie as tie
+use Rattle.harness.proofs.laws.Stays.{insert-stays, reset-stays, remove-stays, poll-stays}
+use Rattle.harness.proofs.called.Statement.{statement}
+use Rattle.harness.proofs.called.Tie as tie
 
 abbrev to-insert : tie.After-slice-known11 → tie.After-insert
 to-insert c =

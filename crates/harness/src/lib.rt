@@ -464,7 +464,7 @@ fn keep_state(s: &mut [u64; 10], wheel: Wheel) {
 
 // Whether the store is sound.
 #[no_mangle]
-pub extern "C" fn face_judge(
+pub extern "C" fn harness_judge(
     state: &[u64; 10],
     heads: &[[u16; 64]; 6],
     values: &[u64],
@@ -488,7 +488,7 @@ pub extern "C" fn face_judge(
 
 // The whole script by the calls that judge nothing. The store is judged once, before the first.
 #[no_mangle]
-pub extern "C" fn face_inner(
+pub extern "C" fn harness_inner(
     state: &mut [u64; 10],
     heads: &mut [[u16; 64]; 6],
     values: &mut [u64],
@@ -535,7 +535,7 @@ pub extern "C" fn face_inner(
 
 // Calls that judge nothing, with their answers. The store is judged once, before the first: whether it is sound.
 #[no_mangle]
-pub extern "C" fn face_answers(
+pub extern "C" fn harness_answers(
     state: &mut [u64; 10],
     heads: &mut [[u16; 64]; 6],
     values: &mut [u64],
@@ -609,7 +609,7 @@ fn call_of(op: u64, a: u64, b: u64) -> Call {
 
 // One call as users make it, which judges the store first, with its answer.
 #[no_mangle]
-pub extern "C" fn face_call(
+pub extern "C" fn harness_call(
     state: &mut [u64; 10],
     heads: &mut [[u16; 64]; 6],
     values: &mut [u64],
@@ -625,7 +625,7 @@ pub extern "C" fn face_call(
 ) {
     let before = state_of(state);
     let call = call_of(op, a, b);
-    let reply = step::step(
+    let reply = any_call::ask(
         before,
         *heads,
         values,
@@ -654,7 +654,7 @@ fn first_of(first: u64, i: u64) -> u64 {
 
 // The whole script by the calls that users make: every one judges the store first.
 #[no_mangle]
-pub extern "C" fn face_judged(
+pub extern "C" fn harness_judged(
     state: &mut [u64; 10],
     heads: &mut [[u16; 64]; 6],
     values: &mut [u64],
@@ -676,7 +676,7 @@ pub extern "C" fn face_judged(
         let op = first >> 60;
         let call = call_of(op, first_of(first, i as u64), second);
         i += 1;
-        let reply = step::step(w, rows, values, deadlines, nexts, prevs, turns, marks, call);
+        let reply = any_call::ask(w, rows, values, deadlines, nexts, prevs, turns, marks, call);
         let after = reply.state;
         let h = reply.heads;
         let answer = reply.answer;

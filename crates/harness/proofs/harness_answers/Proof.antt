@@ -1,8 +1,8 @@
--- `face_answers` meets its contract: the judge says that the store is sound.
+-- `harness_answers` meets its contract: the judge says that the store is sound.
 use borrow.Author.Needs.{needs}
 use Rattle.delay_queue.proofs.laws.Back.{is-sound}
-use Rattle.face.proofs.face_answers.Statement.{statement}
-use Rattle.face.proofs.face_answers.Tie as tie
+use Rattle.harness.proofs.harness_answers.Statement.{statement}
+use Rattle.harness.proofs.harness_answers.Tie as tie
 
 abbrev to-else1 : tie.After-answers-on-arg8 → tie.Else1
 to-else1 c =
@@ -72,8 +72,8 @@ returns-2 c = search needs
 wheel-of-requires : tie.Need-wheel-of-requires
 wheel-of-requires c κs = search needs
 
-pub face-answers-spec : {M : Type 1} → statement M
-face-answers-spec =
+pub harness-answers-spec : {M : Type 1} → statement M
+harness-answers-spec =
     tie.close
     (tie.spec
     state-of-requires

@@ -18,24 +18,24 @@ use Rattle.promises.specs.Does.{Does, refused, formatted, inserted, repl
 use Rattle.promises.proofs.laws.Does.{does}
 
 -- the call, its answer and the view after it
-pub data Steps (v : View) : Call → Told → View → Type 0 where
-  refuses : {c : Call} {k : ℕ} → Steps v c (T.no k) v
-  formats : {n turn : ℕ} → Steps v (C.Format n turn) T.ok (fresh n turn v)
+pub data ViewGoes (v : View) : Call → Told → View → Type 0 where
+  refuses : {c : Call} {k : ℕ} → ViewGoes v c (T.no k) v
+  formats : {n turn : ℕ} → ViewGoes v (C.Format n turn) T.ok (fresh n turn v)
   inserts : {value when r : ℕ} {l : List ℕ} → v .lists free ≡ r ∷ l
-      → Steps v (C.Insert value when) (T.key (keyOf v r)) (placed r when (withValue (upd (v .value) r value) (taken l v)))
-  resets : {k when r p : ℕ} → Names v k r p → Steps v (C.Reset k when) T.ok (placed r when (left p r v))
-  removes : {k r p : ℕ} → Names v k r p → Steps v (C.Remove k) (T.gone (v .value r) (v .deadline r)) (freed r (left p r v))
-  polls : {now : ℕ} {x : Told} {w : View} → v .elapsed ≤ now → QueuePolls v now x w → Steps v (C.Poll now) x w
-  wakes : {x : Told} → Wakes v x → Steps v C.Wake x v
-  counts : Steps v C.Length (T.len (pending v)) v
-  clears : {w : View} → Clears v (v .n) w → Steps v C.Clear T.ok (withElapsed 0 w)
+      → ViewGoes v (C.Insert value when) (T.key (keyOf v r)) (placed r when (withValue (upd (v .value) r value) (taken l v)))
+  resets : {k when r p : ℕ} → Names v k r p → ViewGoes v (C.Reset k when) T.ok (placed r when (left p r v))
+  removes : {k r p : ℕ} → Names v k r p → ViewGoes v (C.Remove k) (T.gone (v .value r) (v .deadline r)) (freed r (left p r v))
+  polls : {now : ℕ} {x : Told} {w : View} → v .elapsed ≤ now → QueuePolls v now x w → ViewGoes v (C.Poll now) x w
+  wakes : {x : Told} → Wakes v x → ViewGoes v C.Wake x v
+  counts : ViewGoes v C.Length (T.len (pending v)) v
+  clears : {w : View} → Clears v (v .n) w → ViewGoes v C.Clear T.ok (withElapsed 0 w)
 
 -- every call on a sound store takes such a step
-pub call-steps : (c : Call) (s : QueueWords) (a : Answer) (t : QueueWords) → Sound s → CallClaim c s a t
-    → Steps (view s) c (told a) (view t)
-call-steps c s a t S A = of (does S c A)
+pub call-goes : (c : Call) (s : QueueWords) (a : Answer) (t : QueueWords) → Sound s → CallClaim c s a t
+    → ViewGoes (view s) c (told a) (view t)
+call-goes c s a t S A = of (does S c A)
   where
-    of : {c : Call} → Does s a t c → Steps (view s) c (told a) (view t)
+    of : {c : Call} → Does s a t c → ViewGoes (view s) c (told a) (view t)
     of (refused R) = rw (R .told, R .same) refuses
     of (formatted F) = rw (F .told, F .view) formats
     of (inserted e n B) = rw (B .told, B .view) (inserts e)
@@ -62,7 +62,7 @@ wake-no-out (sleeps E) z = let y : _≡_ {A = ℕ} 0 1 = cc in omega arith
 wake-no-out (starts F) z = let y : _≡_ {A = ℕ} 0 1 = cc in omega arith
 
 -- a key is answered by an insert alone
-pub key-inserts : {v : View} {c : Call} {x : Told} {w : View} → Steps v c x w → {k : ℕ} → x ≡ T.key k
+pub key-inserts : {v : View} {c : Call} {x : Told} {w : View} → ViewGoes v c x w → {k : ℕ} → x ≡ T.key k
     → (value : ℕ) × (when : ℕ) × (c ≡ C.Insert value when)
 key-inserts refuses z = let y : _≡_ {A = ℕ} 0 1 = cc in absurd (omega arith)
 key-inserts formats z = let y : _≡_ {A = ℕ} 0 1 = cc in absurd (omega arith)
@@ -75,7 +75,7 @@ key-inserts counts z = let y : _≡_ {A = ℕ} 0 1 = cc in absurd (omega arith)
 key-inserts (clears r) z = let y : _≡_ {A = ℕ} 0 1 = cc in absurd (omega arith)
 
 -- a timer is handed out by a poll alone
-pub out-polls : {v : View} {c : Call} {x : Told} {w : View} → Steps v c x w → {k a d m n : ℕ} → Hands x k a d m n
+pub out-polls : {v : View} {c : Call} {x : Told} {w : View} → ViewGoes v c x w → {k a d m n : ℕ} → Hands x k a d m n
     → (now : ℕ) × (v .elapsed ≤ now) × QueuePolls v now x w
 out-polls refuses z = let y : _≡_ {A = ℕ} 0 1 = cc in absurd (omega arith)
 out-polls formats z = let y : _≡_ {A = ℕ} 0 1 = cc in absurd (omega arith)

@@ -1,9 +1,9 @@
 -- `turn` meets its contract: the store is sound again, whichever call it was.
 use borrow.Author.Needs.{needs}
 use Rattle.delay_queue.proofs.laws.Back.{not-passed}
-use Rattle.face.proofs.laws.Stays.{insert-stays, reset-stays, remove-stays, poll-stays}
-use Rattle.face.proofs.turn.Statement.{statement}
-use Rattle.face.proofs.turn.Tie as tie
+use Rattle.harness.proofs.laws.Stays.{insert-stays, reset-stays, remove-stays, poll-stays}
+use Rattle.harness.proofs.turn.Statement.{statement}
+use Rattle.harness.proofs.turn.Tie as tie
 
 abbrev to-insert : tie.After-summed → tie.After-insert
 to-insert c =

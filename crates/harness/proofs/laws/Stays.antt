@@ -5,17 +5,17 @@ use Rattle.queue.specs.Calls.{InsertOn, ResetOn, RemoveOn, PollOn}
 use Rattle.records.specs.Words.{QueueWords, Sound}
 use Rattle.delay_queue.specs.declared.Call.the-variants as C
 use Rattle.delay_queue.proofs.laws.Back.{taken-up}
-use Rattle.promises.proofs.laws.Step.{step-sound}
+use Rattle.promises.proofs.laws.OneCall.{call-sound}
 
 module _ {s t : QueueWords} {a : Answer} (S : Sound s) where
   pub insert-stays : {value when : ℕ} → InsertOn s value when a t → Sound t
-  insert-stays {value} {when} I = step-sound (C.Insert value when) s a t (taken-up S I) S
+  insert-stays {value} {when} I = call-sound (C.Insert value when) s a t (taken-up S I) S
 
   pub reset-stays : {key when : ℕ} → ResetOn s key when a t → Sound t
-  reset-stays {key} {when} R = step-sound (C.Reset key when) s a t (taken-up S R) S
+  reset-stays {key} {when} R = call-sound (C.Reset key when) s a t (taken-up S R) S
 
   pub remove-stays : {key : ℕ} → RemoveOn s key a t → Sound t
-  remove-stays {key} R = step-sound (C.Remove key) s a t (taken-up S R) S
+  remove-stays {key} R = call-sound (C.Remove key) s a t (taken-up S R) S
 
   pub poll-stays : {time : ℕ} → PollOn s time a t → Sound t
-  poll-stays {time} P = step-sound (C.Poll time) s a t (taken-up S P) S
+  poll-stays {time} P = call-sound (C.Poll time) s a t (taken-up S P) S

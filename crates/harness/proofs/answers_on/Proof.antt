@@ -5,8 +5,8 @@ use mathlib.Core.Path.{_≡_, _∙_}
 use Prim.Native.Nat.{_≤_, _-_}
 use lib.ListN.{length}
 use Rattle.records.specs.Words.{parts, Sound}
-use Rattle.face.proofs.answers_on.Statement.{statement}
-use Rattle.face.proofs.answers_on.Tie as tie
+use Rattle.harness.proofs.answers_on.Statement.{statement}
+use Rattle.harness.proofs.answers_on.Tie as tie
 
 abbrev Inv-loop : tie.InvT-loop
 Inv-loop elapsed rows₀ tops₀ heads₀ values₀ deadlines₀ nexts₀ prevs₀ turns₀ marks₀ script answers₀ e₀ commands i₀ rows tops heads values deadlines nexts prevs

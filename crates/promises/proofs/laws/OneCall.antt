@@ -29,30 +29,30 @@ use Rattle.promises.specs.Met.{Met}
 use Rattle.promises.proofs.laws.Met.{format-met, insert-met, reset-met, remove-met, poll-met, wake-met, length-met, clear-met}
 use Rattle.promises.proofs.laws.Once.{told-one, format-once, insert-once, reset-once, remove-once, poll-once, wake-once, length-once, clear-once}
 use Rattle.records.specs.Slices.{Fits}
-use Rattle.promises.specs.Step.{reach, isNo, Ends, accepted, refused, blank, one}
+use Rattle.promises.specs.OneCall.{reach, isNo, Ends, accepted, refused, blank, one}
 
 -- "For every input, each public call's claim determines its answer and the final content of everything lent, refused calls too."
-pub step-once : (c : Call) (s : QueueWords) (a a′ : Answer) (t t′ : QueueWords) → CallClaim c s a t → CallClaim c s a′ t′
+pub call-once : (c : Call) (s : QueueWords) (a a′ : Answer) (t t′ : QueueWords) → CallClaim c s a t → CallClaim c s a′ t′
     → (a ≡ a′) × (t ≡ t′)
-step-once (C.Format n turn) s a a′ t t′ A B = format-once A B
-step-once (C.Insert value when) s a a′ t t′ A B = insert-once A B
-step-once (C.Reset key when) s a a′ t t′ A B = reset-once A B
-step-once (C.Remove key) s a a′ t t′ A B = remove-once A B
-step-once (C.Poll now) s a a′ t t′ A B = poll-once A B
-step-once C.Wake s a a′ t t′ A B = (wake-once (A .0) (B .0), A .1 ∙ sym (B .1))
-step-once C.Length s a a′ t t′ A B = (length-once (A .0) (B .0), A .1 ∙ sym (B .1))
-step-once C.Clear s a a′ t t′ A B = clear-once A B
+call-once (C.Format n turn) s a a′ t t′ A B = format-once A B
+call-once (C.Insert value when) s a a′ t t′ A B = insert-once A B
+call-once (C.Reset key when) s a a′ t t′ A B = reset-once A B
+call-once (C.Remove key) s a a′ t t′ A B = remove-once A B
+call-once (C.Poll now) s a a′ t t′ A B = poll-once A B
+call-once C.Wake s a a′ t t′ A B = (wake-once (A .0) (B .0), A .1 ∙ sym (B .1))
+call-once C.Length s a a′ t t′ A B = (length-once (A .0) (B .0), A .1 ∙ sym (B .1))
+call-once C.Clear s a a′ t t′ A B = clear-once A B
 
 -- and there is such an answer, whatever the call and whatever is lent
-pub step-met : (c : Call) (s : QueueWords) → Met (CallClaim c s)
-step-met (C.Format n turn) s = format-met s n turn
-step-met (C.Insert value when) s = insert-met s value when
-step-met (C.Reset key when) s = reset-met s key when
-step-met (C.Remove key) s = remove-met s key
-step-met (C.Poll now) s = poll-met s now
-step-met C.Wake s = let m = wake-met s in (m .0, s, (m .1, refl))
-step-met C.Length s = let m = length-met s in (m .0, s, (m .1, refl))
-step-met C.Clear s = clear-met s
+pub call-met : (c : Call) (s : QueueWords) → Met (CallClaim c s)
+call-met (C.Format n turn) s = format-met s n turn
+call-met (C.Insert value when) s = insert-met s value when
+call-met (C.Reset key when) s = reset-met s key when
+call-met (C.Remove key) s = remove-met s key
+call-met (C.Poll now) s = poll-met s now
+call-met C.Wake s = let m = wake-met s in (m .0, s, (m .1, refl))
+call-met C.Length s = let m = length-met s in (m .0, s, (m .1, refl))
+call-met C.Clear s = clear-met s
 
 -- ---- how a call ends
 
@@ -118,22 +118,22 @@ module _ {s t : QueueWords} {a : Answer} where
       (λ h. refused 7 (P .back h))
       (λ h. let d = P .done (omega arith) in accepted (record { says = polls-says (d .1); sound = d .0; kept = d .2 }))
 
-pub step-ends : (c : Call) (s : QueueWords) (a : Answer) (t : QueueWords) → CallClaim c s a t → Ends (reach c s) s a t
-step-ends (C.Format n turn) s a t A = format-ends A
-step-ends (C.Insert value when) s a t A = judging-ends A (λ S. insert-ends)
-step-ends (C.Reset key when) s a t A = judging-ends A reset-ends
-step-ends (C.Remove key) s a t A = judging-ends A remove-ends
-step-ends (C.Poll now) s a t A = judging-ends A (λ S. poll-ends)
-step-ends C.Wake s a t A = left-so (A .1) (judging-ends (A .0) (λ S W. looks S (wakes-says (W .done))))
-step-ends C.Length s a t A = left-so (A .1) (judging-ends (A .0) (λ S W. looks S (ap isNo (W .done))))
-step-ends C.Clear s a t A = judging-ends A (λ S K. answered refl (K .done))
+pub call-ends : (c : Call) (s : QueueWords) (a : Answer) (t : QueueWords) → CallClaim c s a t → Ends (reach c s) s a t
+call-ends (C.Format n turn) s a t A = format-ends A
+call-ends (C.Insert value when) s a t A = judging-ends A (λ S. insert-ends)
+call-ends (C.Reset key when) s a t A = judging-ends A reset-ends
+call-ends (C.Remove key) s a t A = judging-ends A remove-ends
+call-ends (C.Poll now) s a t A = judging-ends A (λ S. poll-ends)
+call-ends C.Wake s a t A = left-so (A .1) (judging-ends (A .0) (λ S W. looks S (wakes-says (W .done))))
+call-ends C.Length s a t A = left-so (A .1) (judging-ends (A .0) (λ S W. looks S (ap isNo (W .done))))
+call-ends C.Clear s a t A = judging-ends A (λ S K. answered refl (K .done))
 
 -- ---- what follows
 
 module _ (c : Call) (s : QueueWords) (a : Answer) (t : QueueWords) (A : CallClaim c s a t) where
   -- "Every call on a sound store leaves a sound one."
-  pub step-sound : Sound s → Sound t
-  step-sound S = by (step-ends c s a t A)
+  pub call-sound : Sound s → Sound t
+  call-sound S = by (call-ends c s a t A)
     where
       by : Ends (reach c s) s a t → Sound t
       by (refused k R) = rw (R .same) S
@@ -141,7 +141,7 @@ module _ (c : Call) (s : QueueWords) (a : Answer) (t : QueueWords) (A : CallClai
 
   -- "Words of a slice past what N records need are never changed by any call."
   pub past-kept : PastKept (reach c s) s t
-  past-kept = by (step-ends c s a t A)
+  past-kept = by (call-ends c s a t A)
     where
       by : Ends (reach c s) s a t → PastKept (reach c s) s t
       by (refused k R) = rw (R .same) (past-refl (reach c s) s)
@@ -149,7 +149,7 @@ module _ (c : Call) (s : QueueWords) (a : Answer) (t : QueueWords) (A : CallClai
 
   -- "A refusal answers its number alone; every lent slice stays word for word the same, and the state that went in by value is handed back equal."
   pub refusal-same : (k : ℕ) → told a ≡ T.no k → t ≡ s
-  refusal-same k e = by (step-ends c s a t A)
+  refusal-same k e = by (call-ends c s a t A)
     where
       by : Ends (reach c s) s a t → t ≡ s
       by (refused j R) = R .same

@@ -2,8 +2,8 @@
 use borrow.Author.Needs.{needs}
 use native.Mathlib.Omega.{arith}
 use lib.ListN.{length-set}
-use Rattle.face.proofs.write_words.Statement.{statement}
-use Rattle.face.proofs.write_words.Tie as tie
+use Rattle.harness.proofs.write_words.Statement.{statement}
+use Rattle.harness.proofs.write_words.Tie as tie
 
 array-read-to : tie.Need-array-read-to
 array-read-to c = search needs

@@ -1,18 +1,15 @@
--- `script_on` meets its contract: every turn takes one command and leaves a sound store.
+-- `harness_judged` meets its contract: every turn takes one command.
 use borrow.Author.Needs.{needs}
 use native.Mathlib.Omega.{arith}
 use mathlib.Core.Path.{_≡_, _∙_}
 use Prim.Native.Nat.{_≤_, _-_}
 use lib.ListN.{length}
-use Rattle.records.specs.Words.{parts, Sound}
-use Rattle.face.proofs.script_on.Statement.{statement}
-use Rattle.face.proofs.script_on.Tie as tie
+use Rattle.harness.proofs.harness_judged.Statement.{statement}
+use Rattle.harness.proofs.harness_judged.Tie as tie
 
 abbrev Inv-loop : tie.InvT-loop
-Inv-loop elapsed rows₀ tops₀ heads₀ values₀ deadlines₀ nexts₀ prevs₀ turns₀ marks₀ script e₀ sum₀ commands i₀ rows tops heads values deadlines nexts prevs turns
-    marks e sum i =
+Inv-loop state heads values₀ deadlines₀ nexts₀ prevs₀ turns₀ marks₀ script w₀ rows₀ sum₀ commands i₀ values deadlines nexts prevs turns marks w rows sum i =
     (i ≤ commands)
-    × Sound (parts e rows tops heads values deadlines nexts prevs turns marks)
     × (length values ≡ length values₀)
     × (length deadlines ≡ length deadlines₀)
     × (length nexts ≡ length nexts₀)
@@ -21,21 +18,24 @@ Inv-loop elapsed rows₀ tops₀ heads₀ values₀ deadlines₀ nexts₀ prevs�
     × (length marks ≡ length marks₀)
 
 abbrev μ-loop : tie.MeasureT-loop
-μ-loop elapsed rows₀ tops₀ heads₀ values₀ deadlines₀ nexts₀ prevs₀ turns₀ marks₀ script e₀ sum₀ commands i₀ rows tops heads values deadlines nexts prevs turns
-    marks e sum i =
+μ-loop state heads values₀ deadlines₀ nexts₀ prevs₀ turns₀ marks₀ script w₀ rows₀ sum₀ commands i₀ values deadlines nexts prevs turns marks w rows sum i =
     commands - i
 
-abbrev to-turn : tie.After-slice-known12 Inv-loop μ-loop → tie.After-turn Inv-loop μ-loop
-to-turn c =
+abbrev to-ask : tie.After-summed Inv-loop μ-loop → tie.After-ask Inv-loop μ-loop
+to-ask c =
     let a = c .before .before .before .before in
     let b = a .before .before .before .before in
-    b .before .before .before .before
+    let d = b .before .before .before .before in
+    d .before .before .before .before
 
-abbrev to-in-loop : tie.After-turn Inv-loop μ-loop → tie.In-loop Inv-loop μ-loop
+abbrev to-in-loop : tie.After-ask Inv-loop μ-loop → tie.In-loop Inv-loop μ-loop
 to-in-loop c =
     let a = c .before .before .before .before in
     let b = a .before .before .before .before in
-    b .before .before .before .before
+    b .before .before .before
+
+state-of-requires : tie.Need-state-of-requires Inv-loop μ-loop
+state-of-requires c κs = search needs
 
 loop-holds : tie.Need-loop-holds Inv-loop μ-loop
 loop-holds c = search needs
@@ -61,29 +61,43 @@ mul-second-2 c = search needs
 shared-slice-read-second : tie.Need-shared-slice-read-second Inv-loop μ-loop
 shared-slice-read-second c = search needs
 
+first-of-requires : tie.Need-first-of-requires Inv-loop μ-loop
+first-of-requires c κs = search needs
+
+call-of-requires : tie.Need-call-of-requires Inv-loop μ-loop
+call-of-requires c κs = search needs
+
 add-i : tie.Need-add-i Inv-loop μ-loop
 add-i c = search needs
 
-turn-requires : tie.Need-turn-requires Inv-loop μ-loop
-turn-requires c κs = search needs
+ask-requires : tie.Need-ask-requires Inv-loop μ-loop
+ask-requires c κs = search needs
+
+rows-of-requires : tie.Need-rows-of-requires Inv-loop μ-loop
+rows-of-requires c κs = search needs
+
+summed-requires : tie.Need-summed-requires Inv-loop μ-loop
+summed-requires c κs = search needs
 
 loop-less : tie.Need-loop-less Inv-loop μ-loop
-loop-less c = omega (arith, to-in-loop (to-turn c) .loop-test .taken)
+loop-less c = omega (arith, to-in-loop (to-ask c) .loop-test .taken)
 
 loop-again : tie.Need-loop-again Inv-loop μ-loop
 loop-again c =
-    let at-turn = to-turn c in
-    let in-loop = to-in-loop at-turn in
+    let at-ask = to-ask c in
+    let in-loop = to-in-loop at-ask in
     let turn = in-loop .before in (
       omega (arith, in-loop .loop-test .taken),
-      at-turn .turn .ensures,
-      at-turn .turn .kept .1 .1 .1 .1 .0 ∙ turn .loop .inv .2,
-      at-turn .turn .kept .1 .1 .1 .1 .1 .0 ∙ turn .loop .inv .3,
-      at-turn .turn .kept .1 .1 .1 .1 .1 .1 .0 ∙ turn .loop .inv .4,
-      at-turn .turn .kept .1 .1 .1 .1 .1 .1 .1 .0 ∙ turn .loop .inv .5,
-      at-turn .turn .kept .1 .1 .1 .1 .1 .1 .1 .1 .0 ∙ turn .loop .inv .6,
-      at-turn .turn .kept .1 .1 .1 .1 .1 .1 .1 .1 .1 .0 ∙ turn .loop .inv .7,
+      at-ask .ask .kept .1 .1 .0 ∙ turn .loop .inv .1,
+      at-ask .ask .kept .1 .1 .1 .0 ∙ turn .loop .inv .2,
+      at-ask .ask .kept .1 .1 .1 .1 .0 ∙ turn .loop .inv .3,
+      at-ask .ask .kept .1 .1 .1 .1 .1 .0 ∙ turn .loop .inv .4,
+      at-ask .ask .kept .1 .1 .1 .1 .1 .1 .0 ∙ turn .loop .inv .5,
+      at-ask .ask .kept .1 .1 .1 .1 .1 .1 .1 .0 ∙ turn .loop .inv .6,
     )
+
+keep-state-requires : tie.Need-keep-state-requires Inv-loop μ-loop
+keep-state-requires c κs = search needs
 
 same-length : tie.Need-same-length Inv-loop μ-loop
 same-length c = search needs
@@ -106,12 +120,13 @@ same-length-6 c = search needs
 returns : tie.Need-returns Inv-loop μ-loop
 returns c = search needs
 
-pub script-on-spec : {M : Type 1} → statement M
-script-on-spec =
+pub harness-judged-spec : {M : Type 1} → statement M
+harness-judged-spec =
     tie.close
     (tie.spec
     Inv-loop
     μ-loop
+    state-of-requires
     loop-holds
     mul-first
     mul-first-2
@@ -120,10 +135,15 @@ script-on-spec =
     add-second
     mul-second-2
     shared-slice-read-second
+    first-of-requires
+    call-of-requires
     add-i
-    turn-requires
+    ask-requires
+    rows-of-requires
+    summed-requires
     loop-less
     loop-again
+    keep-state-requires
     same-length
     same-length-2
     same-length-3

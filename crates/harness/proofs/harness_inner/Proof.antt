@@ -1,8 +1,8 @@
--- `face_inner` meets its contract: the judge says that the store is sound.
+-- `harness_inner` meets its contract: the judge says that the store is sound.
 use borrow.Author.Needs.{needs}
 use Rattle.delay_queue.proofs.laws.Back.{is-sound}
-use Rattle.face.proofs.face_inner.Statement.{statement}
-use Rattle.face.proofs.face_inner.Tie as tie
+use Rattle.harness.proofs.harness_inner.Statement.{statement}
+use Rattle.harness.proofs.harness_inner.Tie as tie
 
 abbrev to-else1 : tie.After-script-on-arg7 → tie.Else1
 to-else1 c =
@@ -69,8 +69,8 @@ returns-2 c = search needs
 wheel-of-requires : tie.Need-wheel-of-requires
 wheel-of-requires c κs = search needs
 
-pub face-inner-spec : {M : Type 1} → statement M
-face-inner-spec =
+pub harness-inner-spec : {M : Type 1} → statement M
+harness-inner-spec =
     tie.close
     (tie.spec
     state-of-requires

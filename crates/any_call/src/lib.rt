@@ -5,7 +5,7 @@ use wheel::Wheel;
 ghost use Rattle.records.specs.Store.{before, after};
 ghost use Rattle.delay_queue.specs.Claims.{CallClaim};
 
-pub fn step(
+pub fn ask(
     state: Wheel,
     heads: [[u16; 64]; 6],
     values: &mut [u64],
