@@ -1,13 +1,16 @@
 -- Demand 3 in its own sentences: "The work is bounded."
 use mathlib.Core.Path.{_≡_}
-use mathlib.Core.Bool.{true}
+use mathlib.Core.Bool.{true, cond}
 use mathlib.Core.List.{List, [], _∷_, _++_}
 use Prim.Native.Nat.{ℕ, _+_, _*_, _≤_}
+use lib.Dec.{ltb}
+use Rattle.stack.specs.Places.{slots, levelAt}
 use Rattle.wheel.specs.Drain.{heights}
 use Rattle.queue.specs.declared.Answer.{Answer}
 use Rattle.queue.specs.Told.{told, Hands}
 use Rattle.queue.specs.Told as T
-use Rattle.records.specs.Records.{Names}
+use Rattle.records.specs.View.{View}
+use Rattle.records.specs.Records.{At, Names}
 use Rattle.queue.specs.Steps.{pending}
 use Rattle.records.specs.Words.{QueueWords, view}
 use Rattle.delay_queue.specs.declared.Call.the-variants as C
@@ -27,10 +30,19 @@ pub record Fresh (t : QueueWords) : Type 0 where
   pub formats : CallClaim (C.Format n turn) lent answer t
   pub done : told answer ≡ T.ok
 
--- "each poll reports as many moves as the pending timers lost in levels during it": with those that it reports the heights after it are the heights before
--- it. A timer that is handed out lies in no slot, and counts 0 after
+-- "A timer's height is its level, 0 on the expired stack": that of a timer in the place p
+abbrev pub heightAt : ℕ → ℕ
+heightAt p = cond (ltb p slots) (levelAt p) 0
+
+-- "the pending timers lost in levels": by m the heights are less, where a timer that is handed out lies in no slot and counts 0 after; and none rises, so
+-- that no loss is made up for
+pub record LosesLevels (v : View) (m : ℕ) (u : View) : Type 0 where
+  pub lost : m + heights (u .lists) ≡ heights (v .lists)
+  pub none-rises : (y p q : ℕ) → At v y p → At u y q → heightAt q ≤ heightAt p
+
+-- "each poll reports as many moves as the pending timers lost in levels during it": one that is refused reports none
 abbrev pub ReportsLost : QueueWords → Asked → QueueWords → Type 0
-ReportsLost s x t = (now : ℕ) → x .call ≡ C.Poll now → movesOf (told (x .answer)) + heights (view t .lists) ≡ heights (view s .lists)
+ReportsLost s x t = (now : ℕ) → x .call ≡ C.Poll now → LosesLevels (view s) (movesOf (told (x .answer))) (view t)
 
 -- "each poll reports as many moves as the pending timers lost in levels during it, so all moves come to at most five for each accepted insert or reset"
 pub record MovesBounded {s u : QueueWords} {l : List Asked} (R : Runs s l u) : Type 0 where

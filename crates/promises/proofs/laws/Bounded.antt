@@ -4,15 +4,24 @@ use mathlib.Core.Path.{_≡_, refl, sym, ap, _∙_, subst}
 use mathlib.Core.Logic.{by-cases}
 use mathlib.Core.Bool.{Bool, true, false, _&&_, cond, true≢false, and-false}
 use mathlib.Core.List.{List, [], _∷_}
+use mathlib.Core.Option.{Option, none, some}
 use Prim.Native.Nat.{ℕ, _+_, _≤_}
 use native.Mathlib.Decide.{decLt}
 use native.Mathlib.Omega.{arith}
-use borrow.Author.Tests.{le-leb}
+use borrow.Author.Tests.{le-leb, lt-ltb, le-ltb}
+use Rattle.times.specs.Times.{levelOf}
+use Rattle.times.proofs.laws.Levels.{level-is}
+use Rattle.times.proofs.laws.Quotients.{quotient-le, slot-lt}
+use Rattle.stack.specs.Places.{slots, expired, levelAt}
+use Rattle.wheel.specs.Wheel.{placeFor, OnWheel}
 use Rattle.wheel.specs.Drain.{heights}
+use Rattle.wheel.specs.Poll.{clockAfter}
+use Rattle.queue.specs.declared.Answer.{Answer}
 use Rattle.queue.specs.declared.Answer.the-variants as A
 use Rattle.queue.specs.Told.{told}
 use Rattle.queue.specs.Told as T
 use Rattle.queue.specs.Steps.{pending}
+use Rattle.records.specs.Records.{At}
 use Rattle.records.specs.Slices.{Fits}
 use Rattle.records.specs.Words.{QueueWords, elapsed, slices, view, Sound}
 use Rattle.delay_queue.specs.declared.Call.{Call}
@@ -25,11 +34,12 @@ use Rattle.promises.specs.Waiting.{Undisturbed, duePoll}
 use Rattle.promises.specs.Keys.{asked}
 use Rattle.promises.specs.KeysReach.{Reaches}
 use Rattle.promises.specs.Shown.{polledAt70}
-use Rattle.promises.specs.Bounded.{Fresh, ReportsLost, AtOrPast, DueAfter, OutOrRemoved, out, removed, Within, LeavesWithin, WaitsBounded, WorkBounded}
+use Rattle.promises.specs.Bounded.{Fresh, heightAt, LosesLevels, ReportsLost, AtOrPast, DueAfter, OutOrRemoved, out, removed, Within, LeavesWithin, WaitsBounded, WorkBounded}
 use Rattle.promises.proofs.laws.Decided.{fits-dec, range-dec}
 use Rattle.promises.proofs.laws.OneCall.{call-sound, fits, one-made, insert-shown}
 use Rattle.promises.proofs.laws.Runs.{run-sound}
 use Rattle.promises.proofs.laws.Views.{call-goes}
+use Rattle.promises.proofs.laws.Polling.{one-list, poll-parts}
 use Rattle.promises.proofs.laws.Moves.{moves-are-heights, moves-bounded}
 use Rattle.promises.proofs.laws.Waiting.{pending-some, counted, Went, waits, comes, leaves, went, dead-run}
 use Rattle.promises.proofs.laws.Shown.{waiting, waiting-deadline, waiting-pending, waited-shown}
@@ -48,6 +58,57 @@ fresh-formatted {t} F = by (fits-dec (F .lent) (F .n)) (range-dec (F .turn))
     by (yes x) (no f) = absurd (not-refused (F .formats .outside x f .told))
     by (yes x) (yes y) = F .formats .done x y
 
+-- the nearer elapsed is to a deadline, the lower is its level
+level-falls : (e f w : ℕ) → e ≤ f → f ≤ w → levelOf f w ≤ levelOf e w
+level-falls e f w h g =
+    let k = levelOf f w in
+    by-cases (decLt (levelOf e w) k)
+    (λ l.
+    let a = level-is e w .above k l (level-is f w .within) in
+    absurd (level-is f w .differ (omega arith) (omega (arith, a, quotient-le k h, quotient-le k g))))
+    (λ l. omega arith)
+
+level-self : (e : ℕ) → levelOf e e ≡ 0
+level-self e = by-cases (decLt 0 (levelOf e e)) (λ h. absurd (level-is e e .differ h refl)) (λ h. omega arith)
+
+slot-level : (p e w : ℕ) → OnWheel p e w → levelAt p ≡ levelOf e w
+unfolding placeFor
+slot-level p e w o = omega (arith, o .place, slot-lt w (levelOf e w))
+
+-- a pending timer is not before elapsed, and its height is the level of its deadline
+timer-height : {s : QueueWords} → Sound s → {y p : ℕ} → At (view s) y p
+    → (elapsed s ≤ view s .deadline y) × (heightAt p ≡ levelOf (elapsed s) (view s .deadline y))
+timer-height {s} S {y} {p} a =
+    by-cases (decLt p slots)
+    (λ h.
+    let o = S .rule .wheel p y h (a .member) in
+    (o .late, rw (lt-ltb p slots h) (slot-level p (elapsed s) (view s .deadline y) o)))
+    (λ h.
+    let e : p ≡ expired = omega arith in
+    let w : view s .deadline y ≡ elapsed s = S .rule .stack y (rw e at (a .member)) in
+    (omega arith, rw (le-ltb p slots (omega arith), w) (sym (level-self (elapsed s)))))
+
+module _ {s : QueueWords} (S : Sound s) {now : ℕ} (h : elapsed s ≤ now) {a : Answer} {t : QueueWords} (P : PollClaim s now a t) where
+  clock-on : elapsed s ≤ elapsed t
+  clock-on = by (poll-parts S h P .got) (poll-parts S h P .clock)
+    where
+      by : (o : Option ℕ) → elapsed t ≡ clockAfter (view s .deadline) now (elapsed s) o → elapsed s ≤ elapsed t
+      by none c = omega arith
+      by (some r) c = omega arith
+
+  poll-loses : LosesLevels (view s) (movesOf (told a)) (view t)
+  poll-loses =
+      record {
+        lost = moves-are-heights S h P;
+        none-rises = λ y p q x z.
+            let before = timer-height S x in
+            let after = timer-height (P .good S .done h .0) z in
+            let same : view t .deadline y ≡ view s .deadline y = λ i. poll-parts S h P .deadline i y in
+            let falls = level-falls (elapsed s) (elapsed t) (view s .deadline y) clock-on (omega arith) in
+            let now-at : heightAt q ≡ levelOf (elapsed t) (view s .deadline y) = after .1 ∙ ap (levelOf (elapsed t)) same in
+            omega (arith, before .1);
+      }
+
 -- a poll before elapsed is refused, reports nothing and changes nothing
 poll-lost : {s : QueueWords} (x : Asked) (t : QueueWords) → Sound s → CallClaim (x .call) s (x .answer) t → ReportsLost s x t
 poll-lost {s} x t S A now e =
@@ -55,8 +116,14 @@ poll-lost {s} x t S A now e =
     by-cases (decLt now (elapsed s))
     (λ h.
     let R = P .good S .back h in
-    omega (arith, ap movesOf (R .told), ap (λ z. heights (view z .lists)) (R .same)))
-    (λ h. moves-are-heights S (omega arith) P)
+    record {
+      lost = omega (arith, ap movesOf (R .told), ap (λ z. heights (view z .lists)) (R .same));
+      none-rises = λ y p q a b.
+          let c : At (view s) y q = rw (R .same) at b in
+          let z : p ≡ q = one-list S y p q (a .member) (c .member) in
+          rw z (omega arith);
+    })
+    (λ h. poll-loses S (omega arith) P)
 
 -- "each poll reports as many moves as the pending timers lost in levels during it": so from any sound store
 pub each-lost : {s u : QueueWords} {l : List Asked} → Sound s → (R : Runs s l u) → Each ReportsLost R
