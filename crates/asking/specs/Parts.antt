@@ -9,17 +9,10 @@ use Rattle.delay_queue.specs.declared.Call.{Call}
 use Rattle.delay_queue.specs.declared.Call.the-variants as C
 use Rattle.asking.specs.declared.Line.{Line}
 use Rattle.asking.specs.declared.Line.the-variants as L
-use Rattle.asking.specs.declared.Num.{Num}
-use Rattle.asking.specs.declared.Num.the-variants as N
 use Rattle.asking.specs.declared.Fields.{Fields}
 use Rattle.asking.specs.declared.Fields.the-variants as F
-use Rattle.decimals.specs.Text.{Decimal, Spaced}
+use Rattle.decimals.specs.Text.{Spaced}
 use Rattle.asking.specs.Text.{letter}
-
--- what l says as a decimal
-abbrev pub NumberOf : List ℕ → Num → Type 0
-NumberOf l (N.Is n) = Decimal l n
-NumberOf l N.Bad = (n : ℕ) → Decimal l n → ⊥
 
 -- the first field of l ends at e
 pub record EndsAt (l : List ℕ) (e : ℕ) : Type 0 where

@@ -1,20 +1,15 @@
 // Lines to calls.
+use decimals::Num;
 use delay_queue::Call;
 ghost use mathlib.Core.Path.{_≡_};
 ghost use mathlib.Core.List.{_∷_};
 ghost use Rattle.contracts.specs.Lent.{old};
 ghost use Rattle.asking.specs.Text.{ReadClaim};
-ghost use Rattle.asking.specs.Parts.{NumberOf, EndsAt, Holds, callOf};
+ghost use Rattle.asking.specs.Parts.{EndsAt, Holds, callOf};
 
 // What a line asks: one call, or nothing that the bench knows.
 pub enum Line {
     Asks(Call),
-    Bad,
-}
-
-// What bytes say as a decimal.
-enum Num {
-    Is(u64),
     Bad,
 }
 
@@ -24,40 +19,6 @@ enum Fields {
     One(u64),
     Two(u64, u64),
     Bad,
-}
-
-// The number that s, from its first byte to its last, is the decimal of.
-fn number(s: &[u8]) -> Num
-    ensures { λ r. ⌜ NumberOf (old s) r ⌝ }
-{
-    if s.len() == 0 {
-        return Num::Bad;
-    }
-    // a zero in front of another digit is spare
-    if 1 < s.len() {
-        if s[0] == b'0' {
-            return Num::Bad;
-        }
-    }
-    let mut acc: u64 = 0;
-    let mut i: usize = 0;
-    while i < s.len() {
-        let b = s[i];
-        if b < b'0' {
-            return Num::Bad;
-        }
-        if b'9' < b {
-            return Num::Bad;
-        }
-        let d = (b - b'0') as u64;
-        // acc * 10 + d would not fit a u64
-        if (u64::MAX - d) / 10 < acc {
-            return Num::Bad;
-        }
-        acc = acc * 10 + d;
-        i += 1;
-    }
-    Num::Is(acc)
 }
 
 // Where the first field of s ends: at the first space, or at the end.
@@ -80,7 +41,7 @@ fn one_or_two(s: &[u8]) -> Fields
     ensures { λ r. ⌜ Holds (32 ∷ old s) r ⌝ }
 {
     let e = field_end(s);
-    let x = number(&s[..e]);
+    let x = decimals::number(&s[..e]);
     let Num::Is(a) = x else {
         return Fields::Bad;
     };
@@ -88,7 +49,7 @@ fn one_or_two(s: &[u8]) -> Fields
         return Fields::One(a);
     }
     let f = e + 1;
-    let y = number(&s[f..]);
+    let y = decimals::number(&s[f..]);
     let Num::Is(b) = y else {
         return Fields::Bad;
     };

@@ -10,7 +10,7 @@ ghost use Rattle.records.specs.Store.{before, after};
 ghost use Rattle.bench.specs.Line.{LineClaim};
 
 // Where the answer ends in what is written, and the state and the heads after it.
-pub struct Step {
+pub struct Answered {
     pub at: usize,
     pub state: Wheel,
     pub heads: Heads,
@@ -29,7 +29,7 @@ pub fn answer_line(
     marks: &mut [u16],
     out: &mut [u8],
     at: usize,
-) -> Step
+) -> Answered
     ensures { λ r. ⌜
         LineClaim
         (old line)
@@ -58,7 +58,7 @@ pub fn answer_line(
             let after = reply.state;
             let rows = reply.heads;
             let end = write_answer(out, at, answer);
-            Step {
+            Answered {
                 at: end,
                 state: after,
                 heads: rows,
@@ -67,7 +67,7 @@ pub fn answer_line(
         Line::Bad => {
             let end = write_bad(out, at);
             let rows = delay_queue::heads_of(heads);
-            Step {
+            Answered {
                 at: end,
                 state,
                 heads: rows,

@@ -1,3 +1,4 @@
 pub mod Decimals
 pub mod Spacing
 pub mod Plain
+pub mod Number

@@ -1,4 +1,4 @@
-// The replay bench: standard input to its end, each line answered with one.
+// The replay bench with the contents of all lists behind each answer, once there is a store.
 fn main() {
-    serve::replay();
+    serve::replay_lists();
 }

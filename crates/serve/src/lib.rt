@@ -1,47 +1,31 @@
-// The replay program: reads standard input to its end and answers each line with one, buffered both ways. It can show the lists too.
+// The replay program: reads standard input to its end and answers each line with one. It can show the lists too.
+// What is read and written no contract can say: it reads a chunk, has `feed` answer its lines until it is used up, and
+// writes all that was answered after each call, so that nothing waits while it reads. That is a `Serving` of crates/feed,
+// whose law `all-answered` says what is written.
 use contents::Pen;
 use delay_queue::Heads;
 use libc::STDERR_FILENO;
 use libc::STDIN_FILENO;
 use libc::STDOUT_FILENO;
-use stack::Stacks;
 use wheel::Wheel;
 ghost use mathlib.Core.Path.{_≡_};
-ghost use Prim.Native.Nat.{_≤_, _<_};
-ghost use lib.ListN.{length};
-ghost use Rattle.contracts.specs.Lent.{old};
+ghost use mathlib.Core.Bool.{true, false};
+ghost use mathlib.Core.List.{[]};
+ghost use Prim.Native.Nat.{_≤_};
+ghost use lib.ListN.{length, take};
+ghost use Rattle.contracts.specs.Lent.{old, new};
+ghost use Rattle.records.specs.Store.{before, after};
+ghost use Rattle.feed.specs.Feed.{answerRoom};
+ghost use Rattle.feed.specs.Serving.{AllFed};
 
-// Whether each answer is followed by the contents of the lists, how many bytes of an unfinished line are kept, how many bytes wait
-// to be written, the store, and whether all writes went well.
+// Whether each answer is followed by the contents of the lists, how many bytes of an unfinished line are kept, the store,
+// and whether all writes went well.
 struct Progress {
     lists: bool,
     kept: usize,
-    at: usize,
     state: Wheel,
     heads: Heads,
     fine: bool,
-}
-
-// No store yet: no record, so that it is not sound.
-fn no_store() -> Wheel {
-    let occupied = [0u64; 6];
-    let stacks = Stacks {
-        n: 0,
-        expired: links::NOBODY,
-        free: links::NOBODY,
-    };
-    Wheel {
-        elapsed: 0,
-        occupied,
-        stacks,
-    }
-}
-
-// Writes what waits.
-fn flush(out: &[u8], at: usize) -> bool
-    requires { ⌜ at ≤ length (now out) ⌝ }
-{
-    io::write_all(STDOUT_FILENO, &out[..at])
 }
 
 // Behind an answer: the contents of the lists, where they are wanted and there is a store.
@@ -61,6 +45,10 @@ fn show(
     if !lists {
         return pen;
     }
+    // no line has ended
+    if at == 0 {
+        return pen;
+    }
     let stacks = state.stacks;
     if stacks.n == 0 {
         return pen;
@@ -69,166 +57,37 @@ fn show(
     contents::write_lists(out, pen, state, rows, nexts)
 }
 
-// Answers the first n bytes that are kept, a line, and writes what waits when another answer might not fit behind it.
-fn answer(
+// Writes the answers, which end at `at`, and what is shown behind them. Says whether all writes went well.
+fn put(
     lists: bool,
-    line: &[u8],
-    n: usize,
-    state: Wheel,
-    heads: [[u16; 64]; 6],
-    values: &mut [u64],
-    deadlines: &mut [u64],
-    nexts: &mut [u16],
-    prevs: &mut [u16],
-    turns: &mut [u64],
-    marks: &mut [u16],
     out: &mut [u8],
     at: usize,
     fine: bool,
-) -> Progress
-    requires { ⌜ (n ≤ length (now line)) × (at ≤ length (now out)) × (length (now out) ≡ 4096) ⌝ }
-    ensures { λ r. ⌜ (r .kept ≤ 81) × (r .at ≤ 4096) ⌝ }
+    state: Wheel,
+    heads: Heads,
+    nexts: &[u16],
+) -> bool
+    requires { ⌜ at ≤ length (now out) ⌝ }
 {
-    let step = bench::answer_line(
-        &line[..n],
-        state,
-        heads,
-        values,
-        deadlines,
-        nexts,
-        prevs,
-        turns,
-        marks,
-        out,
-        at,
-    );
-    let after = step.state;
-    let rows = step.heads;
-    let pen = show(lists, out, step.at, fine, after, rows, nexts);
+    let pen = show(lists, out, at, fine, state, heads, nexts);
     let end = pen.at;
-    // an answer has at most 109 bytes: behind these the next one fits
-    if end < 3988 {
-        return Progress {
-            lists,
-            kept: 0,
-            at: end,
-            state: after,
-            heads: rows,
-            fine: pen.fine,
-        };
-    }
-    let written = flush(out, end);
-    Progress {
-        lists,
-        kept: 0,
-        at: 0,
-        state: after,
-        heads: rows,
-        fine: pen.fine & written,
-    }
+    let written = io::write_all(STDOUT_FILENO, &out[..end]);
+    pen.fine & written
 }
 
-// The same where the line has ended; where it goes on, it is kept.
-fn close(
-    ended: bool,
-    lists: bool,
-    line: &[u8],
-    n: usize,
-    state: Wheel,
-    heads: [[u16; 64]; 6],
-    values: &mut [u64],
-    deadlines: &mut [u64],
-    nexts: &mut [u16],
-    prevs: &mut [u16],
-    turns: &mut [u64],
-    marks: &mut [u16],
-    out: &mut [u8],
-    at: usize,
-    fine: bool,
-) -> Progress
-    requires { ⌜ (n ≤ 81) × (n ≤ length (now line)) × (at ≤ length (now out)) × (length (now out) ≡ 4096) ⌝ }
-    ensures { λ r. ⌜ (r .kept ≤ 81) × (r .at ≤ 4096) ⌝ }
+// The room for answers: where the lists are shown, that for a single one, so that they are shown behind each.
+fn room(lists: bool) -> usize
+    ensures { λ r. ⌜ (lists ≡ true → r ≡ answerRoom) × (lists ≡ false → r ≡ 4096) × (answerRoom ≤ r) × (r ≤ 4096) ⌝ }
 {
-    if ended {
-        return answer(
-            lists,
-            line,
-            n,
-            state,
-            heads,
-            values,
-            deadlines,
-            nexts,
-            prevs,
-            turns,
-            marks,
-            out,
-            at,
-            fine,
-        );
+    if lists {
+        return feed::ANSWER_ROOM;
     }
-    let rows = delay_queue::heads_of(heads);
-    Progress {
-        lists,
-        kept: n,
-        at,
-        state,
-        heads: rows,
-        fine,
-    }
+    4096
 }
 
-// Where the line that goes on at i ends: at its newline, or where what was read does.
-fn line_end(got: &[u8], i: usize) -> usize
-    requires { ⌜ i ≤ length (now got) ⌝ }
-    ensures { λ r. ⌜ (i ≤ r) × (r ≤ length (old got)) ⌝ }
-{
-    let mut e = i;
-    while e < got.len() {
-        if got[e] == 10 {
-            return e;
-        }
-        e += 1;
-    }
-    e
-}
-
-// Where the next line goes on.
-fn past(i: usize, e: usize, n: usize) -> usize
-    requires { ⌜ (i ≤ e) × (e ≤ n) × (i < n) ⌝ }
-    ensures { λ r. ⌜ (i < r) × (r ≤ n) ⌝ }
-{
-    if e < n {
-        return e + 1;
-    }
-    e
-}
-
-fn least(a: usize, b: usize) -> usize
-    ensures { λ r. ⌜ (r ≤ a) × (r ≤ b) ⌝ }
-{
-    if a < b {
-        return a;
-    }
-    b
-}
-
-// Keeps the bytes from i to e behind the n that are kept. Of a line that is too long the first 81 are, which say that it is.
-fn keep(line: &mut [u8], n: usize, got: &[u8], i: usize, e: usize) -> usize
-    requires { ⌜ (n ≤ 81) × (length (now line) ≡ 81) × (i ≤ e) × (e ≤ length (now got)) ⌝ }
-    ensures { λ r. ⌜ r ≤ 81 ⌝ }
-{
-    let most = least(81 - n, e - i);
-    let mut j: usize = 0;
-    while j < most {
-        line[n + j] = got[i + j];
-        j += 1;
-    }
-    n + most
-}
-
-// Takes what was read, and answers each line that ends in it.
-fn feed(
+// Answers each line that ends in what was read, and writes the answers: which these are is claimed, not that they are
+// written.
+fn answer(
     got: &[u8],
     line: &mut [u8],
     run: Progress,
@@ -240,57 +99,57 @@ fn feed(
     marks: &mut [u16],
     out: &mut [u8],
 ) -> Progress
-    requires { ⌜ (run .kept ≤ 81) × (run .at ≤ 4096) × (length (now line) ≡ 81) × (length (now out) ≡ 4096) ⌝ }
-    ensures { λ r. ⌜ (r .kept ≤ 81) × (r .at ≤ 4096) ⌝ }
+    requires { ⌜ (run .kept ≤ 81) × (length (now line) ≡ 81) × (length (now out) ≡ 4096) ⌝ }
+    ensures { λ r. ⌜ r .kept ≤ 81 ⌝ }
+    ensures { λ r. ⌜
+        AllFed
+        (length (old line))
+        (take (run .kept) (old line))
+        (old got)
+        (before (run .state) (run .heads .rows) values deadlines nexts prevs turns marks)
+        (take (r .kept) (new line))
+        []
+        (after (r .state) (r .heads .rows) values deadlines nexts prevs turns marks) ⌝ }
 {
     let lists = run.lists;
+    let most = room(lists);
     let mut n = run.kept;
-    let mut at = run.at;
     let mut state = run.state;
-    let heads = run.heads;
-    let mut rows = delay_queue::rows_of(heads);
+    let mut heads = run.heads;
     let mut fine = run.fine;
     let mut i: usize = 0;
     while i < got.len() {
-        let e = line_end(got, i);
-        let m = keep(line, n, got, i, e);
-        let r = close(
-            e < got.len(),
-            lists,
+        let r = feed::answer_lines(
+            got,
+            i,
             line,
-            m,
+            n,
             state,
-            rows,
+            heads,
             values,
             deadlines,
             nexts,
             prevs,
             turns,
             marks,
-            out,
-            at,
-            fine,
+            &mut out[..most],
         );
+        i = r.next;
         n = r.kept;
-        at = r.at;
         state = r.state;
-        let h = r.heads;
-        rows = delay_queue::rows_of(h);
-        fine = r.fine;
-        i = past(i, e, got.len());
+        heads = r.heads;
+        fine = put(lists, out, r.at, fine, state, heads, nexts);
     }
-    let h = delay_queue::heads_of(rows);
     Progress {
         lists,
         kept: n,
-        at,
         state,
-        heads: h,
+        heads,
         fine,
     }
 }
 
-// Answers a last line that has no newline, and writes what waits.
+// Answers a last line that has no newline.
 fn finish(
     line: &[u8],
     run: Progress,
@@ -302,20 +161,15 @@ fn finish(
     marks: &mut [u16],
     out: &mut [u8],
 )
-    requires { ⌜ (run .kept ≤ 81) × (run .at ≤ 4096) × (length (now line) ≡ 81) × (length (now out) ≡ 4096) ⌝ }
+    requires { ⌜ (run .kept ≤ 81) × (length (now line) ≡ 81) ⌝ }
 {
     let n = run.kept;
-    let at = run.at;
     let state = run.state;
     let heads = run.heads;
-    let rows = delay_queue::rows_of(heads);
-    let r = close(
-        0 < n,
-        run.lists,
-        line,
-        n,
+    let r = feed::answer_last(
+        &line[..n],
         state,
-        rows,
+        heads,
         values,
         deadlines,
         nexts,
@@ -323,17 +177,16 @@ fn finish(
         turns,
         marks,
         out,
-        at,
-        run.fine,
     );
-    let end = r.at;
-    let written = flush(out, end);
-    if !(r.fine & written) {
+    let after = r.state;
+    let left = r.heads;
+    if !put(run.lists, out, r.at, run.fine, after, left, nexts) {
         io::write_all(STDERR_FILENO, b"replay: cannot write\n");
     }
 }
 
-// Reads until the input ends. A proved loop has to end, so it counts its turns down from a number that no run uses up.
+// Reads until the input ends; where it cannot be read any more, a line that has not ended stays unanswered. A proved loop
+// has to end, so it counts its turns down from a number that no run uses up.
 fn serve(
     line: &mut [u8],
     start: Progress,
@@ -345,7 +198,7 @@ fn serve(
     marks: &mut [u16],
     out: &mut [u8],
 )
-    requires { ⌜ (start .kept ≤ 81) × (start .at ≤ 4096) × (length (now line) ≡ 81) × (length (now out) ≡ 4096) ⌝ }
+    requires { ⌜ (start .kept ≤ 81) × (length (now line) ≡ 81) × (length (now out) ≡ 4096) ⌝ }
 {
     let mut buf = io::buffer();
     let mut run = start;
@@ -355,8 +208,9 @@ fn serve(
         let got = libc::read(STDIN_FILENO, &mut buf);
         if got < 0 {
             io::write_all(STDERR_FILENO, b"replay: cannot read\n");
+            return;
         }
-        if got <= 0 {
+        if got == 0 {
             finish(
                 line,
                 run,
@@ -371,7 +225,7 @@ fn serve(
             return;
         }
         let k = io::count(got, &buf);
-        run = feed(
+        run = answer(
             &buf[..k],
             line,
             run,
@@ -419,7 +273,7 @@ pub fn replay() {
 }
 
 // The same, and behind each answer stand the contents of the lists, once there is a store.
-pub fn replay_contents() {
+pub fn replay_lists() {
     with_room(true);
 }
 
@@ -435,11 +289,10 @@ fn with_room(lists: bool) {
     let mut out = io::buffer();
     let rows = no_heads();
     let heads = delay_queue::heads_of(rows);
-    let state = no_store();
+    let state = delay_queue::no_store();
     let start = Progress {
         lists,
         kept: 0,
-        at: 0,
         state,
         heads,
         fine: true,

@@ -21,8 +21,8 @@ fn main() -> ExitCode {
 fn run(cases: &Path, folder: &Path) -> Result<bool, String> {
     let lists = [
         ("replay", worked(cases)?),
-        ("replay_lists", answers(cases)?),
-        ("replay_contents", contents()?),
+        ("replay_oracle", answers(cases)?),
+        ("replay_lists", contents()?),
     ];
     let files = lists.iter().flat_map(|(name, script)| {
         let list = folder.join("crates").join(name);

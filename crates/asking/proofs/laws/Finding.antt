@@ -16,7 +16,7 @@ use Rattle.decimals.specs.Text.{Spaced}
 use Rattle.asking.specs.Text.{letter, numbers, Says, ReadClaim}
 use Rattle.decimals.proofs.laws.Spacing.{one-list}
 use Rattle.asking.specs.Parts.{Holds, fieldsOf, calls, pick, first, callOf}
-use Rattle.asking.proofs.laws.Asking.{same-call, own, many}
+use Rattle.asking.proofs.laws.Asking.{same-call, own, many, one-call}
 use Rattle.asking.proofs.laws.Reading.{from}
 
 -- ---- the first call with a letter
@@ -66,6 +66,14 @@ claim l r only all = record { asks = λ c. (only c, all c); bad = (unsaid, unrea
 
 nothing : (l : List ℕ) → ((c : Call) → Says l c → ⊥) → ReadClaim l L.Bad
 nothing l n = claim l L.Bad (λ c e. let z : _≡_ {A = ℕ} 0 1 = cc in absurd (omega arith)) (λ c s. absurd (n c s))
+
+something : (l : List ℕ) (c : Call) → Says l c → ReadClaim l (L.Asks c)
+something l c s =
+    claim l (L.Asks c) (λ d e. subst (λ (x : Call). Says l x) (same-call e) s) (λ d z. ap (λ (x : Call). L.Asks x) (one-call s z))
+
+-- any line may be taken as read where the goal can be tested: it says a call or none
+pub as-read : (l : List ℕ) {P : Type 0} → Dec P → ((r : Line) → ReadClaim l r → P) → P
+as-read l d f = by-cases d (λ p. p) (λ k. absurd (k (f L.Bad (nothing l (λ c s. k (f (L.Asks c) (something l c s)))))))
 
 pub empty-line : (l : List ℕ) → length l ≡ 0 → ReadClaim l L.Bad
 empty-line l h = nothing l (λ c s. omega (arith, ap (λ t. length t) (s .line)))

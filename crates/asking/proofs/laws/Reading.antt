@@ -2,92 +2,21 @@
 use mathlib.Core.Path.{_≡_, refl, sym, ap, ap₂, _∙_, subst}
 use mathlib.Core.List.{List, [], _∷_, _++_, nil≢cons, append-nil, tail-eq-of-cons-eq}
 use mathlib.Core.Logic.{by-cases}
-use Prim.Native.Nat.{ℕ, _+_, _-_, _*_, _^_, _≤_, _<_}
-use native.Mathlib.Nat.{one-le-pow, mul-le-mul-left}
-use borrow.Author.Count.{below-more}
-use native.Mathlib.Numerals.{add-one}
+use Prim.Native.Nat.{ℕ, _+_, _-_, _≤_, _<_}
 use native.Mathlib.Decide.{decLt}
 use native.Mathlib.Omega.{arith}
 use lib.ListN.{length, take, drop, getD, length-take, length-drop, take-append-drop, drop-of-length-le}
-use lib.Seq.{drop-cons, take-all, getD-take}
+use lib.Seq.{take-all, getD-take}
 use Rattle.asking.specs.declared.Fields.{Fields}
 use Rattle.asking.specs.declared.Fields.the-variants as F
-use Rattle.decimals.specs.Text.{worth, Decimal, Spaced}
+use Rattle.decimals.specs.Text.{Decimal, Spaced}
 use Rattle.asking.specs.Parts.{EndsAt, Holds}
-use Rattle.decimals.proofs.laws.Decimals.{shift}
+use Rattle.decimals.proofs.laws.Number.{drop-one}
 use Rattle.decimals.proofs.laws.Spacing.{Whole, Ends, whole, ends, cut}
 
 -- `&s[i..]` is the list from the place i on
 pub from : (s : List ℕ) (i : ℕ) → take (length s - i) (drop i s) ≡ drop i s
 from s i = take-all (length s - i) (drop i s) (simp length-drop (omega arith))
-
-drop-one : (s : List ℕ) (i : ℕ) → i < length s → drop i s ≡ getD s i 0 ∷ drop (i + 1) s
-drop-one s i h = rw (add-one, drop-cons s i 0)
-
--- ---- a decimal, the first digit first: the first i bytes of s are read, as acc
-
-pub record Front (s : List ℕ) (i acc : ℕ) : Type 0 where
-  pub some : 0 < length s
-  pub spare : 1 < length s → getD s 0 0 ≡ 48 → ⊥
-  pub within : i ≤ length s
-  pub digits : (k : ℕ) → k < i → (48 ≤ getD s k 0) × (getD s k 0 ≤ 57)
-  pub number : worth s ≡ acc * 10 ^ length (drop i s) + worth (drop i s)
-  pub fits : acc < 2 ^ 64
-
-pub front-none : (s : List ℕ) → 0 < length s → (1 < length s → getD s 0 0 ≡ 48 → ⊥) → Front s 0 0
-front-none s h z = record {
-  some = h;
-  spare = z;
-  within = omega arith;
-  digits = λ k l. absurd (omega arith);
-  number = omega arith;
-  fits = omega arith;
-}
-
-pub front-end : {s : List ℕ} {i acc : ℕ} → Front s i acc → length s ≤ i → Decimal s acc
-unfolding worth
-front-end {s} {i} {acc} h l =
-    record {
-      some = h .some;
-      digits = λ k m. h .digits k (omega arith);
-      spare = h .spare;
-      number = h .number ∙ ap (λ t. acc * 10 ^ length t + worth t) (drop-of-length-le s l) ∙ omega arith;
-      fits = h .fits;
-    }
-
-module _ {s : List ℕ} {i acc : ℕ} (h : Front s i acc) (l : i < length s) where
-  abbrev b : ℕ
-  b = getD s i 0
-
-  abbrev next : ℕ
-  next = acc * 10 + (b - 48)
-
-  step : worth s ≡ next * 10 ^ length (drop (i + 1) s) + worth (drop (i + 1) s)
-  unfolding worth
-  step =
-      h .number
-      ∙ ap (λ t. acc * 10 ^ length t + worth t) (drop-one s i l)
-      ∙ shift acc (b - 48) (length (drop (i + 1) s)) (worth (drop (i + 1) s))
-
-  pub front-more : 48 ≤ b → b ≤ 57 → next < 2 ^ 64 → Front s (i + 1) next
-  front-more low high f =
-      record {
-        some = h .some;
-        spare = h .spare;
-        within = omega arith;
-        digits = below-more _ i (h .digits) (low, high);
-        number = step;
-        fits = f;
-      }
-
-  -- a digit that makes the number too large, and a byte that is no digit, are in no decimal
-  pub front-big : 2 ^ 64 ≤ next → (n : ℕ) → Decimal s n → ⊥
-  front-big f n d =
-      let p : 1 ≤ 10 ^ length (drop (i + 1) s) = one-le-pow (length (drop (i + 1) s)) 10 (omega arith) in
-      omega (arith, mul-le-mul-left next p, step)
-
-  pub front-odd : ((48 ≤ b) × (b ≤ 57) → ⊥) → (n : ℕ) → Decimal s n → ⊥
-  front-odd o n d = o (omega (arith, d .digits i l), omega (arith, d .digits i l))
 
 -- ---- one or two numbers behind a space
 

@@ -1,96 +1,170 @@
--- `answer` meets its contract: what waits lies within what is lent (`line-within`).
+-- `answer` meets its contract: a call goes forth, since it has room for an answer (`feed-forth`), and call by call all of the chunk is
+-- answered (`all-more`, `all-used`).
 use borrow.Author.Needs.{needs}
+use mathlib.Core.Path.{_≡_, refl, _∙_}
 use native.Mathlib.Omega.{arith}
-use lib.ListN.{length-take}
-use Rattle.bench.proofs.laws.Line.{line-within}
+use Prim.Native.Nat.{_-_, _≤_}
+use lib.ListN.{length, take, drop, length-append, length-take, length-drop}
+use Rattle.records.specs.Words.{words}
+use Rattle.feed.specs.Serving.{AllFed}
+use Rattle.feed.proofs.laws.Turns.{feed-forth, feed-fits, feed-room}
+use Rattle.feed.proofs.laws.Serving.{all-none, all-more, all-used}
 use Rattle.serve.proofs.answer.Statement.{statement}
 use Rattle.serve.proofs.answer.Tie as tie
 
-abbrev to-answer-line : tie.After-show-arg2 → tie.After-answer-line
-to-answer-line c =
+abbrev Inv-loop : tie.InvT-loop
+Inv-loop got line₀ values₀ deadlines₀ nexts₀ prevs₀ turns₀ marks₀ out₀ lists most n₀ state₀ heads₀ fine₀ i₀ line values deadlines nexts prevs turns
+    marks out n state heads fine i =
+    (n ≤ 81)
+    × AllFed (length line₀) (take n₀ line₀) got (words state₀ (heads₀ .rows) values₀ deadlines₀ nexts₀ prevs₀ turns₀ marks₀) (take n line)
+    (drop i got)
+    (words state (heads .rows) values deadlines nexts prevs turns marks)
+    × (length line ≡ length line₀)
+    × (length values ≡ length values₀)
+    × (length deadlines ≡ length deadlines₀)
+    × (length nexts ≡ length nexts₀)
+    × (length prevs ≡ length prevs₀)
+    × (length turns ≡ length turns₀)
+    × (length marks ≡ length marks₀)
+    × (length out ≡ length out₀)
+
+abbrev μ-loop : tie.MeasureT-loop
+μ-loop got line₀ values₀ deadlines₀ nexts₀ prevs₀ turns₀ marks₀ out₀ lists most n₀ state₀ heads₀ fine₀ i₀ line values deadlines nexts prevs turns
+    marks out n state heads fine i =
+    length got - i
+
+abbrev to-answered : tie.After-put-arg2 Inv-loop μ-loop → tie.After-answer-lines Inv-loop μ-loop
+to-answered c =
     let a = c .before .before .before .before in
     let b = a .before .before .before .before in
     let d = b .before .before .before .before in
     let e = d .before .before .before .before in
-    e .before .before
+    e .before .before .before .before
 
-abbrev to-start : tie.After-answer-line → tie.Start
+abbrev to-put : tie.After-slice-known17 Inv-loop μ-loop → tie.After-put-arg2 Inv-loop μ-loop
+to-put c = c .before .before .before
+
+abbrev to-lent : tie.After-answer-lines Inv-loop μ-loop → tie.After-answer-lines-arg8 Inv-loop μ-loop
+to-lent c = c .before
+
+abbrev to-loop : tie.After-answer-lines-arg8 Inv-loop μ-loop → tie.In-loop Inv-loop μ-loop
+to-loop c =
+    let a = c .before .before .before .before in
+    a .before .before .before .before
+
+abbrev to-room : tie.In-loop Inv-loop μ-loop → tie.After-room Inv-loop μ-loop
+to-room c = c .before .before .before .before
+
+abbrev to-start : tie.After-room Inv-loop μ-loop → tie.Start Inv-loop μ-loop
 to-start c =
     let a = c .before .before .before .before in
     let b = a .before .before .before .before in
-    let d = b .before .before .before .before in
-    let e = d .before .before .before .before in
-    e .before
+    b .before .before
 
-slice-aggregate-answer-line : tie.Need-slice-aggregate-answer-line
-slice-aggregate-answer-line c = simp length-take (omega arith)
+room-requires : tie.Need-room-requires Inv-loop μ-loop
+room-requires c κs = search needs
 
-answer-line-requires : tie.Need-answer-line-requires
-answer-line-requires c κs = search needs
+loop-holds : tie.Need-loop-holds Inv-loop μ-loop
+loop-holds c = (search needs, all-none, refl, refl, refl, refl, refl, refl, refl, refl)
 
-show-requires : tie.Need-show-requires
-show-requires c κs =
-    let at-answer-line = to-answer-line c in
-    omega (arith, line-within (at-answer-line .answer-line .ensures) (to-start at-answer-line .pre .1), at-answer-line .answer-line .kept)
+slice-relend-prefix-answer-lines : tie.Need-slice-relend-prefix-answer-lines Inv-loop μ-loop
+slice-relend-prefix-answer-lines c = search needs
 
-same-length : tie.Need-same-length
-same-length c = search needs
+slice-aggregate-answer-lines : tie.Need-slice-aggregate-answer-lines Inv-loop μ-loop
+slice-aggregate-answer-lines c =
+    let at-loop = to-loop c in
+    let at-room = to-room at-loop in
+    simp length-take (omega (arith, at-room .room .ensures .3, at-loop .before .loop .inv .9, to-start at-room .pre .2))
 
-same-length-2 : tie.Need-same-length-2
-same-length-2 c = search needs
+answer-lines-requires : tie.Need-answer-lines-requires Inv-loop μ-loop
+answer-lines-requires c κs = search needs
 
-same-length-3 : tie.Need-same-length-3
-same-length-3 c = search needs
+put-requires : tie.Need-put-requires Inv-loop μ-loop
+put-requires c κs =
+    let A = to-answered c .answer-lines in
+    simp length-append (omega (arith, feed-room (A .ensures) (omega arith)))
 
-same-length-4 : tie.Need-same-length-4
-same-length-4 c = search needs
+loop-less : tie.Need-loop-less Inv-loop μ-loop
+loop-less c =
+    let at-answered = to-answered (to-put c) in
+    let at-loop = to-loop (to-lent at-answered) in
+    let at-room = to-room at-loop in
+    let h = at-loop .loop-test .taken in
+    let M = at-room .room in
+    let most = length-take (M .result) (at-loop .before .loop .out) in
+    let R = to-start at-room .pre in
+    omega (
+      arith,
+      h,
+      feed-forth (at-answered .answer-lines .ensures)
+          (h, omega (arith, M .ensures .2, M .ensures .3, at-loop .before .loop .inv .9, R .2, most)),
+    )
 
-same-length-5 : tie.Need-same-length-5
-same-length-5 c = search needs
+loop-again : tie.Need-loop-again Inv-loop μ-loop
+loop-again c =
+    let at-answered = to-answered (to-put c) in
+    let at-loop = to-loop (to-lent at-answered) in
+    let at-room = to-room at-loop in
+    let I = at-loop .before .loop .inv in
+    let R = to-start at-room .pre in
+    let A = at-answered .answer-lines in
+    let lengths = A .kept in
+    let six = lengths .1 .1 .1 .1 .1 .1 in
+    let most = length-take (at-room .room .result) (at-loop .before .loop .out) in (
+      omega (arith, feed-fits (A .ensures) (omega (arith, I .0, I .2, R .1)), lengths .1 .1 .0, I .2, R .1),
+      all-more (omega (arith, R .1)) (I .2) (I .1) (A .ensures),
+      lengths .1 .1 .0 ∙ I .2,
+      six .0 ∙ I .3,
+      six .1 .0 ∙ I .4,
+      six .1 .1 .0 ∙ I .5,
+      six .1 .1 .1 .0 ∙ I .6,
+      six .1 .1 .1 .1 .0 ∙ I .7,
+      six .1 .1 .1 .1 .1 .0 ∙ I .8,
+      c .before .before .put .kept .1 .0
+          ∙ simp (length-append, length-drop) (omega (arith, six .1 .1 .1 .1 .1 .1 .0, most, at-room .room .ensures .3, I .9, R .2)),
+    )
 
-same-length-6 : tie.Need-same-length-6
-same-length-6 c = search needs
+same-length : tie.Need-same-length Inv-loop μ-loop
+same-length c = c .before .loop .inv .2
 
-same-length-7 : tie.Need-same-length-7
-same-length-7 c = search needs
+same-length-2 : tie.Need-same-length-2 Inv-loop μ-loop
+same-length-2 c = c .before .loop .inv .3
 
-returns : tie.Need-returns
-returns c = search needs
+same-length-3 : tie.Need-same-length-3 Inv-loop μ-loop
+same-length-3 c = c .before .loop .inv .4
 
-flush-requires : tie.Need-flush-requires
-flush-requires c κs = search needs
+same-length-4 : tie.Need-same-length-4 Inv-loop μ-loop
+same-length-4 c = c .before .loop .inv .5
 
-same-length-8 : tie.Need-same-length-8
-same-length-8 c = search needs
+same-length-5 : tie.Need-same-length-5 Inv-loop μ-loop
+same-length-5 c = c .before .loop .inv .6
 
-same-length-9 : tie.Need-same-length-9
-same-length-9 c = search needs
+same-length-6 : tie.Need-same-length-6 Inv-loop μ-loop
+same-length-6 c = c .before .loop .inv .7
 
-same-length-10 : tie.Need-same-length-10
-same-length-10 c = search needs
+same-length-7 : tie.Need-same-length-7 Inv-loop μ-loop
+same-length-7 c = c .before .loop .inv .8
 
-same-length-11 : tie.Need-same-length-11
-same-length-11 c = search needs
+same-length-8 : tie.Need-same-length-8 Inv-loop μ-loop
+same-length-8 c = c .before .loop .inv .9
 
-same-length-12 : tie.Need-same-length-12
-same-length-12 c = search needs
-
-same-length-13 : tie.Need-same-length-13
-same-length-13 c = search needs
-
-same-length-14 : tie.Need-same-length-14
-same-length-14 c = search needs
-
-returns-2 : tie.Need-returns-2
-returns-2 c = search needs
+returns : tie.Need-returns Inv-loop μ-loop
+returns c = let I = c .before .loop .inv in (I .0, all-used _ (c .loop-test .left) (I .1))
 
 pub answer-spec : {M : Type 1} → statement M
 answer-spec =
     tie.close
     (tie.spec
-    slice-aggregate-answer-line
-    answer-line-requires
-    show-requires
+    Inv-loop
+    μ-loop
+    room-requires
+    loop-holds
+    slice-relend-prefix-answer-lines
+    slice-aggregate-answer-lines
+    answer-lines-requires
+    put-requires
+    loop-less
+    loop-again
     same-length
     same-length-2
     same-length-3
@@ -98,13 +172,5 @@ answer-spec =
     same-length-5
     same-length-6
     same-length-7
-    returns
-    flush-requires
     same-length-8
-    same-length-9
-    same-length-10
-    same-length-11
-    same-length-12
-    same-length-13
-    same-length-14
-    returns-2)
+    returns)

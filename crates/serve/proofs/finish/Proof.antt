@@ -1,34 +1,33 @@
--- `finish` meets its contract.
+-- `finish` writes within what is lent: the answer ends there (`last-room`).
 use borrow.Author.Needs.{needs}
 use native.Mathlib.Omega.{arith}
+use lib.ListN.{length-take}
+use Rattle.feed.proofs.laws.Turns.{last-room}
 use Rattle.serve.proofs.finish.Statement.{statement}
 use Rattle.serve.proofs.finish.Tie as tie
 
-abbrev to-close : tie.After-flush-arg → tie.After-close
-to-close c =
-    let a = c .before .before .before .before in
-    let b = a .before .before .before .before in
-    let d = b .before .before .before .before in
-    d .before .before .before
-
-abbrev to-start : tie.After-close → tie.Start
-to-start c =
+abbrev to-answer-last : tie.After-put-arg2 → tie.After-answer-last
+to-answer-last c =
     let a = c .before .before .before .before in
     let b = a .before .before .before .before in
     let d = b .before .before .before .before in
     let e = d .before .before .before .before in
-    e .before .before .before
+    e .before .before
 
-rows-of-requires : tie.Need-rows-of-requires
-rows-of-requires c κs = search needs
+abbrev to-start : tie.After-answer-last-arg → tie.Start
+to-start c =
+    let a = c .before .before .before .before in
+    let b = a .before .before .before .before in
+    b .before .before .before
 
-close-requires : tie.Need-close-requires
-close-requires c κs = search needs
+slice-aggregate-answer-last : tie.Need-slice-aggregate-answer-last
+slice-aggregate-answer-last c = let R = to-start c .pre in simp length-take (omega (arith, R .0, R .1))
 
-flush-requires : tie.Need-flush-requires
-flush-requires c κs =
-    let at-close = to-close c in
-    omega (arith, at-close .close .ensures .1, at-close .close .kept, to-start at-close .pre)
+answer-last-requires : tie.Need-answer-last-requires
+answer-last-requires c κs = search needs
+
+put-requires : tie.Need-put-requires
+put-requires c κs = let A = to-answer-last c .answer-last in omega (arith, last-room (A .ensures), A .kept)
 
 slice-aggregate-write-all : tie.Need-slice-aggregate-write-all
 slice-aggregate-write-all c = search needs
@@ -88,9 +87,9 @@ pub finish-spec : {M : Type 1} → statement M
 finish-spec =
     tie.close
     (tie.spec
-    rows-of-requires
-    close-requires
-    flush-requires
+    slice-aggregate-answer-last
+    answer-last-requires
+    put-requires
     slice-aggregate-write-all
     write-all-requires
     same-length

@@ -1,4 +1,4 @@
--- `serve` meets its contract: every turn reads once.
+-- `serve` meets its contract: every turn reads once, and no slice changes its length.
 use borrow.Author.Needs.{needs}
 use native.Mathlib.Omega.{arith}
 use mathlib.Core.Path.{_≡_, _∙_}
@@ -10,7 +10,6 @@ use Rattle.serve.proofs.serve.Tie as tie
 abbrev Inv-loop : tie.InvT-loop
 Inv-loop line₀ values₀ deadlines₀ nexts₀ prevs₀ turns₀ marks₀ out₀ buf₀ run₀ left₀ t15 t16 line values deadlines nexts prevs turns marks out buf run left =
     (run .kept ≤ 81)
-    × (run .at ≤ 4096)
     × (length buf ≡ 4096)
     × (length line ≡ length line₀)
     × (length values ≡ length values₀)
@@ -24,23 +23,23 @@ Inv-loop line₀ values₀ deadlines₀ nexts₀ prevs₀ turns₀ marks₀ out�
 abbrev μ-loop : tie.MeasureT-loop
 μ-loop line₀ values₀ deadlines₀ nexts₀ prevs₀ turns₀ marks₀ out₀ buf₀ run₀ left₀ t15 t16 line values deadlines nexts prevs turns marks out buf run left = left
 
-abbrev to-feed : tie.After-struct-known Inv-loop μ-loop → tie.After-feed Inv-loop μ-loop
-to-feed c =
+abbrev to-answer : tie.After-struct-known Inv-loop μ-loop → tie.After-answer Inv-loop μ-loop
+to-answer c =
     let a = c .before .before .before .before in
     let b = a .before .before .before .before in
     let d = b .before .before .before .before in
     let e = d .before .before .before .before in
     e .before
 
-abbrev to-joined1 : tie.After-feed Inv-loop μ-loop → tie.Joined1 Inv-loop μ-loop
-to-joined1 c =
+abbrev to-read : tie.After-answer Inv-loop μ-loop → tie.After-read Inv-loop μ-loop
+to-read c =
     let a = c .before .before .before .before in
     let b = a .before .before .before .before in
     let d = b .before .before .before .before in
-    d .before
+    d .before .before .before
 
-abbrev to-at-loop : tie.In-loop Inv-loop μ-loop → tie.At-loop Inv-loop μ-loop
-to-at-loop c = c .before
+abbrev to-in-loop : tie.After-read Inv-loop μ-loop → tie.In-loop Inv-loop μ-loop
+to-in-loop c = c .before .before
 
 buffer-requires : tie.Need-buffer-requires Inv-loop μ-loop
 buffer-requires c κs = search needs
@@ -62,9 +61,6 @@ slice-aggregate-write-all c = search needs
 
 write-all-requires : tie.Need-write-all-requires Inv-loop μ-loop
 write-all-requires c κs = search needs
-
-finish-requires : tie.Need-finish-requires Inv-loop μ-loop
-finish-requires c κs = search needs
 
 same-length : tie.Need-same-length Inv-loop μ-loop
 same-length c = search needs
@@ -93,6 +89,36 @@ same-length-8 c = search needs
 returns : tie.Need-returns Inv-loop μ-loop
 returns c = search needs
 
+finish-requires : tie.Need-finish-requires Inv-loop μ-loop
+finish-requires c κs = search needs
+
+same-length-9 : tie.Need-same-length-9 Inv-loop μ-loop
+same-length-9 c = search needs
+
+same-length-10 : tie.Need-same-length-10 Inv-loop μ-loop
+same-length-10 c = search needs
+
+same-length-11 : tie.Need-same-length-11 Inv-loop μ-loop
+same-length-11 c = search needs
+
+same-length-12 : tie.Need-same-length-12 Inv-loop μ-loop
+same-length-12 c = search needs
+
+same-length-13 : tie.Need-same-length-13 Inv-loop μ-loop
+same-length-13 c = search needs
+
+same-length-14 : tie.Need-same-length-14 Inv-loop μ-loop
+same-length-14 c = search needs
+
+same-length-15 : tie.Need-same-length-15 Inv-loop μ-loop
+same-length-15 c = search needs
+
+same-length-16 : tie.Need-same-length-16 Inv-loop μ-loop
+same-length-16 c = search needs
+
+returns-2 : tie.Need-returns-2 Inv-loop μ-loop
+returns-2 c = search needs
+
 slice-aggregate-count : tie.Need-slice-aggregate-count Inv-loop μ-loop
 slice-aggregate-count c = search needs
 
@@ -102,11 +128,11 @@ count-requires c κs = search needs
 array-share-prefix-buf : tie.Need-array-share-prefix-buf Inv-loop μ-loop
 array-share-prefix-buf c = search needs
 
-slice-aggregate-feed : tie.Need-slice-aggregate-feed Inv-loop μ-loop
-slice-aggregate-feed c = search needs
+slice-aggregate-answer : tie.Need-slice-aggregate-answer Inv-loop μ-loop
+slice-aggregate-answer c = search needs
 
-feed-requires : tie.Need-feed-requires Inv-loop μ-loop
-feed-requires c κs = search needs
+answer-requires : tie.Need-answer-requires Inv-loop μ-loop
+answer-requires c κs = search needs
 
 slice-aggregate-write-all-2 : tie.Need-slice-aggregate-write-all-2 Inv-loop μ-loop
 slice-aggregate-write-all-2 c = search needs
@@ -114,106 +140,105 @@ slice-aggregate-write-all-2 c = search needs
 write-all-requires-2 : tie.Need-write-all-requires-2 Inv-loop μ-loop
 write-all-requires-2 c κs = search needs
 
-same-length-9 : tie.Need-same-length-9 Inv-loop μ-loop
-same-length-9 c =
-    let at-feed = to-feed (c .before .before .before) in
-    let turn = to-at-loop (to-joined1 at-feed .before .before .before .before) in
-    at-feed .feed .kept .1 .0 ∙ turn .loop .inv .3
-
-same-length-10 : tie.Need-same-length-10 Inv-loop μ-loop
-same-length-10 c =
-    let at-feed = to-feed (c .before .before .before) in
-    let turn = to-at-loop (to-joined1 at-feed .before .before .before .before) in
-    at-feed .feed .kept .1 .1 .1 .0 ∙ turn .loop .inv .4
-
-same-length-11 : tie.Need-same-length-11 Inv-loop μ-loop
-same-length-11 c =
-    let at-feed = to-feed (c .before .before .before) in
-    let turn = to-at-loop (to-joined1 at-feed .before .before .before .before) in
-    at-feed .feed .kept .1 .1 .1 .1 .0 ∙ turn .loop .inv .5
-
-same-length-12 : tie.Need-same-length-12 Inv-loop μ-loop
-same-length-12 c =
-    let at-feed = to-feed (c .before .before .before) in
-    let turn = to-at-loop (to-joined1 at-feed .before .before .before .before) in
-    at-feed .feed .kept .1 .1 .1 .1 .1 .0 ∙ turn .loop .inv .6
-
-same-length-13 : tie.Need-same-length-13 Inv-loop μ-loop
-same-length-13 c =
-    let at-feed = to-feed (c .before .before .before) in
-    let turn = to-at-loop (to-joined1 at-feed .before .before .before .before) in
-    at-feed .feed .kept .1 .1 .1 .1 .1 .1 .0 ∙ turn .loop .inv .7
-
-same-length-14 : tie.Need-same-length-14 Inv-loop μ-loop
-same-length-14 c =
-    let at-feed = to-feed (c .before .before .before) in
-    let turn = to-at-loop (to-joined1 at-feed .before .before .before .before) in
-    at-feed .feed .kept .1 .1 .1 .1 .1 .1 .1 .0 ∙ turn .loop .inv .8
-
-same-length-15 : tie.Need-same-length-15 Inv-loop μ-loop
-same-length-15 c =
-    let at-feed = to-feed (c .before .before .before) in
-    let turn = to-at-loop (to-joined1 at-feed .before .before .before .before) in
-    at-feed .feed .kept .1 .1 .1 .1 .1 .1 .1 .1 .0 ∙ turn .loop .inv .9
-
-same-length-16 : tie.Need-same-length-16 Inv-loop μ-loop
-same-length-16 c =
-    let at-feed = to-feed (c .before .before .before) in
-    let turn = to-at-loop (to-joined1 at-feed .before .before .before .before) in
-    at-feed .feed .kept .1 .1 .1 .1 .1 .1 .1 .1 .1 .0 ∙ turn .loop .inv .10
-
-returns-2 : tie.Need-returns-2 Inv-loop μ-loop
-returns-2 c = search needs
-
-loop-less : tie.Need-loop-less Inv-loop μ-loop
-loop-less c =
-    let in-loop = to-joined1 (to-feed (c .before)) .before .before .before .before in
-    omega (arith, in-loop .loop-test .taken)
-
-loop-again : tie.Need-loop-again Inv-loop μ-loop
-loop-again c =
-    let at-feed = to-feed (c .before) in
-    let at-read = to-joined1 at-feed .before .before in
-    let turn = at-read .before .before .before in (
-      search needs,
-      search needs,
-      at-read .read .kept .1 .0 ∙ turn .loop .inv .2,
-      at-feed .feed .kept .1 .0 ∙ turn .loop .inv .3,
-      at-feed .feed .kept .1 .1 .1 .0 ∙ turn .loop .inv .4,
-      at-feed .feed .kept .1 .1 .1 .1 .0 ∙ turn .loop .inv .5,
-      at-feed .feed .kept .1 .1 .1 .1 .1 .0 ∙ turn .loop .inv .6,
-      at-feed .feed .kept .1 .1 .1 .1 .1 .1 .0 ∙ turn .loop .inv .7,
-      at-feed .feed .kept .1 .1 .1 .1 .1 .1 .1 .0 ∙ turn .loop .inv .8,
-      at-feed .feed .kept .1 .1 .1 .1 .1 .1 .1 .1 .0 ∙ turn .loop .inv .9,
-      at-feed .feed .kept .1 .1 .1 .1 .1 .1 .1 .1 .1 .0 ∙ turn .loop .inv .10,
-    )
-
 same-length-17 : tie.Need-same-length-17 Inv-loop μ-loop
-same-length-17 c = search needs
+same-length-17 c =
+    let at-answer = to-answer (c .before .before .before) in
+    let turn = to-in-loop (to-read at-answer) .before in
+    at-answer .answer .kept .1 .0 ∙ turn .loop .inv .2
 
 same-length-18 : tie.Need-same-length-18 Inv-loop μ-loop
-same-length-18 c = search needs
+same-length-18 c =
+    let at-answer = to-answer (c .before .before .before) in
+    let turn = to-in-loop (to-read at-answer) .before in
+    at-answer .answer .kept .1 .1 .1 .0 ∙ turn .loop .inv .3
 
 same-length-19 : tie.Need-same-length-19 Inv-loop μ-loop
-same-length-19 c = search needs
+same-length-19 c =
+    let at-answer = to-answer (c .before .before .before) in
+    let turn = to-in-loop (to-read at-answer) .before in
+    at-answer .answer .kept .1 .1 .1 .1 .0 ∙ turn .loop .inv .4
 
 same-length-20 : tie.Need-same-length-20 Inv-loop μ-loop
-same-length-20 c = search needs
+same-length-20 c =
+    let at-answer = to-answer (c .before .before .before) in
+    let turn = to-in-loop (to-read at-answer) .before in
+    at-answer .answer .kept .1 .1 .1 .1 .1 .0 ∙ turn .loop .inv .5
 
 same-length-21 : tie.Need-same-length-21 Inv-loop μ-loop
-same-length-21 c = search needs
+same-length-21 c =
+    let at-answer = to-answer (c .before .before .before) in
+    let turn = to-in-loop (to-read at-answer) .before in
+    at-answer .answer .kept .1 .1 .1 .1 .1 .1 .0 ∙ turn .loop .inv .6
 
 same-length-22 : tie.Need-same-length-22 Inv-loop μ-loop
-same-length-22 c = search needs
+same-length-22 c =
+    let at-answer = to-answer (c .before .before .before) in
+    let turn = to-in-loop (to-read at-answer) .before in
+    at-answer .answer .kept .1 .1 .1 .1 .1 .1 .1 .0 ∙ turn .loop .inv .7
 
 same-length-23 : tie.Need-same-length-23 Inv-loop μ-loop
-same-length-23 c = search needs
+same-length-23 c =
+    let at-answer = to-answer (c .before .before .before) in
+    let turn = to-in-loop (to-read at-answer) .before in
+    at-answer .answer .kept .1 .1 .1 .1 .1 .1 .1 .1 .0 ∙ turn .loop .inv .8
 
 same-length-24 : tie.Need-same-length-24 Inv-loop μ-loop
-same-length-24 c = search needs
+same-length-24 c =
+    let at-answer = to-answer (c .before .before .before) in
+    let turn = to-in-loop (to-read at-answer) .before in
+    at-answer .answer .kept .1 .1 .1 .1 .1 .1 .1 .1 .1 .0 ∙ turn .loop .inv .9
 
 returns-3 : tie.Need-returns-3 Inv-loop μ-loop
 returns-3 c = search needs
+
+loop-less : tie.Need-loop-less Inv-loop μ-loop
+loop-less c = omega (arith, to-in-loop (to-read (to-answer (c .before))) .loop-test .taken)
+
+loop-again : tie.Need-loop-again Inv-loop μ-loop
+loop-again c =
+    let at-answer = to-answer (c .before) in
+    let at-read = to-read at-answer in
+    let turn = to-in-loop at-read .before in
+    let lengths = at-answer .answer .kept .1 in
+    let six = lengths .1 .1 in (
+      search needs,
+      at-read .read .kept .1 .0 ∙ turn .loop .inv .1,
+      lengths .0 ∙ turn .loop .inv .2,
+      six .0 ∙ turn .loop .inv .3,
+      six .1 .0 ∙ turn .loop .inv .4,
+      six .1 .1 .0 ∙ turn .loop .inv .5,
+      six .1 .1 .1 .0 ∙ turn .loop .inv .6,
+      six .1 .1 .1 .1 .0 ∙ turn .loop .inv .7,
+      six .1 .1 .1 .1 .1 .0 ∙ turn .loop .inv .8,
+      six .1 .1 .1 .1 .1 .1 .0 ∙ turn .loop .inv .9,
+    )
+
+same-length-25 : tie.Need-same-length-25 Inv-loop μ-loop
+same-length-25 c = search needs
+
+same-length-26 : tie.Need-same-length-26 Inv-loop μ-loop
+same-length-26 c = search needs
+
+same-length-27 : tie.Need-same-length-27 Inv-loop μ-loop
+same-length-27 c = search needs
+
+same-length-28 : tie.Need-same-length-28 Inv-loop μ-loop
+same-length-28 c = search needs
+
+same-length-29 : tie.Need-same-length-29 Inv-loop μ-loop
+same-length-29 c = search needs
+
+same-length-30 : tie.Need-same-length-30 Inv-loop μ-loop
+same-length-30 c = search needs
+
+same-length-31 : tie.Need-same-length-31 Inv-loop μ-loop
+same-length-31 c = search needs
+
+same-length-32 : tie.Need-same-length-32 Inv-loop μ-loop
+same-length-32 c = search needs
+
+returns-4 : tie.Need-returns-4 Inv-loop μ-loop
+returns-4 c = search needs
 
 pub serve-spec : {M : Type 1} → statement M
 serve-spec =
@@ -228,7 +253,6 @@ serve-spec =
     read-requires
     slice-aggregate-write-all
     write-all-requires
-    finish-requires
     same-length
     same-length-2
     same-length-3
@@ -238,13 +262,7 @@ serve-spec =
     same-length-7
     same-length-8
     returns
-    slice-aggregate-count
-    count-requires
-    array-share-prefix-buf
-    slice-aggregate-feed
-    feed-requires
-    slice-aggregate-write-all-2
-    write-all-requires-2
+    finish-requires
     same-length-9
     same-length-10
     same-length-11
@@ -254,8 +272,13 @@ serve-spec =
     same-length-15
     same-length-16
     returns-2
-    loop-less
-    loop-again
+    slice-aggregate-count
+    count-requires
+    array-share-prefix-buf
+    slice-aggregate-answer
+    answer-requires
+    slice-aggregate-write-all-2
+    write-all-requires-2
     same-length-17
     same-length-18
     same-length-19
@@ -264,4 +287,15 @@ serve-spec =
     same-length-22
     same-length-23
     same-length-24
-    returns-3)
+    returns-3
+    loop-less
+    loop-again
+    same-length-25
+    same-length-26
+    same-length-27
+    same-length-28
+    same-length-29
+    same-length-30
+    same-length-31
+    same-length-32
+    returns-4)

@@ -1,0 +1,71 @@
+-- `answer_last` meets its claim: nothing is kept (`last-none`), or it is answered as a line (`last-line`).
+use borrow.Author.Needs.{needs}
+use native.Mathlib.Omega.{arith}
+use Rattle.feed.proofs.laws.Turns.{line-rows, last-none, last-line}
+use Rattle.feed.proofs.answer_last.Statement.{statement}
+use Rattle.feed.proofs.answer_last.Tie as tie
+
+abbrev to-answer-line : tie.After-slice-known14 → tie.After-answer-line
+to-answer-line c =
+    let a = c .before .before .before .before in
+    let b = a .before .before .before .before in
+    let d = b .before .before .before .before in
+    d .before .before
+
+abbrev to-rows-of : tie.After-answer-line → tie.After-rows-of
+to-rows-of c =
+    let a = c .before .before .before .before in
+    a .before .before .before .before
+
+returns : tie.Need-returns
+returns c = last-none (omega (arith, c .if1 .taken))
+
+rows-of-requires : tie.Need-rows-of-requires
+rows-of-requires c κs = search needs
+
+answer-line-requires : tie.Need-answer-line-requires
+answer-line-requires c κs = search needs
+
+same-length : tie.Need-same-length
+same-length c = search needs
+
+same-length-2 : tie.Need-same-length-2
+same-length-2 c = search needs
+
+same-length-3 : tie.Need-same-length-3
+same-length-3 c = search needs
+
+same-length-4 : tie.Need-same-length-4
+same-length-4 c = search needs
+
+same-length-5 : tie.Need-same-length-5
+same-length-5 c = search needs
+
+same-length-6 : tie.Need-same-length-6
+same-length-6 c = search needs
+
+same-length-7 : tie.Need-same-length-7
+same-length-7 c = search needs
+
+returns-2 : tie.Need-returns-2
+returns-2 c =
+    let at-answer-line = to-answer-line c in
+    let at-rows-of = to-rows-of at-answer-line in
+    last-line (omega (arith, at-rows-of .before .if1 .left))
+    (line-rows _ _ _ _ _ _ _ (at-rows-of .rows-of .ensures) (at-answer-line .answer-line .ensures))
+
+pub answer-last-spec : {M : Type 1} → statement M
+answer-last-spec =
+    tie.close
+    (tie.spec
+    returns
+    rows-of-requires
+    answer-line-requires
+    same-length
+    same-length-2
+    same-length-3
+    same-length-4
+    same-length-5
+    same-length-6
+    same-length-7
+    returns-2)

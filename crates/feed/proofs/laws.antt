@@ -1,0 +1,4 @@
+pub mod Wrote
+pub mod Turns
+pub mod Serving
+pub mod Once

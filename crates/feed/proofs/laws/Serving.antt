@@ -1,0 +1,200 @@
+-- The program's whole run: what it writes is the answers to the lines of what it read, one a line and in their order, however the input was
+-- cut into chunks.
+use mathlib.Core.Path.{_≡_, refl, sym, ap, _∙_, subst}
+use mathlib.Core.List.{List, [], _∷_, _++_, append-nil, append-assoc}
+use Prim.Native.Nat.{ℕ, _+_, _≤_, _<_}
+use native.Mathlib.Omega.{arith}
+use lib.ListN.{length, take, drop, drop-of-length-le}
+use lib.Seq.{take-all}
+use Rattle.records.specs.Words.{QueueWords}
+use Rattle.asking.specs.Text.{Says}
+use Rattle.lines.specs.Lines.{linesFrom, linesOf, firsts, last, joined}
+use Rattle.lines.specs.Passed.{Passed}
+use Rattle.lines.proofs.laws.Lines.{whole-line, input-ends}
+use Rattle.lines.proofs.laws.Passed.{passed-none, passed-more, passed-line, passed-end}
+use Rattle.feed.specs.Replies.{Reply, Replies, none, reply}
+use Rattle.feed.specs.Feed.{Stand, Goes, Turn, answered, goes-on, FeedClaim, stops, turns, LastClaim, answerRoom}
+use Rattle.feed.specs.Serving.{Feeds, AllFed, Fed, call, used, none as nothing, Serving}
+use Rattle.feed.proofs.laws.Wrote.{between, replied, reply-whole, reply-forth, reply-size}
+
+-- ---- step behind step
+
+pub replies-more : {ls ms : List (List ℕ)} {s s₁ s′ : QueueWords} {t u : List ℕ} → Replies ls s t s₁ → Replies ms s₁ u s′
+    → Replies (ls ++ ms) s (t ++ u) s′
+replies-more none b = b
+replies-more {ms = ms} {s = s} {s′ = s′} {u = u} (reply {l = l} {ls = ls} {t = t} {u = v} x a) b =
+    subst (λ (y : List ℕ). Replies (l ∷ ls ++ ms) s y s′) (sym (append-assoc t v u)) (reply x (replies-more a b))
+
+one-reply : {l : List ℕ} {s s′ : QueueWords} {t : List ℕ} → Reply l s t s′ → Replies (l ∷ []) s t s′
+one-reply {l} {s} {s′} {t} x = subst (λ (y : List ℕ). Replies (l ∷ []) s y s′) (append-nil t) (reply x none)
+
+feeds-none : {m : ℕ} {k s : List ℕ} {w : QueueWords} → Feeds m k s w [] k s w
+feeds-none = record { lines = []; passed = passed-none; replies = none }
+
+feeds-more : {m : ℕ} {k s k₁ s₁ k₂ s₂ : List ℕ} {w w₁ w₂ : QueueWords} {t u : List ℕ} → Feeds m k s w t k₁ s₁ w₁ → Feeds m k₁ s₁ w₁ u k₂ s₂ w₂
+    → Feeds m k s w (t ++ u) k₂ s₂ w₂
+feeds-more a b =
+    record { lines = a .lines ++ b .lines; passed = passed-more (a .passed) (b .passed); replies = replies-more (a .replies) (b .replies) }
+
+-- ---- a call of `answer_lines`
+
+-- from a to b the lines that ended were answered with text, which stands in the output behind what stood there
+pub record Answers (m : ℕ) (got : List ℕ) (a b : Stand) : Type 0 where
+  pub text : List ℕ
+  pub feeds : Feeds m (take (a .kept) (a .line)) (drop (a .next) got) (a .store) text (take (b .kept) (b .line)) (drop (b .next) got) (b .store)
+  pub written : take (b .at) (b .out) ≡ take (a .at) (a .out) ++ text
+
+-- one turn answers one line at most
+record TurnTells (got : List ℕ) (a b : Stand) : Type 0 where
+  answers : Answers (length (a .line)) got a b
+  size : length (b .line) ≡ length (a .line)
+  one : length (answers .feeds .lines) ≤ 1
+
+module _ {got : List ℕ} where
+  turn-tells : {a b : Stand} → 0 < length (a .line) → a .at + answerRoom ≤ length (a .out) → Turn got a b → TurnTells got a b
+  turn-tells {a} some h (answered {k = k} {l = l} {o = o} {e = e} T C) =
+      record {
+        answers = record {
+          text = between o (a .at) e;
+          feeds = record { lines = take k l ∷ []; passed = passed-line some T; replies = one-reply (replied h C) };
+          written = reply-whole h C;
+        };
+        size = T .size;
+        one = omega arith;
+      }
+  turn-tells {a} some h (goes-on T) =
+      record {
+        answers = record {
+          text = [];
+          feeds = record { lines = []; passed = passed-end some T; replies = none };
+          written = sym (append-nil (take (a .at) (a .out)));
+        };
+        size = T .size;
+        one = omega arith;
+      }
+
+  answers-more : {m : ℕ} {a b c : Stand} → Answers m got a b → Answers m got b c → Answers m got a c
+  answers-more {a = a} x y =
+      record {
+        text = x .text ++ y .text;
+        feeds = feeds-more (x .feeds) (y .feeds);
+        written = y .written
+            ∙ ap (λ (t : List ℕ). t ++ y .text) (x .written)
+            ∙ append-assoc (take (a .at) (a .out)) (x .text) (y .text);
+      }
+
+  -- no line is passed over, and none is answered twice
+  pub feed-answers : {a b : Stand} → 0 < length (a .line) → FeedClaim got a b → Answers (length (a .line)) got a b
+  feed-answers {a} some (stops h) =
+      record { text = []; feeds = feeds-none; written = sym (append-nil (take (a .at) (a .out))) }
+  feed-answers {a} some (turns {b = b} {c = c} g t f) =
+      let x = turn-tells some (g .1) t in
+      answers-more (x .answers) (subst (λ (m : ℕ). Answers m got b c) (x .size) (feed-answers (omega (arith, x .size)) f))
+
+  no-second : {a b : Stand} → a .at ≡ 0 → length (a .out) ≡ answerRoom → Goes got a → Turn got a b → Goes got b → ⊥
+  no-second z r g (answered T C) k = omega (arith, reply-forth (g .1) C, reply-size (g .1) C, k .1)
+  no-second z r g (goes-on T) k = omega (arith, T .unfinished refl .0, k .0)
+
+  -- with room for one answer alone, no more than one line is answered
+  pub one-answer : {a b : Stand} → 0 < length (a .line) → a .at ≡ 0 → length (a .out) ≡ answerRoom → FeedClaim got a b
+      → (x : Answers (length (a .line)) got a b) × (length (x .feeds .lines) ≤ 1)
+  one-answer {a} some z r (stops h) = (
+    record {
+      text = [];
+      feeds = record { lines = []; passed = passed-none; replies = none };
+      written = sym (append-nil (take (a .at) (a .out)));
+    },
+    omega arith,
+  )
+  one-answer some z r (turns g t (stops h)) = let x = turn-tells some (g .1) t in (x .answers, x .one)
+  one-answer some z r (turns g t (turns k u f)) = absurd (no-second z r g t k)
+
+-- ---- calls, each of whose answers are written before the next
+
+pub all-none : {m : ℕ} {k s : List ℕ} {w : QueueWords} → AllFed m k s w k s w
+all-none = record { text = []; feeds = feeds-none }
+
+pub all-more : {m : ℕ} {k s : List ℕ} {w : QueueWords} {got : List ℕ} {a b : Stand} → 0 < m → length (a .line) ≡ m
+    → AllFed m k s w (take (a .kept) (a .line)) (drop (a .next) got) (a .store) → FeedClaim got a b
+    → AllFed m k s w (take (b .kept) (b .line)) (drop (b .next) got) (b .store)
+all-more {got = got} {a = a} {b = b} h e A F =
+    let x = subst (λ (m : ℕ). Answers m got a b) e (feed-answers (omega arith) F) in
+    record { text = A .text ++ x .text; feeds = feeds-more (A .feeds) (x .feeds) }
+
+-- the chunk is used up
+pub all-used : {m : ℕ} {k s k′ : List ℕ} {w w′ : QueueWords} (got : List ℕ) {i : ℕ} → length got ≤ i → AllFed m k s w k′ (drop i got) w′
+    → AllFed m k s w k′ [] w′
+all-used {m} {k} {s} {k′} {w} {w′} got h A = subst (λ (x : List ℕ). AllFed m k s w k′ x w′) (drop-of-length-le got h) A
+
+-- a call at the front of the output: what stands there from its front to where the answers end is what the lines were answered with
+pub call-feeds : {got : List ℕ} {a b : Stand} → 0 < length (a .line) → a .at ≡ 0 → FeedClaim got a b
+    → Feeds (length (a .line)) (take (a .kept) (a .line)) (drop (a .next) got) (a .store) (take (b .at) (b .out)) (take (b .kept) (b .line))
+    (drop (b .next) got)
+    (b .store)
+call-feeds {got} {a} {b} some z F =
+    let x = feed-answers some F in
+    let e : x .text ≡ take (b .at) (b .out) = sym (x .written ∙ ap (λ (i : ℕ). take i (a .out) ++ x .text) z) in
+    subst (λ (t : List ℕ).
+    Feeds (length (a .line)) (take (a .kept) (a .line)) (drop (a .next) got) (a .store) t (take (b .kept) (b .line)) (drop (b .next) got) (b .store))
+    e
+    (x .feeds)
+
+-- and the end of the input
+pub last-replies : (l : List ℕ) {o o′ : List ℕ} {w w′ : QueueWords} {e : ℕ} → answerRoom ≤ length o → LastClaim l w o w′ o′ e
+    → Replies (last l) w (take e o′) w′
+last-replies [] {o′ = o′} {w = w} {w′ = w′} h C =
+    let x = C .none (omega arith) in
+    subst (λ (i : ℕ). Replies [] w (take i o′) w′) (sym (x .2)) (subst (λ (y : QueueWords). Replies [] w [] y) (sym (x .0)) none)
+last-replies (b ∷ l) {o′ = o′} {w = w} {w′ = w′} h C =
+    let c = C .some (omega arith) in
+    subst (λ (t : List ℕ). Replies ((b ∷ l) ∷ []) w t w′) (sym (reply-whole h c)) (one-reply (replied h c))
+
+-- ---- the run: what was read so far is answered, of which no more than an unfinished line is kept
+
+pub so-far : {m : ℕ} {k k′ : List ℕ} {cs : List (List ℕ)} {w w′ : QueueWords} {v : List ℕ} → Fed m k cs w v k′ w′
+    → Feeds m k (joined cs) w v k′ [] w′
+so-far {m} (call {s = s} {s₁ = s₁} {cs = cs} f r) = feeds-more (behind (joined cs) f) (so-far r)
+  where
+    behind : {k k₁ s s₁ : List ℕ} {w w₁ : QueueWords} {u : List ℕ} (t : List ℕ) → Feeds m k s w u k₁ s₁ w₁
+        → Feeds m k (s ++ t) w u k₁ (s₁ ++ t) w₁
+    behind {k} {k₁} {s} {s₁} t f =
+        record {
+          lines = f .lines;
+          passed = record {
+            first = λ x.
+                ap (λ (y : List ℕ). firsts m (linesFrom k y)) (append-assoc s t x)
+                ∙ f .passed .first (t ++ x)
+                ∙ ap (λ (y : List ℕ). f .lines ++ firsts m (linesFrom k₁ y)) (sym (append-assoc s₁ t x));
+          };
+          replies = f .replies;
+        }
+so-far (used r) = so-far r
+so-far nothing = feeds-none
+
+-- ---- 81 bytes are enough to see of a line
+
+-- a line over 80 bytes says no call, and neither does its front
+first-81 : {l : List ℕ} {w w′ : QueueWords} {t : List ℕ} → Reply (take 81 l) w t w′ → Reply l w t w′
+first-81 {l} R =
+    record {
+      asks = λ c x. R .asks c (subst (λ (y : List ℕ). Says y c) (sym (take-all 81 l (omega (arith, x .short)))) x);
+      bad = λ f. R .bad (λ c y. f c (subst (λ (z : List ℕ). Says z c) (whole-line 81 l (omega (arith, y .short))) y));
+    }
+
+all-81 : (ls : List (List ℕ)) {w w′ : QueueWords} {t : List ℕ} → Replies (firsts 81 ls) w t w′ → Replies ls w t w′
+all-81 [] none = none
+all-81 (l ∷ ls) (reply x a) = reply (first-81 x) (all-81 ls a)
+
+-- "A program reads lines and answers each with one": with 81 bytes of room for a line, what is written is the answers to the lines of the input
+pub all-answered : {cs : List (List ℕ)} {w w′ : QueueWords} {v : List ℕ} → Serving 81 cs w v w′ → Replies (linesOf (joined cs)) w v w′
+all-answered {cs} {w} {w′} {v} S =
+    let f = so-far (S .fed) in
+    let e : firsts 81 (linesOf (joined cs)) ≡ f .lines ++ last (S .kept) =
+    ap (λ (x : List ℕ). firsts 81 (linesOf x)) (sym (append-nil (joined cs)))
+    ∙ f .passed .first []
+    ∙ ap (λ (x : List (List ℕ)). f .lines ++ x) (input-ends 81 (omega arith) (S .kept) (S .short))
+    in
+    let r = replies-more (f .replies) (S .ended) in
+    all-81 (linesOf (joined cs))
+    (subst (λ (t : List ℕ). Replies (firsts 81 (linesOf (joined cs))) w t w′) (sym (S .all))
+    (subst (λ (ls : List (List ℕ)). Replies ls w (S .first ++ S .then) w′) (sym e) r))

@@ -1,0 +1,5 @@
+pub mod Parts
+pub mod Lines
+pub mod Once
+pub mod Passed
+pub mod Fold

@@ -1,0 +1,4 @@
+// The replay bench on an input without a line: "empty input writes nothing".
+fn main() {
+    serve::replay();
+}

@@ -1,0 +1,4 @@
+// The replay bench: standard input to its end, each line answered with one.
+fn main() {
+    serve::replay();
+}
