@@ -1,5 +1,6 @@
 -- A whole run of the program: what it reads, in chunks, and what it writes.
 use mathlib.Core.Path.{_≡_}
+use mathlib.Core.Bool.{Bool, true, false}
 use mathlib.Core.List.{List, [], _∷_, _++_}
 use Prim.Native.Nat.{ℕ, _≤_}
 use lib.ListN.{length}
@@ -28,6 +29,26 @@ pub data Fed (m : ℕ) : List ℕ → List (List ℕ) → QueueWords → List �
       → Fed m k (s ∷ cs) w (u ++ v) k′ w′
   used : {k k′ : List ℕ} {cs : List (List ℕ)} {w w′ : QueueWords} {v : List ℕ} → Fed m k cs w v k′ w′ → Fed m k ([] ∷ cs) w v k′ w′
   none : {k : List ℕ} {w : QueueWords} → Fed m k [] w [] k w
+
+-- chunks that were read, as many as reads, all used up
+pub record Served (m : ℕ) (k : List ℕ) (w : QueueWords) (reads : ℕ) (k′ : List ℕ) (w′ : QueueWords) : Type 0 where
+  pub chunks : List (List ℕ)
+  pub text : List ℕ
+  pub count : length chunks ≡ reads
+  pub fed : Fed m k chunks w text k′ w′
+
+-- the end of the input, where l is kept
+pub record Closed (l : List ℕ) (w w′ : QueueWords) : Type 0 where
+  pub text : List ℕ
+  pub replies : Replies (last l) w text w′
+
+-- a program's run: chunks were read, as many as reads, and answered; then the input ended, and what was kept was answered, or it broke off
+pub record Ran (m : ℕ) (k : List ℕ) (w : QueueWords) (reads : ℕ) (ended : Bool) (w′ : QueueWords) : Type 0 where
+  pub kept : List ℕ
+  pub between : QueueWords
+  pub served : Served m k w reads kept between
+  pub closed : ended ≡ true → Closed kept between w′
+  pub broken : ended ≡ false → w′ ≡ between
 
 -- and where the input has ended, what `answer_last` answers to what is kept
 pub record Serving (m : ℕ) (cs : List (List ℕ)) (w : QueueWords) (v : List ℕ) (w′ : QueueWords) : Type 0 where

@@ -16,7 +16,7 @@ ghost use lib.ListN.{length, take};
 ghost use Rattle.contracts.specs.Lent.{old, new};
 ghost use Rattle.records.specs.Store.{before, after};
 ghost use Rattle.feed.specs.Feed.{answerRoom};
-ghost use Rattle.feed.specs.Serving.{AllFed};
+ghost use Rattle.feed.specs.Serving.{AllFed, Closed, Ran};
 
 // Whether each answer is followed by the contents of the lists, how many bytes of an unfinished line are kept, the store,
 // and whether all writes went well.
@@ -160,9 +160,15 @@ fn finish(
     turns: &mut [u64],
     marks: &mut [u16],
     out: &mut [u8],
-)
-    requires { ⌜ (run .kept ≤ 81) × (length (now line) ≡ 81) ⌝ }
+) -> Progress
+    requires { ⌜ (run .kept ≤ 81) × (length (now line) ≡ 81) × (length (now out) ≡ 4096) ⌝ }
+    ensures { λ r. ⌜
+        Closed
+        (take (run .kept) (old line))
+        (before (run .state) (run .heads .rows) values deadlines nexts prevs turns marks)
+        (after (r .state) (r .heads .rows) values deadlines nexts prevs turns marks) ⌝ }
 {
+    let lists = run.lists;
     let n = run.kept;
     let state = run.state;
     let heads = run.heads;
@@ -180,13 +186,28 @@ fn finish(
     );
     let after = r.state;
     let left = r.heads;
-    if !put(run.lists, out, r.at, run.fine, after, left, nexts) {
-        io::write_all(STDERR_FILENO, b"replay: cannot write\n");
+    let fine = put(lists, out, r.at, run.fine, after, left, nexts);
+    Progress {
+        lists,
+        kept: 0,
+        state: after,
+        heads: left,
+        fine,
     }
 }
 
-// Reads until the input ends; where it cannot be read any more, a line that has not ended stays unanswered. A proved loop
-// has to end, so it counts its turns down from a number that no run uses up.
+// How many chunks were read, whether the input has ended, the store then, and whether all writes went well.
+struct Outcome {
+    reads: u64,
+    ended: bool,
+    state: Wheel,
+    heads: Heads,
+    fine: bool,
+}
+
+// Reads until the input ends; where it cannot be read any more, a line that has not ended stays unanswered. What each read
+// gave is answered, and the last line: that is claimed, and not that it is written. A proved loop has to end, so it counts
+// its reads; no run comes to the last.
 fn serve(
     line: &mut [u8],
     start: Progress,
@@ -197,21 +218,36 @@ fn serve(
     turns: &mut [u64],
     marks: &mut [u16],
     out: &mut [u8],
-)
+) -> Outcome
     requires { ⌜ (start .kept ≤ 81) × (length (now line) ≡ 81) × (length (now out) ≡ 4096) ⌝ }
+    ensures { λ r. ⌜
+        Ran
+        (length (old line))
+        (take (start .kept) (old line))
+        (before (start .state) (start .heads .rows) values deadlines nexts prevs turns marks)
+        (r .reads)
+        (r .ended)
+        (after (r .state) (r .heads .rows) values deadlines nexts prevs turns marks) ⌝ }
 {
     let mut buf = io::buffer();
     let mut run = start;
-    let mut left = u64::MAX;
-    while 0 < left {
-        left -= 1;
+    let mut reads: u64 = 0;
+    while reads < u64::MAX {
         let got = libc::read(STDIN_FILENO, &mut buf);
         if got < 0 {
             io::write_all(STDERR_FILENO, b"replay: cannot read\n");
-            return;
+            let state = run.state;
+            let heads = run.heads;
+            return Outcome {
+                reads,
+                ended: false,
+                state,
+                heads,
+                fine: run.fine,
+            };
         }
         if got == 0 {
-            finish(
+            let end = finish(
                 line,
                 run,
                 values,
@@ -222,7 +258,15 @@ fn serve(
                 marks,
                 out,
             );
-            return;
+            let state = end.state;
+            let heads = end.heads;
+            return Outcome {
+                reads,
+                ended: true,
+                state,
+                heads,
+                fine: end.fine,
+            };
         }
         let k = io::count(got, &buf);
         run = answer(
@@ -237,10 +281,27 @@ fn serve(
             marks,
             out,
         );
+        reads += 1;
         if !run.fine {
-            io::write_all(STDERR_FILENO, b"replay: cannot write\n");
-            return;
+            let state = run.state;
+            let heads = run.heads;
+            return Outcome {
+                reads,
+                ended: false,
+                state,
+                heads,
+                fine: run.fine,
+            };
         }
+    }
+    let state = run.state;
+    let heads = run.heads;
+    Outcome {
+        reads,
+        ended: false,
+        state,
+        heads,
+        fine: run.fine,
     }
 }
 
@@ -297,7 +358,7 @@ fn with_room(lists: bool) {
         heads,
         fine: true,
     };
-    serve(
+    let outcome = serve(
         &mut line,
         start,
         &mut values,
@@ -308,4 +369,7 @@ fn with_room(lists: bool) {
         &mut marks,
         &mut out,
     );
+    if !outcome.fine {
+        io::write_all(STDERR_FILENO, b"replay: cannot write\n");
+    }
 }

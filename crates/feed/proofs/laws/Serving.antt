@@ -1,10 +1,11 @@
 -- The program's whole run: what it writes is the answers to the lines of what it read, one a line and in their order, however the input was
 -- cut into chunks.
 use mathlib.Core.Path.{_≡_, refl, sym, ap, _∙_, subst}
+use mathlib.Core.Bool.{true, false, true≢false, false≢true}
 use mathlib.Core.List.{List, [], _∷_, _++_, append-nil, append-assoc}
 use Prim.Native.Nat.{ℕ, _+_, _≤_, _<_}
 use native.Mathlib.Omega.{arith}
-use lib.ListN.{length, take, drop, drop-of-length-le}
+use lib.ListN.{length, take, drop, length-append, drop-of-length-le}
 use lib.Seq.{take-all}
 use Rattle.records.specs.Words.{QueueWords}
 use Rattle.asking.specs.Text.{Says}
@@ -14,7 +15,7 @@ use Rattle.lines.proofs.laws.Lines.{whole-line, input-ends}
 use Rattle.lines.proofs.laws.Passed.{passed-none, passed-more, passed-line, passed-end}
 use Rattle.feed.specs.Replies.{Reply, Replies, none, reply}
 use Rattle.feed.specs.Feed.{Stand, Goes, Turn, answered, goes-on, FeedClaim, stops, turns, LastClaim, answerRoom}
-use Rattle.feed.specs.Serving.{Feeds, AllFed, Fed, call, used, none as nothing, Serving}
+use Rattle.feed.specs.Serving.{Feeds, AllFed, Fed, call, used, none as nothing, Served, Closed, Ran, Serving}
 use Rattle.feed.proofs.laws.Wrote.{between, replied, reply-whole, reply-forth, reply-size}
 
 -- ---- step behind step
@@ -149,6 +150,39 @@ last-replies (b ∷ l) {o′ = o′} {w = w} {w′ = w′} h C =
     let c = C .some (omega arith) in
     subst (λ (t : List ℕ). Replies ((b ∷ l) ∷ []) w t w′) (sym (reply-whole h c)) (one-reply (replied h c))
 
+-- ---- chunks
+
+fed-more : {m : ℕ} {k k₁ k₂ c : List ℕ} {cs : List (List ℕ)} {w w₁ w₂ : QueueWords} {u t : List ℕ} → Fed m k cs w u k₁ w₁
+    → Feeds m k₁ c w₁ t k₂ [] w₂
+    → Fed m k (cs ++ c ∷ []) w (u ++ t) k₂ w₂
+fed-more {m} {k₂ = k₂} {c = c} {w₂ = w₂} {t = t} (call {k = k} {s = s} {cs = cs} {w = w} {u = u} {v = v} f r) a =
+    subst (λ (x : List ℕ). Fed m k (s ∷ cs ++ c ∷ []) w x k₂ w₂) (sym (append-assoc u v t)) (call f (fed-more r a))
+fed-more (used r) a = used (fed-more r a)
+fed-more {m} {k₂ = k₂} {c = c} {w₂ = w₂} {t = t} (nothing {k = k} {w = w}) a =
+    subst (λ (x : List ℕ). Fed m k (c ∷ []) w x k₂ w₂) (append-nil t) (call a (used nothing))
+
+pub served-none : {m : ℕ} {k : List ℕ} {w : QueueWords} → Served m k w 0 k w
+served-none = record { chunks = []; text = []; count = refl; fed = nothing }
+
+-- one chunk more was read, and all of it answered
+pub served-more : {m i j : ℕ} {k k₁ k₂ c : List ℕ} {w w₁ w₂ : QueueWords} → Served m k w i k₁ w₁ → AllFed j k₁ c w₁ k₂ [] w₂ → j ≡ m
+    → Served m k w (i + 1) k₂ w₂
+served-more {m} {k₁ = k₁} {k₂ = k₂} {c = c} {w₁ = w₁} {w₂ = w₂} S A e =
+    let a : Feeds m k₁ c w₁ (A .text) k₂ [] w₂ = subst (λ (x : ℕ). Feeds x k₁ c w₁ (A .text) k₂ [] w₂) e (A .feeds) in
+    record {
+      chunks = S .chunks ++ c ∷ [];
+      text = S .text ++ A .text;
+      count = length-append (S .chunks) (c ∷ []) ∙ ap (λ (x : ℕ). x + 1) (S .count);
+      fed = fed-more (S .fed) a;
+    }
+
+module _ {m : ℕ} {k k₁ : List ℕ} {w w₁ : QueueWords} {i : ℕ} (S : Served m k w i k₁ w₁) where
+  pub ran-out : {w′ : QueueWords} → Closed k₁ w₁ w′ → Ran m k w i true w′
+  ran-out C = record { kept = k₁; between = w₁; served = S; closed = λ e. C; broken = λ (e : true ≡ false). absurd (true≢false e) }
+
+  pub broke-off : Ran m k w i false w₁
+  broke-off = record { kept = k₁; between = w₁; served = S; closed = λ (e : false ≡ true). absurd (false≢true e); broken = λ e. refl }
+
 -- ---- the run: what was read so far is answered, of which no more than an unfinished line is kept
 
 pub so-far : {m : ℕ} {k k′ : List ℕ} {cs : List (List ℕ)} {w w′ : QueueWords} {v : List ℕ} → Fed m k cs w v k′ w′
@@ -184,6 +218,10 @@ first-81 {l} R =
 all-81 : (ls : List (List ℕ)) {w w′ : QueueWords} {t : List ℕ} → Replies (firsts 81 ls) w t w′ → Replies ls w t w′
 all-81 [] none = none
 all-81 (l ∷ ls) (reply x a) = reply (first-81 x) (all-81 ls a)
+
+-- what `finish` of a program does: the last line is answered where there is room
+pub closed-last : (l : List ℕ) {o o′ : List ℕ} {w w′ : QueueWords} {e : ℕ} → answerRoom ≤ length o → LastClaim l w o w′ o′ e → Closed l w w′
+closed-last l h C = record { text = _; replies = last-replies l h C }
 
 -- "A program reads lines and answers each with one": with 81 bytes of room for a line, what is written is the answers to the lines of the input
 pub all-answered : {cs : List (List ℕ)} {w w′ : QueueWords} {v : List ℕ} → Serving 81 cs w v w′ → Replies (linesOf (joined cs)) w v w′

@@ -1,8 +1,9 @@
--- `finish` writes within what is lent: the answer ends there (`last-room`).
+-- `finish` writes within what is lent (`last-room`), and the last line is answered, since there is room (`closed-last`).
 use borrow.Author.Needs.{needs}
 use native.Mathlib.Omega.{arith}
-use lib.ListN.{length-take}
+use lib.ListN.{take, length-take}
 use Rattle.feed.proofs.laws.Turns.{last-room}
+use Rattle.feed.proofs.laws.Serving.{closed-last}
 use Rattle.serve.proofs.finish.Statement.{statement}
 use Rattle.serve.proofs.finish.Tie as tie
 
@@ -13,6 +14,11 @@ to-answer-last c =
     let d = b .before .before .before .before in
     let e = d .before .before .before .before in
     e .before .before
+
+abbrev to-lent : tie.After-answer-last → tie.After-answer-last-arg
+to-lent c =
+    let a = c .before .before .before .before in
+    a .before .before .before .before
 
 abbrev to-start : tie.After-answer-last-arg → tie.Start
 to-start c =
@@ -28,12 +34,6 @@ answer-last-requires c κs = search needs
 
 put-requires : tie.Need-put-requires
 put-requires c κs = let A = to-answer-last c .answer-last in omega (arith, last-room (A .ensures), A .kept)
-
-slice-aggregate-write-all : tie.Need-slice-aggregate-write-all
-slice-aggregate-write-all c = search needs
-
-write-all-requires : tie.Need-write-all-requires
-write-all-requires c κs = search needs
 
 same-length : tie.Need-same-length
 same-length c = search needs
@@ -57,31 +57,10 @@ same-length-7 : tie.Need-same-length-7
 same-length-7 c = search needs
 
 returns : tie.Need-returns
-returns c = search needs
-
-same-length-8 : tie.Need-same-length-8
-same-length-8 c = search needs
-
-same-length-9 : tie.Need-same-length-9
-same-length-9 c = search needs
-
-same-length-10 : tie.Need-same-length-10
-same-length-10 c = search needs
-
-same-length-11 : tie.Need-same-length-11
-same-length-11 c = search needs
-
-same-length-12 : tie.Need-same-length-12
-same-length-12 c = search needs
-
-same-length-13 : tie.Need-same-length-13
-same-length-13 c = search needs
-
-same-length-14 : tie.Need-same-length-14
-same-length-14 c = search needs
-
-returns-2 : tie.Need-returns-2
-returns-2 c = search needs
+returns c =
+    let at-answer-last = to-answer-last (c .before .before .before) in
+    let start = to-start (to-lent at-answer-last) in
+    closed-last (take (start .args .run .kept) (start .args .line .now)) (omega (arith, start .pre .2)) (at-answer-last .answer-last .ensures)
 
 pub finish-spec : {M : Type 1} → statement M
 finish-spec =
@@ -90,8 +69,6 @@ finish-spec =
     slice-aggregate-answer-last
     answer-last-requires
     put-requires
-    slice-aggregate-write-all
-    write-all-requires
     same-length
     same-length-2
     same-length-3
@@ -99,12 +76,4 @@ finish-spec =
     same-length-5
     same-length-6
     same-length-7
-    returns
-    same-length-8
-    same-length-9
-    same-length-10
-    same-length-11
-    same-length-12
-    same-length-13
-    same-length-14
-    returns-2)
+    returns)
