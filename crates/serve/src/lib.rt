@@ -1,7 +1,7 @@
 // The replay program: reads standard input to its end and answers each line with one. It can show the lists too.
 // What is read and written no contract can say: it reads a chunk, has `feed` answer its lines until it is used up, and
-// writes all that was answered after each call, so that nothing waits while it reads. That is a `Serving` of crates/feed,
-// whose law `all-answered` says what is written.
+// writes all that was answered after each call, so that nothing waits while it reads. That is a `Serving` of the crate
+// feed, whose law `all-answered` says what is written.
 use contents::Pen;
 use delay_queue::Heads;
 use libc::STDERR_FILENO;
@@ -17,9 +17,10 @@ ghost use Rattle.contracts.specs.Lent.{old, new};
 ghost use Rattle.records.specs.Store.{before, after};
 ghost use Rattle.feed.specs.Feed.{answerRoom};
 ghost use Rattle.feed.specs.Serving.{AllFed, Closed, Ran};
+ghost use Rattle.serve.specs.Read.{atEnd};
 
-// Whether each answer is followed by the contents of the lists, how many bytes of an unfinished line are kept, the store,
-// and whether all writes went well.
+// Whether each answer is followed by the contents of the lists, how many bytes of an unfinished line are kept, the
+// store, and whether all writes went well.
 struct Progress {
     lists: bool,
     kept: usize,
@@ -196,18 +197,20 @@ fn finish(
     }
 }
 
-// How many chunks were read, whether the input has ended, the store then, and whether all writes went well.
+// How many chunks were read, what the last read gave, whether the input has ended, the store then, and whether all writes
+// went well.
 struct Outcome {
     reads: u64,
+    got: isize,
     ended: bool,
     state: Wheel,
     heads: Heads,
     fine: bool,
 }
 
-// Reads until the input ends; where it cannot be read any more, a line that has not ended stays unanswered. What each read
-// gave is answered, and the last line: that is claimed, and not that it is written. A proved loop has to end, so it counts
-// its reads; no run comes to the last.
+// Reads until the input ends; where it cannot be read any more, a line that has not ended stays unanswered. What each
+// read gave is answered, and the last line: that is claimed, and not that it is written. A proved loop has to end, so it
+// counts its reads; no run comes to the last.
 fn serve(
     line: &mut [u8],
     start: Progress,
@@ -220,6 +223,7 @@ fn serve(
     out: &mut [u8],
 ) -> Outcome
     requires { ⌜ (start .kept ≤ 81) × (length (now line) ≡ 81) × (length (now out) ≡ 4096) ⌝ }
+    ensures { λ r. ⌜ r .ended ≡ atEnd (r .got) ⌝ }
     ensures { λ r. ⌜
         Ran
         (length (old line))
@@ -240,13 +244,14 @@ fn serve(
             let heads = run.heads;
             return Outcome {
                 reads,
+                got,
                 ended: false,
                 state,
                 heads,
                 fine: run.fine,
             };
         }
-        if got == 0 {
+        if got < 1 {
             let end = finish(
                 line,
                 run,
@@ -262,6 +267,7 @@ fn serve(
             let heads = end.heads;
             return Outcome {
                 reads,
+                got,
                 ended: true,
                 state,
                 heads,
@@ -287,6 +293,7 @@ fn serve(
             let heads = run.heads;
             return Outcome {
                 reads,
+                got,
                 ended: false,
                 state,
                 heads,
@@ -298,6 +305,7 @@ fn serve(
     let heads = run.heads;
     Outcome {
         reads,
+        got: 1,
         ended: false,
         state,
         heads,

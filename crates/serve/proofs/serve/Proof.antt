@@ -3,12 +3,20 @@ use borrow.Author.Needs.{needs}
 use native.Mathlib.Omega.{arith}
 use mathlib.Core.Path.{_≡_, refl, _∙_}
 use Prim.Native.Nat.{_-_, _≤_}
+use lib.IntN.{ℤ}
 use lib.ListN.{length, take}
+use mir.Syntax.{w64}
+use mir.Val.{toZ, ofZ}
 use Rattle.records.specs.Words.{words}
 use Rattle.feed.specs.Serving.{Served}
 use Rattle.feed.proofs.laws.Serving.{served-none, served-more, ran-out, broke-off}
+use Rattle.serve.proofs.laws.Read.{read-failed, read-end, read-some}
 use Rattle.serve.proofs.serve.Statement.{statement}
 use Rattle.serve.proofs.serve.Tie as tie
+
+-- a number as the machine has it
+abbrev word : ℤ → ℤ
+word z = toZ w64 (ofZ w64 z)
 
 abbrev Inv-loop : tie.InvT-loop
 Inv-loop line₀ values₀ deadlines₀ nexts₀ prevs₀ turns₀ marks₀ out₀ buf₀ run₀ reads₀ t24 line values deadlines nexts prevs turns marks out buf
@@ -69,6 +77,21 @@ to-end c =
     let b = a .before .before .before .before in
     b .before .before .before .before
 
+abbrev to-test : tie.After-heads Inv-loop μ-loop → tie.Then1 Inv-loop μ-loop
+to-test c = c .before .before .before .before
+
+abbrev to-then : tie.After-finish Inv-loop μ-loop → tie.Then2 Inv-loop μ-loop
+to-then c =
+    let a = c .before .before .before .before in
+    let b = a .before .before .before .before in
+    b .before
+
+abbrev to-some : tie.After-answer Inv-loop μ-loop → tie.Else2 Inv-loop μ-loop
+to-some c =
+    let a = c .before .before .before .before in
+    let b = a .before .before .before .before in
+    b .before .before .before .before
+
 buffer-requires : tie.Need-buffer-requires Inv-loop μ-loop
 buffer-requires c κs = search needs
 
@@ -112,7 +135,9 @@ same-length-8 : tie.Need-same-length-8 Inv-loop μ-loop
 same-length-8 c = to-in-loop (to-failed c) .before .loop .inv .9
 
 returns : tie.Need-returns Inv-loop μ-loop
-returns c = broke-off (to-in-loop (to-failed c) .before .loop .inv .10)
+returns c =
+    let at-read = to-failed c in
+    (read-failed (word (at-read .read .result)) (to-test c .if1 .taken), broke-off (to-in-loop at-read .before .loop .inv .10))
 
 finish-requires : tie.Need-finish-requires Inv-loop μ-loop
 finish-requires c κs = search needs
@@ -158,7 +183,11 @@ same-length-16 c =
 returns-2 : tie.Need-returns-2 Inv-loop μ-loop
 returns-2 c =
     let at-finish = to-finish c in
-    ran-out (to-in-loop (to-end at-finish) .before .loop .inv .10) (at-finish .finish .ensures)
+    let at-end = to-then at-finish in
+    let at-read = to-end at-finish in (
+      read-end (word (at-read .read .result)) (at-end .before .if1 .left) (at-end .if2 .taken),
+      ran-out (to-in-loop at-read .before .loop .inv .10) (at-finish .finish .ensures),
+    )
 
 slice-aggregate-count : tie.Need-slice-aggregate-count Inv-loop μ-loop
 slice-aggregate-count c = search needs
@@ -229,8 +258,10 @@ same-length-24 c =
 returns-3 : tie.Need-returns-3 Inv-loop μ-loop
 returns-3 c =
     let at-answer = to-answer (c .before .before .before .before) in
-    let turn = to-in-loop (to-read at-answer) .before in
-    broke-off (served-more (turn .loop .inv .10) (at-answer .answer .ensures .1) (turn .loop .inv .2))
+    let turn = to-in-loop (to-read at-answer) .before in (
+      read-some (word (to-read at-answer .read .result)) (to-some at-answer .if2 .left),
+      broke-off (served-more (turn .loop .inv .10) (at-answer .answer .ensures .1) (turn .loop .inv .2)),
+    )
 
 loop-less : tie.Need-loop-less Inv-loop μ-loop
 loop-less c = omega (arith, to-in-loop (to-read (to-answer (c .before .before))) .loop-test .taken)
@@ -280,7 +311,7 @@ same-length-32 : tie.Need-same-length-32 Inv-loop μ-loop
 same-length-32 c = c .before .before .before .loop .inv .9
 
 returns-4 : tie.Need-returns-4 Inv-loop μ-loop
-returns-4 c = broke-off (c .before .before .before .loop .inv .10)
+returns-4 c = (refl, broke-off (c .before .before .before .loop .inv .10))
 
 pub serve-spec : {M : Type 1} → statement M
 serve-spec =
