@@ -374,7 +374,7 @@ impl<T: Taker> Generator<'_, T> {
             4 => elapsed.wrapping_add(1),
             5 => elapsed.wrapping_sub(1),
             6..=9 => {
-                let wake = self.store().and_then(Store::next_wake);
+                let wake = self.store().and_then(Store::wheel_wake);
                 self.near(wake.unwrap_or(elapsed))
             }
             10..=14 => self.now_near_deadline(),

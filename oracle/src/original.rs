@@ -41,6 +41,12 @@ impl Original {
         self.whole.clear();
     }
 
+    /// Whether the expired stack holds anything.
+    pub fn has_expired(&self) -> bool {
+        same(self.watched.has_expired(), self.whole.has_expired())
+    }
+
+    /// The wheel's answer, `poll_at`.
     pub fn wake(&self) -> Option<u64> {
         same(self.watched.wake(), self.whole.wake())
     }

@@ -83,6 +83,10 @@ impl Queue {
         (self.wheel, self.notes) = watch::wheel();
     }
 
+    pub fn has_expired(&self) -> bool {
+        self.expired.head.is_some()
+    }
+
     pub fn wake(&self) -> Option<u64> {
         self.wheel.poll_at()
     }

@@ -128,7 +128,7 @@ impl Store {
             now,
             elapsed,
             heights: self.heights(),
-            from_expired: !self.original.watched().expired().is_empty(),
+            from_expired: self.original.has_expired(),
         });
         let out = self.original.poll(now).map(|(number, value, deadline)| {
             let record = self.record_of[number];
@@ -158,7 +158,7 @@ impl Store {
     }
 
     pub fn wake(&self) -> Answer {
-        Answer::Wake(self.original.wake())
+        Answer::Wake(self.next_wake())
     }
 
     pub fn length(&self) -> Answer {
@@ -184,7 +184,16 @@ impl Store {
         self.original.elapsed()
     }
 
+    /// Elapsed whenever the expired stack holds anything, and the wheel's answer otherwise (02 [1]).
     pub fn next_wake(&self) -> Option<u64> {
+        if self.original.has_expired() {
+            return Some(self.elapsed());
+        }
+        self.wheel_wake()
+    }
+
+    /// `poll_at` as the original has it: it sees the wheel alone.
+    pub fn wheel_wake(&self) -> Option<u64> {
         self.original.wake()
     }
 

@@ -41,6 +41,10 @@ impl Whole {
         self.0.clear()
     }
 
+    pub fn has_expired(&self) -> bool {
+        !self.0.expired.is_empty()
+    }
+
     pub fn wake(&self) -> Option<u64> {
         self.0.wheel.poll_at()
     }

@@ -391,7 +391,8 @@ pub fn poll(
     packed(answer, e, rows, tops, slots)
 }
 
-// When the wheel must be looked at next. A timer that was due when it was set is not on it: poll until nothing comes out, then ask.
+// From when on a poll has something to do: from elapsed on if a timer has expired, else from the start of the wheel's
+// first slot on.
 pub fn next_wake(
     state: Wheel,
     heads: [[u16; 64]; 6],
@@ -408,7 +409,8 @@ pub fn next_wake(
         return Answer::No(2);
     }
     let rows = state.occupied;
-    queue::next_wake(state.elapsed, &rows)
+    let stacks = state.stacks;
+    queue::next_wake(state.elapsed, &rows, stacks.expired)
 }
 
 // How many timers are pending.

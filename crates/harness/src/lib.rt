@@ -159,7 +159,7 @@ fn turn(
         let s = summed(op, sum, answer, e);
         return Ran { elapsed: e, sum: s };
     }
-    let answer = queue::next_wake(elapsed, rows);
+    let answer = queue::next_wake(elapsed, rows, tops[1]);
     let s = told(sum, answer);
     Ran { elapsed, sum: s }
 }
@@ -212,13 +212,13 @@ fn script_on(
 }
 
 // The calls that change nothing.
-fn asked(elapsed: u64, rows: &[u64; 6], n: u16, marks: &[u16], op: u64) -> Answer
+fn asked(elapsed: u64, rows: &[u64; 6], n: u16, expired: u16, marks: &[u16], op: u64) -> Answer
     requires { ⌜ NotPassed elapsed (now rows) × (n ≤ length (now marks)) ⌝ }
 {
     if op == LENGTH {
         return Answer::Length(queue::length(n, marks));
     }
-    queue::next_wake(elapsed, rows)
+    queue::next_wake(elapsed, rows, expired)
 }
 
 // One call on a sound store, which stays sound. Nothing formats here: that number too asks for the next wake. The benchmark has `turn` of
@@ -321,7 +321,7 @@ fn called(
         );
         return Out { answer, elapsed: 0 };
     }
-    let answer = asked(elapsed, rows, tops[0], marks, op);
+    let answer = asked(elapsed, rows, tops[0], tops[1], marks, op);
     Out { answer, elapsed }
 }
 

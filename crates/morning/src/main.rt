@@ -59,7 +59,7 @@ fn key_in(reply: Reply) -> u64 {
     }
 }
 
-// Sets the cut-off, which lies ahead, and asks when to look at the store. (Of one that is due when it is set only a poll tells.)
+// Sets the cut-off, and asks when to look at the store. One that is due when it is set is told of too: look at once.
 fn cut_at(
     store: Reply,
     values: &mut Words,

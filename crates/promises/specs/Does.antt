@@ -8,7 +8,7 @@ use Rattle.queue.specs.Told.{told}
 use Rattle.queue.specs.Told as T
 use Rattle.records.specs.View.{withValue, upd}
 use Rattle.records.specs.Records.{keyOf, Names, Takes, taken, left, placed, freed}
-use Rattle.queue.specs.Steps.{Wakes, pending}
+use Rattle.queue.specs.Steps.{NextWake, pending}
 use Rattle.records.specs.Words.{QueueWords, elapsed, view}
 use Rattle.queue.specs.Calls.{Refused, Answered, ClearOn}
 use Rattle.delay_queue.specs.declared.Call.{Call}
@@ -26,6 +26,6 @@ pub data Does (s : QueueWords) (a : Answer) (t : QueueWords) : Call → Type 0 w
   removed : {key r p : ℕ} → Names (view s) key r p
       → Answered s a (T.gone (view s .value r) (view s .deadline r)) (freed r (left p r (view s))) t → Does s a t (C.Remove key)
   polled : {now : ℕ} → elapsed s ≤ now → PollClaim s now a t → Does s a t (C.Poll now)
-  woke : Wakes (view s) (told a) → t ≡ s → Does s a t C.Wake
+  woke : NextWake (view s) (told a) → t ≡ s → Does s a t C.Wake
   measured : told a ≡ T.len (pending (view s)) → t ≡ s → Does s a t C.Length
   cleared : ClearOn s a t → Does s a t C.Clear

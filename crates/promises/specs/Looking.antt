@@ -1,15 +1,21 @@
 -- Words of the promises on next wake and length, in deadlines and in timers.
 use mathlib.Core.Path.{_≡_}
 use mathlib.Core.Bool.{Bool}
+use mathlib.Core.List.{[]}
 use Prim.Native.Nat.{ℕ, _≤_, _<_}
 use lib.Dec.{ltb}
 use Rattle.times.specs.Times.{floor}
 use Rattle.links.specs.Lists.{Mem}
-use Rattle.stack.specs.Places.{slots, free, levelAt}
+use Rattle.stack.specs.Places.{slots, expired, free, levelAt}
+use Rattle.wheel.specs.Words.{wheelWords}
 use Rattle.records.specs.View.{View}
-use Rattle.records.specs.Words.{QueueWords, markOf}
+use Rattle.records.specs.Words.{QueueWords, queueWords, markOf}
+use Rattle.queue.specs.declared.Answer.{Answer}
+use Rattle.queue.specs.Told.{Told, told}
+use Rattle.queue.specs.Told as T
+use Rattle.promises.specs.Polling.{IsPending}
 
--- ---- next wake
+-- ---- the wheel's answer
 
 -- x lies on the wheel, in the slot p of level p / 64
 pub record OnSlot (v : View) (x p : ℕ) : Type 0 where
@@ -27,6 +33,34 @@ pub record WakesAt (v : View) (w : ℕ) : Type 0 where
   pub rounded : w ≡ floor (levelAt place) (v .deadline item)
   pub exact : place < 64 → w ≡ v .deadline item
   pub least : (x p : ℕ) → OnSlot v x p → ((y q : ℕ) → OnSlot v y q → v .deadline x ≤ v .deadline y) → w ≡ floor (levelAt p) (v .deadline x)
+
+-- ---- next wake
+
+abbrev pub NonePending : View → Type 0
+NonePending v = (r : ℕ) → IsPending v r → ⊥
+
+-- what is promised of a next wake at w: it is not past, and no pending deadline is before it; where a timer has expired it is elapsed, and that timer's
+-- deadline; where none has, it is what is promised of the wheel's
+pub record NextAt (v : View) (w : ℕ) : Type 0 where
+  pub not-past : v .elapsed ≤ w
+  pub in-time : (r : ℕ) → IsPending v r → w ≤ v .deadline r
+  pub due : (r : ℕ) → Mem r (v .lists expired) → (w ≡ v .elapsed) × (w ≡ v .deadline r)
+  pub ahead : v .lists expired ≡ [] → WakesAt v w
+
+-- ---- a poll before it
+
+-- 02 [14]: "up to but excluding the wake (without end if there is no wake)"
+abbrev pub Before : ℕ → Told → Type 0
+Before now x = (w : ℕ) → x ≡ T.wake w → now < w
+
+-- the words of s at another elapsed
+abbrev pub atTime : ℕ → QueueWords → QueueWords
+atTime e s = queueWords (wheelWords e (s .wheel .occupied) (s .wheel .stack)) (s .values) (s .deadlines) (s .turns)
+
+-- 02 [14]: "hands out nothing, makes no moves and changes only elapsed"
+pub record Idle (s : QueueWords) (now : ℕ) (a : Answer) (t : QueueWords) : Type 0 where
+  pub told : told a ≡ T.none 0 0
+  pub only : t ≡ atTime now s
 
 -- ---- length
 

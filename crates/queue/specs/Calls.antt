@@ -7,7 +7,7 @@ use Rattle.queue.specs.declared.Answer.{Answer}
 use Rattle.queue.specs.Told.{Told, told, ok, key, gone, len, no}
 use Rattle.records.specs.View.{View, withElapsed, withValue, upd}
 use Rattle.records.specs.Records.{keyOf, Names, TooFar, OtherBlock, Takes, taken, left, placed, freed}
-use Rattle.queue.specs.Steps.{QueuePolls, Wakes, pending, Clears}
+use Rattle.queue.specs.Steps.{QueuePolls, NextWake, pending, Clears}
 use Rattle.records.specs.Words.{QueueWords, Sound, PastKept, count, view, elapsed}
 
 -- "A refusal answers its number alone; every lent slice stays word for word the same, and the state that went in by value is handed back equal."
@@ -49,7 +49,7 @@ pub record PollOn (s : QueueWords) (time : ℕ) (a : Answer) (s′ : QueueWords)
 
 -- "next wake, length and clear only 2"
 pub record WakeOn (s : QueueWords) (a : Answer) : Type 0 where
-  pub done : Wakes (view s) (told a)
+  pub done : NextWake (view s) (told a)
 
 pub record LengthOn (s : QueueWords) (a : Answer) : Type 0 where
   pub done : told a ≡ len (pending (view s))

@@ -1,11 +1,16 @@
--- What the inner functions leave: a record handed out, the number of pending ones, one record cleared.
+-- What the inner functions leave: a record handed out, the number of pending ones, one record cleared; and what next wake looks at.
 use mathlib.Core.Path.{_≡_}
+use mathlib.Core.Logic.{_≢_}
+use mathlib.Core.List.{List, [], _∷_}
 use Prim.Native.Nat.{ℕ}
 use lib.Dec.{ltb}
+use Rattle.links.specs.Lists.{nobody}
 use Rattle.links.specs.Count.{cnt}
-use Rattle.stack.specs.Places.{free}
+use Rattle.stack.specs.Places.{expired, free}
+use Rattle.wheel.specs.Rows.{Rows}
 use Rattle.queue.specs.declared.Answer.{Answer}
 use Rattle.queue.specs.Told.{told, Hands}
+use Rattle.records.specs.View.{View}
 use Rattle.records.specs.Records.{keyOf, At, left, freed}
 use Rattle.queue.specs.Steps.{kept}
 use Rattle.records.specs.Words.{QueueWords, count, view, Standing, PastKept}
@@ -16,6 +21,15 @@ use Rattle.records.specs.Inner.{Stands, Goes}
 pub record HandsOut (s : QueueWords) (i moves drains : ℕ) (a : Answer) (s′ : QueueWords) : Type 0 where
   pub told : Hands (told a) (keyOf (view s) i) (view s .value i) (view s .deadline i) moves drains
   pub goes : Goes s (freed i (view s)) s′
+
+-- ---- next wake
+
+-- the words that next wake is lent are those of v: its clock, its occupied slots, and the head of its expired stack, nobody if that is empty
+pub record Shows (e : ℕ) (occ : List ℕ) (head : ℕ) (v : View) : Type 0 where
+  pub elapsed : v .elapsed ≡ e
+  pub rows : Rows occ (v .lists)
+  pub empty : head ≡ nobody → v .lists expired ≡ []
+  pub first : head ≢ nobody → (l : List ℕ) × (v .lists expired ≡ head ∷ l)
 
 -- ---- length
 

@@ -31,6 +31,12 @@ pub data Wakes (v : View) : Told → Type 0 where
   sleeps : EmptyWheel (v .lists) → Wakes v never
   starts : {k s : ℕ} → FirstSlot (v .elapsed) (v .lists) k s → Wakes v (wake (startAt (v .elapsed) k s))
 
+-- 02 [1]: "From now on next wake is elapsed whenever the expired stack holds anything, and the wheel's answer otherwise. This mends 01's line on next
+-- wake." The wheel's answer is `Wakes`
+pub data NextWake (v : View) : Told → Type 0 where
+  at-once : {r : ℕ} {l : List ℕ} → v .lists expired ≡ r ∷ l → NextWake v (wake (v .elapsed))
+  from-wheel : {x : Told} → v .lists expired ≡ [] → Wakes v x → NextWake v x
+
 -- how many timers are pending
 unfoldable pub pending : View → ℕ
 pending v = total (λ p x. 1) free (v .lists)

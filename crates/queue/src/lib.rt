@@ -6,12 +6,11 @@ ghost use Rattle.contracts.specs.Lent.{old};
 ghost use Rattle.records.specs.Words.{lent, before, after, count, Standing, SoundBut, Sound};
 ghost use Rattle.queue.specs.Calls.{InsertOn, ResetOn, RemoveOn, PollOn, ClearOn};
 ghost use Rattle.records.specs.Inner.{LooseAt};
-ghost use Rattle.queue.specs.Inner.{HandsOut, pendingIn, ClearsOne};
+ghost use Rattle.queue.specs.Inner.{HandsOut, Shows, pendingIn, ClearsOne};
 ghost use Rattle.queue.specs.Told.{told};
 ghost use Rattle.records.specs.View.{View};
-ghost use Rattle.queue.specs.Steps.{Wakes};
+ghost use Rattle.queue.specs.Steps.{NextWake};
 ghost use Rattle.links.specs.Links.{at};
-ghost use Rattle.wheel.specs.Rows.{Rows};
 ghost use Rattle.wheel.specs.Expiration.{NotPassed};
 
 // An answer.
@@ -282,11 +281,15 @@ pub fn poll(
     Out { answer, elapsed: e }
 }
 
-// When the wheel next has something to do. The expired stack is not asked.
-pub fn next_wake(elapsed: u64, rows: &[u64; 6]) -> Answer
+// When a poll next has something to do: at once if a timer has expired, else when the wheel has. `expired` is the head of
+// the expired stack.
+pub fn next_wake(elapsed: u64, rows: &[u64; 6], expired: u16) -> Answer
     requires { ⌜ NotPassed elapsed (now rows) ⌝ }
-    ensures { λ r. ⌜ ((v : View) → v .elapsed ≡ elapsed → Rows (old rows) (v .lists) → Wakes v (told r)) ⌝ }
+    ensures { λ r. ⌜ ((v : View) → Shows elapsed (old rows) expired v → NextWake v (told r)) ⌝ }
 {
+    if expired != links::NOBODY {
+        return Answer::Wake(elapsed);
+    }
     let wake = wheel::poll_at(elapsed, rows);
     match wake {
         wheel::Wake::At(time) => Answer::Wake(time),

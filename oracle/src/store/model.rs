@@ -66,7 +66,11 @@ impl Model {
         }
     }
 
+    /// At once if a timer has expired, else at the start of the first slot.
     pub fn wake(&self) -> Option<u64> {
+        if !self.lists[EXPIRED].is_empty() {
+            return Some(self.elapsed);
+        }
         self.first().map(|first| first.start)
     }
 

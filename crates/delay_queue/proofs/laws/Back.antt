@@ -5,9 +5,11 @@ use mathlib.Core.List.{List}
 use Prim.Native.Nat.{ℕ, _≤_}
 use lib.ListN.{length}
 use borrow.Author.Tests.{not-true, not-false}
+use Rattle.stack.specs.Places.{expired}
+use Rattle.stack.specs.Words.{headAt}
+use Rattle.stack.proofs.laws.Heads.{head-expired}
 use Rattle.stack.proofs.laws.Whole as stack-laws
 use Rattle.wheel.proofs.laws.Between.{rule-between}
-use Rattle.wheel.specs.Rows.{Rows}
 use Rattle.wheel.specs.Expiration.{NotPassed}
 use Rattle.wheel.proofs.laws.Expiration.{between-passed}
 use Rattle.wheel.specs.declared.Wheel.{Wheel}
@@ -15,9 +17,9 @@ use Rattle.queue.specs.declared.Answer.{Answer}
 use Rattle.queue.specs.declared.Answer.the-variants as A
 use Rattle.queue.specs.Told.{told, len}
 use Rattle.records.specs.View.{View}
-use Rattle.queue.specs.Steps.{Wakes}
+use Rattle.queue.specs.Steps.{NextWake}
 use Rattle.queue.specs.Calls.{WakeOn, LengthOn}
-use Rattle.queue.specs.Inner.{pendingIn}
+use Rattle.queue.specs.Inner.{Shows, pendingIn}
 use Rattle.queue.proofs.laws.Polls.{pending-is}
 use Rattle.records.specs.Words.{QueueWords, words, Sound, count, elapsed, markOf, view}
 use Rattle.contracts.specs.Tells.{Tells}
@@ -65,9 +67,21 @@ taken-up S x = record { bad = λ f. absurd (f S); good = λ _. x }
 pub not-passed : {s : QueueWords} → Sound s → NotPassed (elapsed s) (s .wheel .occupied)
 not-passed S = between-passed (rule-between (S .rule)) (S .standing .whole .rows)
 
+-- the words of a sound store are those of its view
+shows : {s : QueueWords} → Sound s → Shows (elapsed s) (s .wheel .occupied) (s .wheel .stack .stacks .expired) (view s)
+shows {s} S =
+    let W = S .standing .whole .stack in
+    let head : headAt (s .wheel .stack) expired ≡ s .wheel .stack .stacks .expired = head-expired (s .wheel .stack .stacks) (s .wheel .stack .heads) in
+    record {
+      elapsed = refl;
+      rows = S .standing .whole .rows;
+      empty = λ z. stack-laws.list-empty W expired (head ∙ z);
+      first = λ d. rw head at (stack-laws.list-cons W expired (λ z. d (sym head ∙ z)));
+    }
+
 pub wake-done : {s : QueueWords} {a : Answer} → Sound s
-    → ((v : View) → v .elapsed ≡ elapsed s → Rows (s .wheel .occupied) (v .lists) → Wakes v (told a)) → WakeOn s a
-wake-done {s} S f = record { done = f (view s) refl (S .standing .whole .rows) }
+    → ((v : View) → Shows (elapsed s) (s .wheel .occupied) (s .wheel .stack .stacks .expired) v → NextWake v (told a)) → WakeOn s a
+wake-done {s} S f = record { done = f (view s) (shows S) }
 
 pub marks-long : {s : QueueWords} → Sound s → count s ≤ length (s .wheel .stack .links .marks)
 marks-long S = stack-laws.room (S .standing .whole .stack) .marks

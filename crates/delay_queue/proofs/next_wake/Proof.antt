@@ -4,8 +4,8 @@ use Rattle.delay_queue.proofs.laws.Back.{no-answer, is-sound, taken-up,
 use Rattle.delay_queue.proofs.next_wake.Statement.{statement}
 use Rattle.delay_queue.proofs.next_wake.Tie as tie
 
-abbrev to-is-sound : tie.After-next-wake → tie.After-is-sound
-to-is-sound c = c .before .before .before .before
+abbrev to-else1 : tie.After-rows2 → tie.Else1
+to-else1 c = c .before .before .before
 
 is-sound-requires : tie.Need-is-sound-requires
 is-sound-requires c κs = search needs
@@ -14,11 +14,14 @@ returns : tie.Need-returns
 returns c = no-answer (c .before .is-sound .ensures) (c .if1 .taken)
 
 next-wake-requires : tie.Need-next-wake-requires
-next-wake-requires c κs = not-passed (is-sound (c .before .before .before .is-sound .ensures) (c .before .before .if1 .left))
+next-wake-requires c κs =
+    let else1 = to-else1 c in
+    not-passed (is-sound (else1 .before .is-sound .ensures) (else1 .if1 .left))
 
 returns-2 : tie.Need-returns-2
 returns-2 c =
-    let S = is-sound (to-is-sound c .is-sound .ensures) (c .before .before .before .if1 .left) in
+    let else1 = to-else1 (c .before) in
+    let S = is-sound (else1 .before .is-sound .ensures) (else1 .if1 .left) in
     taken-up S (wake-done S (c .next-wake .ensures))
 
 pub next-wake-spec : {M : Type 1} → statement M

@@ -55,8 +55,10 @@ to-else3 c =
     let b = a .before .before .before .before in
     b .before .before .before
 
-abbrev to-else4 : tie.After-asked-arg3 → tie.Else4
-to-else4 c = c .before .before .before .before
+abbrev to-else4 : tie.After-asked-arg4 → tie.Else4
+to-else4 c =
+    let a = c .before .before .before .before in
+    a .before
 
 insert-requires : tie.Need-insert-requires
 insert-requires c κs = search needs
@@ -202,6 +204,9 @@ returns-6 c = search needs
 element-copy-out-asked : tie.Need-element-copy-out-asked
 element-copy-out-asked c = search needs
 
+element-copy-out-asked-2 : tie.Need-element-copy-out-asked-2
+element-copy-out-asked-2 c = search needs
+
 pub called-spec : {M : Type 1} → statement M
 called-spec =
     tie.close
@@ -247,6 +252,7 @@ called-spec =
     same-length-30
     returns-5
     element-copy-out-asked
+    element-copy-out-asked-2
     asked-requires
     same-length-31
     returns-6)

@@ -170,9 +170,13 @@ returns-4 c =
     let start = to-start (to-else3 at-poll .before .before .before) in
     poll-stays (start .pre) (at-poll .poll .ensures)
 
+element-copy-out-next-wake : tie.Need-element-copy-out-next-wake
+element-copy-out-next-wake c = search needs
+
 next-wake-requires : tie.Need-next-wake-requires
 next-wake-requires c κs =
-    let start = to-start (to-slice-known6-2 (c .before .before .before .before)) in
+    let else4 = c .before .before in
+    let start = to-start (to-slice-known6-2 (else4 .before .before .before)) in
     not-passed (start .pre)
 
 told-requires : tie.Need-told-requires
@@ -234,6 +238,7 @@ turn-spec =
     same-length-23
     same-length-24
     returns-4
+    element-copy-out-next-wake
     next-wake-requires
     told-requires
     returns-5)

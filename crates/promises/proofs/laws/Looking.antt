@@ -1,39 +1,42 @@
 -- Next wake and length: what they answer, in deadlines and in timers.
-use mathlib.Core.Path.{_≡_, refl, sym, ap, _∙_}
-use mathlib.Core.Logic.{by-cases}
+use mathlib.Core.Path.{_≡_, refl, sym, ap, _∙_, subst}
+use mathlib.Core.Logic.{_⊎_, inl, inr, ⊎-elim, by-cases}
 use mathlib.Core.Bool.{true}
-use mathlib.Core.List.{[]}
+use mathlib.Core.List.{List, [], _∷_, nil≢cons}
 use mathlib.Core.Option.{Option, none, Option·some-ne-none}
 use Prim.Native.Nat.{ℕ, _/_, _≤_, _<_}
 use native.Mathlib.Nat.{le-trans}
-use native.Mathlib.Decide.{ℕ-discrete}
+use native.Mathlib.Decide.{ℕ-discrete, decLt}
 use native.Mathlib.Omega.{arith}
 use borrow.Author.Tests.{lt-ltb, ltb-true}
 use Rattle.times.specs.Times.{floor, startAt}
 use Rattle.times.proofs.laws.Quotients.{floor-le, floor-zero}
 use Rattle.links.specs.Lists.{Mem}
+use Rattle.links.specs.Links.{at}
 use Rattle.links.specs.Count.{cnt}
-use Rattle.stack.specs.Places.{slotPlace, expired, free, levelAt}
+use Rattle.stack.specs.Places.{slotPlace, slots, expired, free, levelAt}
 use Rattle.stack.proofs.laws.Whole as stack-laws
-use Rattle.wheel.specs.Wheel.{Lists, FirstSlot, EmptyWheel, Polls, idle, early, out, drain}
+use Rattle.wheel.specs.Wheel.{Lists, Rule, FirstSlot, EmptyWheel, Polls, idle, early, out, drain}
 use Rattle.wheel.specs.Between.{Between}
 use Rattle.wheel.proofs.laws.Between.{rule-between, place-level}
 use Rattle.wheel.proofs.laws.Next.{slot-below, here-below, first-in, start-is, start-late, next-before, next-not-before, first-one, first-not-empty}
-use Rattle.wheel.proofs.laws.One.{polls-one}
+use Rattle.wheel.proofs.laws.One.{Same, polls-one}
 use Rattle.queue.specs.declared.Answer.{Answer}
 use Rattle.queue.specs.Told.{Told, told}
 use Rattle.queue.specs.Told as T
-use Rattle.records.specs.View.{View}
+use Rattle.records.specs.View.{View, withElapsed, withLists}
 use Rattle.records.specs.Records.{At}
-use Rattle.queue.specs.Steps.{QueuePolls, polled, popped, handed, nothing, Wakes, sleeps, starts}
-use Rattle.records.specs.Words.{QueueWords, count, elapsed, markOf, view, Sound}
+use Rattle.queue.specs.Steps.{QueuePolls, polled, popped, handed, nothing, Wakes, sleeps, starts, NextWake, at-once, from-wheel}
+use Rattle.records.specs.Words.{QueueWords, count, elapsed, markOf, view, Sound, PastKept}
+use Rattle.records.proofs.laws.Words.{view-fixed}
 use Rattle.records.proofs.laws.Inner.{mark-at}
 use Rattle.queue.specs.Inner.{pendingIn}
 use Rattle.queue.proofs.laws.Polls.{pending-is}
 use Rattle.delay_queue.specs.Claims.{WakeClaim, LengthClaim, PollClaim}
-use Rattle.promises.specs.Looking.{WakesAt, isPending}
+use Rattle.promises.specs.Polling.{IsPending}
+use Rattle.promises.specs.Looking.{OnSlot, WakesAt, NonePending, NextAt, Before, atTime, Idle, isPending}
 
--- ---- next wake
+-- ---- the wheel's answer
 
 first-wakes : {v : View} → Between (v .deadline) (v .elapsed) (v .lists) → {k s : ℕ} → FirstSlot (v .elapsed) (v .lists) k s
     → WakesAt v (startAt (v .elapsed) k s)
@@ -76,25 +79,90 @@ never-wakes : {v : View} {x : Told} → Wakes v x → EmptyWheel (v .lists) → 
 never-wakes (sleeps E) G = refl
 never-wakes (starts F) G = absurd (first-not-empty F G)
 
-module _ {s : QueueWords} {a : Answer} (W : WakeClaim s a) (S : Sound s) where
-  -- "Next wake is `poll_at`: nothing for an empty wheel": `wake -` exactly when no timer lies on the wheel
-  pub never-exactly : (told a ≡ T.never → EmptyWheel (view s .lists)) × (EmptyWheel (view s .lists) → told a ≡ T.never)
-  never-exactly = (wakes-never (W .good S .done), never-wakes (W .good S .done))
+-- ---- next wake
 
-  -- ".. else the start of the first slot as above"
-  pub wake-in-time : {w : ℕ} → told a ≡ T.wake w → WakesAt (view s) w
-  wake-in-time e = wakes-at (rule-between (S .rule)) (W .good S .done) e
+no-members : (l : List ℕ) → ((i : ℕ) → Mem i l → ⊥) → l ≡ []
+no-members [] f = refl
+no-members (x ∷ l) f = absurd (f x (inl refl))
+
+-- a pending timer lies on the wheel, or has expired
+pending-where : {v : View} {r : ℕ} → IsPending v r → ((p : ℕ) × OnSlot v r p) ⊎ Mem r (v .lists expired)
+pending-where {v} {r} (p, a) =
+    by-cases (decLt p slots)
+    (λ h. inl (p, record { slot = h; member = a .member }))
+    (λ h. let e : p ≡ expired = omega (arith, h, a .timed) in inr (rw e at (a .member)))
+
+none-in : (l : List ℕ) → l ≡ [] → (i : ℕ) → Mem i l → ⊥
+none-in l n i m = rw n at m
+
+next-never : {v : View} {x : Told} → NextWake v x → x ≡ T.never → NonePending v
+next-never (at-once n) e r o = let z : _≡_ {A = ℕ} 0 1 = cc in absurd (omega arith)
+next-never {v} (from-wheel n W) e r o =
+    ⊎-elim
+    (λ s. none-in (v .lists (s .0)) (wakes-never W e (s .0) (s .1 .slot)) r (s .1 .member))
+    (none-in (v .lists expired) n r)
+    (pending-where o)
+
+never-next : {v : View} {x : Told} → NextWake v x → NonePending v → x ≡ T.never
+never-next (at-once {r} n) N = absurd (N r (expired, record { timed = omega arith; member = rw n (inl refl) }))
+never-next {v} (from-wheel n W) N =
+    never-wakes W (λ q h. no-members (v .lists q) (λ i m. N i (q, record { timed = omega arith; member = m })))
+
+-- what has expired wakes at once
+now-at : {v : View} → Rule (v .deadline) (v .elapsed) (v .lists) → {r : ℕ} {l : List ℕ} → v .lists expired ≡ r ∷ l → NextAt v (v .elapsed)
+now-at {v} R n =
+    record {
+      not-past = omega arith;
+      in-time = λ x o. ⊎-elim (λ s. R .wheel (s .0) x (s .1 .slot) (s .1 .member) .late) (λ m. omega (arith, R .stack x m)) (pending-where o);
+      due = λ x m. (refl, sym (R .stack x m));
+      ahead = λ z. absurd (nil≢cons (sym z ∙ n));
+    }
+
+-- with nothing expired the wheel speaks for all
+wheel-at : {v : View} {w : ℕ} → v .lists expired ≡ [] → WakesAt v w → NextAt v w
+wheel-at {v} n A =
+    record {
+      not-past = A .not-past;
+      in-time = λ x o. ⊎-elim (λ s. A .in-time x (s .0) (s .1)) (λ m. absurd (none-in (v .lists expired) n x m)) (pending-where o);
+      due = λ x m. absurd (none-in (v .lists expired) n x m);
+      ahead = λ z. A;
+    }
+
+next-at : {v : View} → Rule (v .deadline) (v .elapsed) (v .lists) → {x : Told} {w : ℕ} → NextWake v x → x ≡ T.wake w → NextAt v w
+next-at {v} R {w = w} (at-once n) e = let z : v .elapsed ≡ w = cc in rw (← z) (now-at R n)
+next-at R (from-wheel n W) e = wheel-at n (wakes-at (rule-between R) W e)
+
+next-now : {v : View} {x : Told} {r : ℕ} {l : List ℕ} → NextWake v x → v .lists expired ≡ r ∷ l → x ≡ T.wake (v .elapsed)
+next-now (at-once n) e = refl
+next-now (from-wheel n W) e = absurd (nil≢cons (sym n ∙ e))
+
+module _ {s : QueueWords} {a : Answer} (W : WakeClaim s a) (S : Sound s) where
+  -- `wake -` exactly when nothing is pending
+  pub never-exactly : (told a ≡ T.never → NonePending (view s)) × (NonePending (view s) → told a ≡ T.never)
+  never-exactly = (next-never (W .good S .done), never-next (W .good S .done))
+
+  -- 02 [1]: "next wake is elapsed whenever the expired stack holds anything": whatever lies on the wheel
+  pub wake-at-once : {r : ℕ} {l : List ℕ} → view s .lists expired ≡ r ∷ l → told a ≡ T.wake (elapsed s)
+  wake-at-once e = next-now (W .good S .done) e
+
+  -- "and the wheel's answer otherwise": in deadlines, of all that is pending
+  pub wake-in-time : {w : ℕ} → told a ≡ T.wake w → NextAt (view s) w
+  wake-in-time e = next-at (S .rule) (W .good S .done) e
 
 -- ---- a poll before the wake
 
--- nothing to do, where the first slot starts past now
-idle-before : {v : View} {now : ℕ} {x y : Told} {u : View} → v .lists expired ≡ [] → Wakes v x → QueuePolls v now y u
-    → ((w : ℕ) → x ≡ T.wake w → now < w) → y ≡ T.none 0 0
+idled : (v : View) {m n now c : ℕ} {M : Lists} → Same none m n c M none 0 0 now (v .lists)
+    → (T.none m n ≡ T.none 0 0) × (withElapsed c (withLists M v) ≡ withElapsed now v)
+idled v R = (rw (R .moves, R .drains), λ i. withElapsed (R .elapsed i) (withLists (R .lists i) v))
+
+-- nothing to do, where the first slot starts past now: nothing but elapsed changes
+idle-before : {v : View} {now : ℕ} {x y : Told} {u : View} → v .lists expired ≡ [] → Wakes v x → QueuePolls v now y u → Before now x
+    → (y ≡ T.none 0 0) × (u ≡ withElapsed now v)
 idle-before n W (handed (popped e)) f = let z : _≡_ {A = ℕ} 0 1 = cc in absurd (omega arith)
 idle-before n (sleeps E) (handed (polled e P)) f = absurd (Option·some-ne-none _ (polls-one P (idle E) .got))
-idle-before n (sleeps E) (nothing (polled e P)) f = let R = polls-one P (idle E) in rw (R .moves, R .drains)
+idle-before {v} n (sleeps E) (nothing (polled e P)) f = idled v (polls-one P (idle E))
 idle-before n (starts F) (handed (polled e P)) f = absurd (Option·some-ne-none _ (polls-one P (early F (f _ refl)) .got))
-idle-before n (starts F) (nothing (polled e P)) f = let R = polls-one P (early F (f _ refl)) in rw (R .moves, R .drains)
+idle-before {v} n (starts F) (nothing (polled e P)) f = idled v (polls-one P (early F (f _ refl)))
 
 -- and only there
 idle-first : {d : ℕ → ℕ} {now e : ℕ} {L : Lists} {got : Option ℕ} {m n c : ℕ} {M : Lists} → Polls d now e L got m n c M → got ≡ none → n ≡ 0
@@ -113,14 +181,43 @@ idle-only {v} {w = w} (starts {k} {s} F) (nothing {m} {n} (polled i P)) h e =
     let q : startAt (v .elapsed) k s ≡ w = cc in
     rw (← q) (idle-first P refl z F)
 
--- "An empty wheel or a slot start past now ends it": with no expired timer, a poll finds nothing to do exactly when next wake does not call for it by then
+-- the same of next wake, with no word on the expired stack: elapsed itself is not before the wake that it calls for
+idle-next : {v : View} {now : ℕ} {x y : Told} {u : View} → v .elapsed ≤ now → NextWake v x → QueuePolls v now y u → Before now x
+    → (y ≡ T.none 0 0) × (u ≡ withElapsed now v)
+idle-next h (at-once n) P f = absurd (omega (arith, h, f _ refl))
+idle-next h (from-wheel n W) P f = idle-before n W P f
+
+only-next : {v : View} {now : ℕ} {x y : Told} {u : View} → NextWake v x → QueuePolls v now y u → y ≡ T.none 0 0 → Before now x
+only-next (at-once n) (handed P) h w e = let z : _≡_ {A = ℕ} 0 1 = cc in absurd (omega arith)
+only-next (at-once n) (nothing (polled i P)) h w e = absurd (nil≢cons (sym i ∙ n))
+only-next (from-wheel n W) P h w e = idle-only W P h e
+
+-- a view that differs in elapsed alone is that of words that do
+only-elapsed : {s t : QueueWords} {now : ℕ} → Sound s → Sound t → PastKept (count s) s t → view t ≡ withElapsed now (view s) → t ≡ atTime now s
+only-elapsed {s} {t} {now} S T K e =
+    let A = S .standing in
+    let R : Rule (at (s .deadlines)) now (view s .lists) = subst (λ (v : View). Rule (v .deadline) (v .elapsed) (v .lists)) e (T .rule) in
+    let S′ : Sound (atTime now s)
+    = record {
+      standing =
+          record {
+            fits = A .fits;
+            whole = record { stack = A .whole .stack; rows = A .whole .rows };
+            turns = A .turns;
+            retired = A .retired;
+          };
+      rule = R;
+    } in
+    view-fixed S′ T e (record { links = K .links; values = K .values; deadlines = K .deadlines; turns = K .turns })
+
+-- "An empty wheel or a slot start past now ends it": a poll from elapsed on finds something to do exactly from next wake on. Before, it "hands out nothing,
+-- makes no moves and changes only elapsed" (02 [14])
 pub idle-exactly : {s t : QueueWords} {a b : Answer} {now : ℕ} → WakeClaim s a → PollClaim s now b t → Sound s → elapsed s ≤ now
-    → view s .lists expired ≡ []
-    → (((w : ℕ) → told a ≡ T.wake w → now < w) → told b ≡ T.none 0 0) × (told b ≡ T.none 0 0 → (w : ℕ) → told a ≡ T.wake w → now < w)
-idle-exactly W P S h n =
+    → (Before now (told a) → Idle s now b t) × (told b ≡ T.none 0 0 → Before now (told a))
+idle-exactly W P S h =
     let x = W .good S .done in
-    let y = P .good S .done h .1 in
-    (idle-before n x y, λ e w. idle-only x y e)
+    let y = P .good S .done h in
+    (λ f. let z = idle-next h x (y .1) f in record { told = z .0; only = only-elapsed S (y .0) (y .2) (z .1) }, only-next x (y .1))
 
 -- ---- length
 

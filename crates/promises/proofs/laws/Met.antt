@@ -24,8 +24,9 @@ use Rattle.wheel.proofs.laws.Turns.{insert-adds, moved-none, move-adds, moved-s
 use Rattle.wheel.specs.Drain.{heights}
 use Rattle.queue.specs.declared.Answer.{Answer}
 use Rattle.queue.specs.declared.Answer.the-variants as A
+use Rattle.queue.specs.Told.{told}
 use Rattle.records.specs.Records.{lastTurn}
-use Rattle.queue.specs.Steps.{sleeps, starts}
+use Rattle.queue.specs.Steps.{Wakes, sleeps, starts, at-once, from-wheel}
 use Rattle.records.specs.Words.{QueueWords, queueWords, count, elapsed, markOf, view, Standing, SoundBut, Sound}
 use Rattle.queue.specs.Calls.{Refused, InsertOn, ResetOn, RemoveOn, PollOn, WakeOn}
 use Rattle.records.specs.Found.{DeadlineNo}
@@ -241,16 +242,20 @@ module _ (e : ℕ) (L : Lists) where
 
 -- ---- next wake and length
 
-wake-on : (s : QueueWords) → EmptyWheel (view s .lists) ⊎ ((k : ℕ) × (c : ℕ) × FirstSlot (elapsed s) (view s .lists) k c)
-    → (a : Answer) × WakeOn s a
-wake-on s (inl E) = (A.NoWake, record { done = sleeps E })
-wake-on s (inr F) = (A.Wake _, record { done = starts (F .2) })
+wheel-wakes : (s : QueueWords) → EmptyWheel (view s .lists) ⊎ ((k : ℕ) × (c : ℕ) × FirstSlot (elapsed s) (view s .lists) k c)
+    → (a : Answer) × Wakes (view s) (told a)
+wheel-wakes s (inl E) = (A.NoWake, sleeps E)
+wheel-wakes s (inr F) = (A.Wake _, starts (F .2))
+
+wake-on : (s : QueueWords) (l : List ℕ) → view s .lists expired ≡ l → (a : Answer) × WakeOn s a
+wake-on s [] e = let m = wheel-wakes s (next-met (elapsed s) (view s .lists)) in (m .0, record { done = from-wheel e (m .1) })
+wake-on s (r ∷ l) e = (A.Wake (elapsed s), record { done = at-once e })
 
 answer-met : {On : Answer → Type 0} (s : QueueWords) → (Sound s → (a : Answer) × On a) → (a : Answer) × Judging s a s (On a)
 answer-met s f = by-cases (sound-dec s) (λ S. let m = f S in (m .0, taken-up S (m .1))) (λ n. (A.No 2, unsound n))
 
 pub wake-met : (s : QueueWords) → (a : Answer) × WakeClaim s a
-wake-met s = answer-met s (λ S. wake-on s (next-met (elapsed s) (view s .lists)))
+wake-met s = answer-met s (λ S. wake-on s (view s .lists expired) refl)
 
 pub length-met : (s : QueueWords) → (a : Answer) × LengthClaim s a
 length-met s = answer-met s (λ S. (A.Length (pendingIn (markOf s) (count s)), length-done S refl))

@@ -19,7 +19,7 @@ use Rattle.queue.specs.Told.{Told, told}
 use Rattle.queue.specs.Told as T
 use Rattle.records.specs.View.{View}
 use Rattle.records.specs.Records.{TooFar, OtherBlock, target, placed}
-use Rattle.queue.specs.Steps.{QueuePolls, polled, popped, handed, nothing, Wakes, sleeps, starts}
+use Rattle.queue.specs.Steps.{QueuePolls, polled, popped, handed, nothing, sleeps, starts, NextWake, at-once, from-wheel}
 use Rattle.records.specs.Words.{QueueWords, elapsed, view, Sound}
 use Rattle.records.proofs.laws.Words.{upd-same}
 use Rattle.queue.specs.Calls.{Refused}
@@ -132,10 +132,11 @@ inserted {s} {s′} {a} {value} Q I =
           (λ p h. change-other (view s .lists) free (Q .rest) p (omega arith) ∙ Q .empty p h)),
     )
 
-wakes-one : (v : View) (x : ℕ) → Inserted v x → {y : Told} → Wakes v y → y ≡ T.wake 4096
+wakes-one : (v : View) (x : ℕ) → Inserted v x → {y : Told} → NextWake v y → y ≡ T.wake 4096
 unfolding startAt width
-wakes-one v x R (sleeps E) = absurd (first-not-empty (first-then (R .only)) E)
-wakes-one v x R (starts {k} {s} F) =
+wakes-one v x R (at-once e) = absurd (nil≢cons (sym (R .stack) ∙ e))
+wakes-one v x R (from-wheel e (sleeps E)) = absurd (first-not-empty (first-then (R .only)) E)
+wakes-one v x R (from-wheel e (starts {k} {s} F)) =
     let q = first-one (rw (R .clock) at F) (first-then (R .only)) in
     rw (R .clock, q .0, q .1) refl
 

@@ -19,7 +19,7 @@ use Rattle.queue.specs.declared.Answer.{Answer}
 use Rattle.queue.specs.Told.{Told, told}
 use Rattle.records.specs.View.{View, withValue, upd}
 use Rattle.records.specs.Records.{taken, left, target, placed, freed}
-use Rattle.queue.specs.Steps.{Wakes, sleeps, starts, Clears, begun, kept, gave}
+use Rattle.queue.specs.Steps.{sleeps, starts, NextWake, at-once, from-wheel, Clears, begun, kept, gave}
 use Rattle.records.specs.Words.{QueueWords, elapsed, view, Sound}
 use Rattle.queue.specs.Calls.{Answered}
 use Rattle.delay_queue.specs.declared.Call.{Call}
@@ -123,9 +123,10 @@ pays c x = cond (isPlacing c && not (isNo x)) 1 0
 abbrev Paid : QueueWords → Answer → QueueWords → Call → Type 0
 Paid s a t c = movesOf (told a) + heights (view t .lists) ≤ heights (view s .lists) + 5 * pays c (told a)
 
-wakes-moves : {v : View} {x : Told} → Wakes v x → movesOf x ≡ 0
-wakes-moves (sleeps E) = refl
-wakes-moves (starts F) = refl
+wakes-moves : {v : View} {x : Told} → NextWake v x → movesOf x ≡ 0
+wakes-moves (at-once e) = refl
+wakes-moves (from-wheel e (sleeps E)) = refl
+wakes-moves (from-wheel e (starts F)) = refl
 
 module _ (s : QueueWords) (a : Answer) (t : QueueWords) where
   same-paid : (c : Call) → t ≡ s → movesOf (told a) ≡ 0 → Paid s a t c

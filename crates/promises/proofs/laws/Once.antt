@@ -17,7 +17,7 @@ use Rattle.queue.specs.Told.{Told, told}
 use Rattle.queue.specs.Told as T
 use Rattle.records.specs.View.{View}
 use Rattle.records.specs.Records.{At, freed, left}
-use Rattle.queue.specs.Steps.{QueuePolls, polled, popped, handed, nothing, Wakes, sleeps, starts, Clears, begun, kept, gave}
+use Rattle.queue.specs.Steps.{QueuePolls, polled, popped, handed, nothing, Wakes, sleeps, starts, NextWake, at-once, from-wheel, Clears, begun, kept, gave}
 use Rattle.records.specs.Words.{QueueWords, words, count, elapsed, view, Sound, PastKept, Standing}
 use Rattle.records.proofs.laws.Words.{view-fixed}
 use Rattle.records.proofs.laws.Inner.{mark-at, left-size, placed-size, freed-size}
@@ -203,13 +203,19 @@ wakes-one (sleeps E) (starts F) = absurd (first-not-empty F E)
 wakes-one (starts F) (sleeps E) = absurd (first-not-empty F E)
 wakes-one (starts F) (starts G) = let q = first-one F G in rw (q .0, q .1)
 
+next-one : {v : View} {x y : Told} → NextWake v x → NextWake v y → x ≡ y
+next-one (at-once e) (at-once f) = refl
+next-one (at-once e) (from-wheel f W) = absurd (nil≢cons (sym f ∙ e))
+next-one (from-wheel e W) (at-once f) = absurd (nil≢cons (sym e ∙ f))
+next-one (from-wheel e W) (from-wheel f X) = wakes-one W X
+
 module _ {s : QueueWords} {a a′ : Answer} where
   -- they answer alone
   answer-once : {On On′ : Type 0} → Judging s a s On → Judging s a′ s On′ → (On → On′ → told a ≡ told a′) → a ≡ a′
   answer-once J K f = judging-once J K (λ S x y. (told-one a a′ (f x y), refl)) .0
 
   pub wake-once : WakeClaim s a → WakeClaim s a′ → a ≡ a′
-  wake-once C D = answer-once C D (λ x y. wakes-one (x .done) (y .done))
+  wake-once C D = answer-once C D (λ x y. next-one (x .done) (y .done))
 
   pub length-once : LengthClaim s a → LengthClaim s a′ → a ≡ a′
   length-once C D = answer-once C D (λ x y. x .done ∙ sym (y .done))

@@ -15,7 +15,7 @@ use Rattle.queue.specs.declared.Answer.the-variants as A
 use Rattle.queue.specs.Told.{Told, told}
 use Rattle.queue.specs.Told as T
 use Rattle.records.specs.View.{View}
-use Rattle.queue.specs.Steps.{QueuePolls, polled, popped, handed, nothing, Wakes, sleeps, starts}
+use Rattle.queue.specs.Steps.{QueuePolls, polled, popped, handed, nothing, sleeps, starts, NextWake, at-once, from-wheel}
 use Rattle.records.specs.Words.{QueueWords, count, elapsed, view, Sound, slices, PastKept}
 use Rattle.records.proofs.laws.Words.{past-refl}
 use Rattle.queue.specs.Calls.{Answered, InsertOn, ResetOn, RemoveOn, PollOn}
@@ -71,9 +71,10 @@ polls-says (handed (popped e)) = refl
 polls-says (handed (polled e P)) = refl
 polls-says (nothing (polled e P)) = refl
 
-pub wakes-says : {v : View} {x : Told} → Wakes v x → isNo x ≡ false
-wakes-says (sleeps E) = refl
-wakes-says (starts F) = refl
+pub wakes-says : {v : View} {x : Told} → NextWake v x → isNo x ≡ false
+wakes-says (at-once e) = refl
+wakes-says (from-wheel e (sleeps E)) = refl
+wakes-says (from-wheel e (starts F)) = refl
 
 module _ {s t : QueueWords} {a : Answer} where
   judging-ends : {On : Type 0} → Judging s a t On → (Sound s → On → Ends (count s) s a t) → Ends (count s) s a t

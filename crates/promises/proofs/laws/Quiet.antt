@@ -1,29 +1,33 @@
--- A store where nothing is pending: there is one, and a poll takes it to any time. So the mornings and the refusals have stores to speak of.
+-- A store where nothing is pending: there is one, and a poll takes it to any time. So the mornings and the refusals have stores to speak of. And stores
+-- where a timer has expired, alone or with another on the wheel.
 use mathlib.Core.Path.{_≡_, refl, sym, ap, _∙_}
 use mathlib.Core.List.{List, [], _∷_, nil≢cons}
 use mathlib.Core.Option.{Option·some-ne-none}
-use mathlib.Core.Logic.{inl}
+use mathlib.Core.Logic.{_≢_, inl}
 use Prim.Native.Nat.{ℕ, _≤_, _<_, max}
 use native.Mathlib.Omega.{arith}
 use borrow.Author.Tests.{eq-eqb}
-use Rattle.links.specs.Lists.{Mem}
+use Rattle.times.specs.Times.{width, slotOf, levelBelow, levelOf}
+use Rattle.links.specs.Lists.{Mem, change}
 use Rattle.links.proofs.laws.Lists.{change-same, change-other}
 use Rattle.stack.specs.Places.{expired, free, put}
-use Rattle.stack.specs.Format.{formatted}
+use Rattle.stack.specs.Format.{formatted, range}
 use Rattle.stack.proofs.laws.Whole as stack-laws
-use Rattle.wheel.specs.Wheel.{idle}
+use Rattle.wheel.specs.Wheel.{idle, placeFor}
 use Rattle.wheel.proofs.laws.One.{polls-one}
 use Rattle.queue.specs.declared.Answer.{Answer}
 use Rattle.queue.specs.Told.{Told}
 use Rattle.records.specs.View.{View, withValue, upd}
-use Rattle.records.specs.Records.{taken, target, placed}
+use Rattle.records.specs.Records.{Takes, taken, target, placed}
 use Rattle.queue.specs.Steps.{QueuePolls, polled, popped, handed, nothing}
-use Rattle.records.specs.Words.{QueueWords, count, elapsed, view, Sound}
+use Rattle.records.specs.Words.{QueueWords, words, slices, count, elapsed, view, Sound}
+use Rattle.records.specs.Slices.{Fits}
 use Rattle.delay_queue.specs.Claims.{InsertClaim, PollClaim}
-use Rattle.promises.proofs.laws.Met.{insert-met, poll-met}
+use Rattle.promises.proofs.laws.Met.{format-met, insert-met, poll-met}
 use Rattle.promises.specs.OneCall.{one}
 use Rattle.promises.proofs.laws.OneCall.{one-sound, one-free}
 use Rattle.promises.specs.Quiet.{Quiet}
+use Rattle.promises.specs.Looking.{OnSlot}
 
 -- a poll takes it to any time
 quiet-polls : {v : View} {now : ℕ} → ((p : ℕ) → p < free → v .lists p ≡ []) → {y : Told} {u : View} → QueuePolls v now y u
@@ -101,3 +105,80 @@ expired-shown e =
     let m = insert-met (q .0) 0 0 in
     let x = quiet-expired (q .1) (omega arith) (m .2) in
     (m .1, x .0, x .1, (q .1 .item, x .2))
+
+-- ---- one that has expired, and one on the wheel
+
+placed-lists : (x when : ℕ) (v : View) (p : ℕ) → target (v .elapsed) (max when (v .elapsed)) ≡ p
+    → placed x when v .lists ≡ change (v .lists) p (put p x (v .lists p))
+unfolding placed
+placed-lists x when v p e = ap (λ q. change (v .lists) q (put q x (v .lists q))) e
+
+placed-clock : (x when : ℕ) (v : View) → placed x when v .elapsed ≡ v .elapsed
+unfolding placed
+placed-clock x when v = refl
+
+-- x has come from the head of the free list, of which l is left, to the place p
+record Came (s t : QueueWords) (x p : ℕ) (l : List ℕ) : Type 0 where
+  sound : Sound t
+  clock : elapsed t ≡ elapsed s
+  left : view t .lists free ≡ l
+  after : List ℕ
+  here : view t .lists p ≡ x ∷ after
+  else : (q : ℕ) → q < free → q ≢ p → view t .lists q ≡ view s .lists q
+
+came : {s t : QueueWords} {a : Answer} {value when p x : ℕ} {l : List ℕ} → InsertClaim s value when a t → Sound s → view s .lists free ≡ x ∷ l
+    → Takes (elapsed s) when → target (elapsed s) (max when (elapsed s)) ≡ p → p < free → Came s t x p l
+unfolding put
+came {s} {t} {value = value} {when = when} {p = p} {x = x} {l = l} I S f k e h =
+    let A = I .good S .done x l f k in
+    let v = withValue (upd (view s .value) x value) (taken l (view s)) in
+    let L = change (view s .lists) free l in
+    let is : view t .lists ≡ change L p (put p x (L p)) = ap (λ u. u .lists) (A .view) ∙ placed-lists x when v p e in
+    record {
+      sound = A .sound;
+      clock = ap (λ u. u .elapsed) (A .view) ∙ placed-clock x when v;
+      left = ap (λ M. M free) is ∙ change-other L p (put p x (L p)) free (omega arith) ∙ change-same (view s .lists) free l;
+      after = L p;
+      here = ap (λ M. M p) is ∙ change-same L p (put p x (L p));
+      else = λ q g d. ap (λ M. M q) is ∙ change-other L p (put p x (L p)) q d ∙ change-other (view s .lists) free l q (omega arith);
+    }
+
+-- two records, freshly formatted over words of 0
+two-made : (s : QueueWords) × Sound s × (elapsed s ≡ 0) × (view s .lists free ≡ 0 ∷ 1 ∷ [])
+unfolding range
+two-made =
+    let w : List ℕ = 0 ∷ 0 ∷ [] in
+    let s = words (record { elapsed = 0; occupied = []; stacks = record { n = 0; expired = 0; free = 0 } }) [] w w w w w w in
+    let F : Fits (slices s) 2
+    = record {
+      some = omega arith;
+      few = omega arith;
+      room = record {
+        values = omega arith;
+        deadlines = omega arith;
+        links = record { nexts = omega arith; prevs = omega arith; marks = omega arith };
+        turns = omega arith;
+      };
+    } in
+    let m = format-met s 2 1 in
+    let D = m .2 .done F (record { some = omega arith; last = omega arith }) in
+    (m .1, D .sound, ap (λ v. v .elapsed) (D .view), ap (λ v. v .lists free) (D .view) ∙ change-same (λ p. []) free (range 2 0))
+
+target-70 : (e : ℕ) → e ≡ 0 → target e (max 70 e) ≡ 65
+unfolding target placeFor levelOf levelBelow slotOf width
+target-70 e z = rw z
+
+target-0 : (e : ℕ) → target e (max 0 e) ≡ expired
+unfolding target
+target-0 e = let w : max 0 e ≡ e = omega arith in rw (w, eq-eqb e e refl)
+
+-- a timer for 70, then one for 0: a store where one has expired and another lies on the wheel
+pub both-shown : (s : QueueWords) × Sound s × ((r : ℕ) × (l : List ℕ) × (view s .lists expired ≡ r ∷ l)) × OnSlot (view s) 0 65
+both-shown =
+    let two = two-made in
+    let m = insert-met (two .0) 0 70 in
+    let A = came (m .2) (two .1) (two .3) (λ h. rw (two .2)) (target-70 (elapsed (two .0)) (two .2)) (omega arith) in
+    let n = insert-met (m .1) 0 0 in
+    let B = came (n .2) (A .sound) (A .left) (λ h. absurd (omega arith)) (target-0 (elapsed (m .1))) (omega arith) in
+    let on : Mem 0 (view (n .1) .lists 65) = rw (B .else 65 (omega arith) (omega arith), A .here) (inl refl) in
+    (n .1, B .sound, (1, B .after, B .here), record { slot = omega arith; member = on })

@@ -10,7 +10,7 @@ use Rattle.records.specs.Words.{QueueWords, view, Sound}
 use Rattle.queue.specs.declared.Answer.{Answer}
 use Rattle.queue.specs.Told.{Told, told, Hands}
 use Rattle.queue.specs.Told as T
-use Rattle.queue.specs.Steps.{QueuePolls, polled, popped, handed, nothing, Wakes, sleeps, starts, pending, Clears}
+use Rattle.queue.specs.Steps.{QueuePolls, polled, popped, handed, nothing, sleeps, starts, NextWake, at-once, from-wheel, pending, Clears}
 use Rattle.delay_queue.specs.declared.Call.{Call}
 use Rattle.delay_queue.specs.declared.Call.the-variants as C
 use Rattle.delay_queue.specs.Claims.{fresh, CallClaim}
@@ -26,7 +26,7 @@ pub data ViewGoes (v : View) : Call → Told → View → Type 0 where
   resets : {k when r p : ℕ} → Names v k r p → ViewGoes v (C.Reset k when) T.ok (placed r when (left p r v))
   removes : {k r p : ℕ} → Names v k r p → ViewGoes v (C.Remove k) (T.gone (v .value r) (v .deadline r)) (freed r (left p r v))
   polls : {now : ℕ} {x : Told} {w : View} → v .elapsed ≤ now → QueuePolls v now x w → ViewGoes v (C.Poll now) x w
-  wakes : {x : Told} → Wakes v x → ViewGoes v C.Wake x v
+  wakes : {x : Told} → NextWake v x → ViewGoes v C.Wake x v
   counts : ViewGoes v C.Length (T.len (pending v)) v
   clears : {w : View} → Clears v (v .n) w → ViewGoes v C.Clear T.ok (withElapsed 0 w)
 
@@ -53,13 +53,15 @@ poll-no-key (handed (popped e)) z = let y : _≡_ {A = ℕ} 0 1 = cc in omega ar
 poll-no-key (handed (polled e P)) z = let y : _≡_ {A = ℕ} 0 1 = cc in omega arith
 poll-no-key (nothing (polled e P)) z = let y : _≡_ {A = ℕ} 0 1 = cc in omega arith
 
-wake-no-key : {v : View} {x : Told} → Wakes v x → {k : ℕ} → x ≡ T.key k → ⊥
-wake-no-key (sleeps E) z = let y : _≡_ {A = ℕ} 0 1 = cc in omega arith
-wake-no-key (starts F) z = let y : _≡_ {A = ℕ} 0 1 = cc in omega arith
+wake-no-key : {v : View} {x : Told} → NextWake v x → {k : ℕ} → x ≡ T.key k → ⊥
+wake-no-key (at-once e) z = let y : _≡_ {A = ℕ} 0 1 = cc in omega arith
+wake-no-key (from-wheel e (sleeps E)) z = let y : _≡_ {A = ℕ} 0 1 = cc in omega arith
+wake-no-key (from-wheel e (starts F)) z = let y : _≡_ {A = ℕ} 0 1 = cc in omega arith
 
-wake-no-out : {v : View} {x : Told} → Wakes v x → {k a d m n : ℕ} → Hands x k a d m n → ⊥
-wake-no-out (sleeps E) z = let y : _≡_ {A = ℕ} 0 1 = cc in omega arith
-wake-no-out (starts F) z = let y : _≡_ {A = ℕ} 0 1 = cc in omega arith
+wake-no-out : {v : View} {x : Told} → NextWake v x → {k a d m n : ℕ} → Hands x k a d m n → ⊥
+wake-no-out (at-once e) z = let y : _≡_ {A = ℕ} 0 1 = cc in omega arith
+wake-no-out (from-wheel e (sleeps E)) z = let y : _≡_ {A = ℕ} 0 1 = cc in omega arith
+wake-no-out (from-wheel e (starts F)) z = let y : _≡_ {A = ℕ} 0 1 = cc in omega arith
 
 -- a key is answered by an insert alone
 pub key-inserts : {v : View} {c : Call} {x : Told} {w : View} → ViewGoes v c x w → {k : ℕ} → x ≡ T.key k

@@ -34,14 +34,14 @@ use Rattle.queue.specs.declared.Answer.the-variants as A
 use Rattle.queue.specs.Told.{Told, told, out, wake, never}
 use Rattle.records.specs.View.{View, withElapsed, withLists}
 use Rattle.records.specs.Records.{lastTurn, packed, At, left, freed}
-use Rattle.queue.specs.Steps.{TakesOut, popped, polled, QueuePolls, handed, nothing, Wakes, sleeps, starts, pending, Clears, begun, kept, gave}
+use Rattle.queue.specs.Steps.{TakesOut, popped, polled, QueuePolls, handed, nothing, Wakes, sleeps, starts, NextWake, at-once, from-wheel, pending, Clears, begun, kept, gave}
 use Rattle.records.specs.Words.{QueueWords, queueWords, count, elapsed, markOf, view, Standing, SoundBut, Sound, PastKept}
 use Rattle.records.proofs.laws.Words.{past-refl, past-then}
 use Rattle.queue.specs.Calls.{PollOn, ClearOn}
 use Rattle.records.specs.Inner.{StandsBut, GoesBut, Goes, LooseAt, CanFree, LeavesTo}
 use Rattle.records.proofs.laws.Inner.{with-rule, loose-out, StayBut, stay-all, stay-popped, stands-wheel, stands-lists, can-leave, mem-without, stands-left, stands-freed, goes-freed, left-size, freed-size}
 use Rattle.queue.proofs.laws.Calls.{stands-then, goes-then}
-use Rattle.queue.specs.Inner.{HandsOut, pendingIn, ClearsOne}
+use Rattle.queue.specs.Inner.{HandsOut, Shows, pendingIn, ClearsOne}
 
 -- ---- a loose record is handed out and freed
 
@@ -159,12 +159,21 @@ module _ {s : QueueWords} (S : Sound s) (time : ℕ) where
 
 -- ---- next wake
 
-module _ (v : View) {e : ℕ} (h : v .elapsed ≡ e) {r : Wake} (W : WakeIs e (v .lists) r) where
-  pub wake-never : r ≡ Never → Wakes v never
-  wake-never q = sleeps (rw q at W)
+module _ {e h : ℕ} {occ : List ℕ} (v : View) (S : Shows e occ h v) where
+  -- a timer has expired
+  pub wake-now : h ≢ nobody → NextWake v (wake e)
+  wake-now d = rw (← S .elapsed) (at-once (S .first d .1))
 
-  pub wake-at : {t : ℕ} → r ≡ Wake·At t → Wakes v (wake t)
-  wake-at q = let x = rw (q, ← h) at W in rw (x .3) (starts (x .2))
+  -- none has, and the wheel answers
+  module _ (z : h ≡ nobody) {r : Wake} (W : WakeIs e (v .lists) r) where
+    pub wake-never : r ≡ Never → NextWake v never
+    wake-never q = from-wheel (S .empty z) (sleeps (rw q at W))
+
+    pub wake-at : {t : ℕ} → r ≡ Wake·At t → NextWake v (wake t)
+    wake-at {t} q =
+        let x = rw (q, ← S .elapsed) at W in
+        let y : Wakes v (wake t) = rw (x .3) (starts (x .2)) in
+        from-wheel (S .empty z) y
 
 -- ---- length
 

@@ -1,8 +1,11 @@
--- `next_wake` meets its contract, by the case of the wheel's answer (`wakes`).
+-- `next_wake` meets its contract: a timer has expired (`wake-now`), or none has, and then by the case of the wheel's answer (`wake-at`, `wake-never`).
 use borrow.Author.Needs.{needs}
-use Rattle.queue.proofs.laws.Polls.{wake-at, wake-never}
+use Rattle.queue.proofs.laws.Polls.{wake-now, wake-at, wake-never}
 use Rattle.queue.proofs.next_wake.Statement.{statement}
 use Rattle.queue.proofs.next_wake.Tie as tie
+
+returns : tie.Need-returns
+returns c = λ v S. wake-now v S (c .if1 .taken)
 
 poll-at-requires : tie.Need-poll-at-requires
 poll-at-requires c κs = search needs
@@ -13,11 +16,15 @@ enum-known-wake c = search needs
 enum-told : tie.Need-enum-told
 enum-told c = search needs
 
-returns : tie.Need-returns
-returns c = λ v e R. wake-at v e (c .before .before .before .poll-at .ensures (v .lists) R) (c .before .wake .given .1)
-
 returns-2 : tie.Need-returns-2
-returns-2 c = λ v e R. wake-never v e (c .before .before .poll-at .ensures (v .lists) R) (c .enum-told .given .1)
+returns-2 c =
+    let at-poll = c .before .before .before in
+    λ v S. wake-at v S (at-poll .before .if1 .left) (at-poll .poll-at .ensures (v .lists) (S .rows)) (c .before .wake .given .1)
+
+returns-3 : tie.Need-returns-3
+returns-3 c =
+    let at-poll = c .before .before in
+    λ v S. wake-never v S (at-poll .before .if1 .left) (at-poll .poll-at .ensures (v .lists) (S .rows)) (c .enum-told .given .1)
 
 pub next-wake-spec : {M : Type 1} → statement M
-next-wake-spec = tie.close (tie.spec poll-at-requires enum-known-wake enum-told returns returns-2)
+next-wake-spec = tie.close (tie.spec returns poll-at-requires enum-known-wake enum-told returns-2 returns-3)
