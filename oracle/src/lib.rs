@@ -17,13 +17,14 @@ pub use tokio_util::delay_queue::whole;
 pub mod bench;
 pub mod compare;
 pub mod exit;
+pub mod gauge;
 pub mod generator;
 pub mod line;
 mod malformed;
 mod original;
 #[allow(dead_code)] // the original's slab can do more than is asked of it
 mod queue;
-mod rng;
+pub mod rng;
 pub mod rules;
 pub mod script;
 pub mod short;

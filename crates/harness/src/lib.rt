@@ -1,5 +1,8 @@
-// What the benchmark (speed/) and the comparison at scale (oracle/scale) call: the queue with and without the judge, and the judge alone.
+// What the benchmark (speed/) and the comparison at scale (oracle/scale) call: the queue with and without the judge, the judge alone, and the
+// gauge.
 use delay_queue::Call;
+use gauge::Light;
+use gauge::Reading;
 use queue::Answer;
 use queue::Out;
 use stack::Stacks;
@@ -687,4 +690,40 @@ pub extern "C" fn harness_judged(
     keep_state(state, w);
     *heads = rows;
     sum
+}
+
+// A reading as two words: 0 calm, 1 slow, 2 late, or the number of the refusal; and the bits of what the light carries.
+fn reading_words(r: Reading) -> [u64; 2] {
+    match r {
+        Reading::Shows(light) => {
+            match light {
+                Light::Calm => [0, 0],
+                Light::Slow(x) => [1, gauge::bits_of(x)],
+                Light::Late(x) => [2, gauge::bits_of(x)],
+            }
+        }
+        Reading::No(number) => [number, 0],
+    }
+}
+
+// The gauge after hand-outs, each a poll's time and a deadline, read at two limits: the words of the reading, and the bits of smoothed and
+// worst.
+#[no_mangle]
+pub extern "C" fn harness_gauge(times: &[u64], slow: f64, late: f64, told: &mut [u64; 4]) {
+    let mut g = gauge::fresh();
+    let handed = times.len() / 2;
+    let mut i: usize = 0;
+    while i < handed {
+        let time = times[2 * i];
+        let deadline = times[2 * i + 1];
+        i += 1;
+        g = gauge::note_answer(g, time, Answer::Out(0, 0, deadline, 0, 0));
+    }
+    let words = reading_words(gauge::read(g, slow, late));
+    *told = [
+        words[0],
+        words[1],
+        gauge::bits_of(g.smoothed),
+        gauge::bits_of(g.worst),
+    ];
 }

@@ -1,6 +1,7 @@
 //! scale: our queue and the original in one process, every answer and the lists compared.
 mod compared;
 mod contents;
+mod gauge;
 #[allow(dead_code)] // the benchmark calls the rest
 #[path = "../../../speed/src/ours.rs"]
 mod ours;
@@ -25,7 +26,8 @@ use tally::Tally;
 use wrong::{Wrong, WORDS};
 
 const USAGE: &str = "usage: scale [--keep FOLDER] \
-    [ judged FROM TO LINES | inner FROM TO LINES | checked FROM TO LINES | short DEPTH | wrong [WORD] ]";
+    [ judged FROM TO LINES | inner FROM TO LINES | checked FROM TO LINES | short DEPTH | wrong [WORD] \
+    | gauge FROM TO ]";
 /// Where a script with a difference is kept below the oracle's folder, unless --keep names another.
 const KEEP: &str = "target/differences";
 /// So many short sequences are one piece of work.
@@ -58,6 +60,10 @@ fn run(words: &[&str]) -> Result<bool, String> {
         ["checked", from, to, lines] => seeds(How::Checked, from, to, lines)?,
         ["inner", from, to, lines] => seeds(How::Inner, from, to, lines)?,
         ["short", depth] => Part::Short(depth_of(depth)?),
+        ["gauge", from, to] => {
+            let (from, to) = (number(from)?, number(to)?);
+            return if from <= to { Ok(gauge::compare(from, to)) } else { Err(USAGE.into()) };
+        }
         ["wrong"] => return all_wrong(),
         ["wrong", word] => {
             let wrong = Wrong::new(number(word)? as usize).ok_or(USAGE)?;

@@ -1,0 +1,5 @@
+pub mod Steps
+pub mod Writing
+pub mod Text
+pub mod Once
+pub mod Light

@@ -1,0 +1,65 @@
+-- Each claim leaves one outcome.
+use mathlib.Core.Path.{_≡_, refl, sym, ap, ap₂, _∙_, subst}
+use mathlib.Core.Bool.{true, false, true≢false, false≢true}
+use mathlib.Core.Logic.{by-cases}
+use mathlib.Core.List.{List, [], _∷_, List-discrete}
+use Prim.Native.Nat.{ℕ, _≤_, _<_}
+use native.Mathlib.Decide.{ℕ-discrete, decLt}
+use native.Mathlib.Omega.{arith}
+use lib.ListN.{length, take}
+use Rattle.lines.proofs.laws.Once.{take-once}
+use Rattle.decimals.specs.declared.Num.{Num}
+use Rattle.decimals.specs.declared.Num.the-variants as N
+use Rattle.decimals.proofs.laws.Decimals.{one-number}
+use Rattle.light.specs.declared.State.{State}
+use Rattle.light.specs.Light.{Amounts, Writes}
+use Rattle.light.specs.Steps.{AmountOf, next, Stepped, Chunk, used, ended, part}
+use Rattle.light.specs.Writing.{Fronts}
+
+pub amount-once : (l : List ℕ) (r s : Num) → AmountOf l r → AmountOf l s → r ≡ s
+amount-once l (N.Is n) (N.Is m) p q = ap (λ (x : ℕ). N.Is x) (one-number (p .0) (q .0))
+amount-once l (N.Is n) N.Bad p q = absurd (q n (p .0) (p .1))
+amount-once l N.Bad (N.Is m) p q = absurd (p m (q .0) (q .1))
+amount-once l N.Bad N.Bad p q = refl
+
+pub step-once : {l : List ℕ} {t a b : State} → Stepped l t a → Stepped l t b → a ≡ b
+step-once {l} {t} p q = p .then ∙ ap (λ (r : Num). next r t) (amount-once l (p .says) (q .says) (p .is) (q .is)) ∙ sym (q .then)
+
+-- `take_chunk`
+
+from-same : {got m : List ℕ} {i j k l y : ℕ} {p q : List ℕ} {t u b : State} → i ≡ j → p ≡ q → k ≡ l → t ≡ u → Chunk got j q l u m y b
+    → Chunk got i p k t m y b
+from-same {got} {m} {i} {j} {k} {l} {y} {p} {q} {t} {u} {b} e f g h c =
+    subst (λ (x : ℕ). Chunk got x p k t m y b) (sym e)
+    (subst (λ (x : List ℕ). Chunk got j x k t m y b) (sym f)
+    (subst (λ (x : ℕ). Chunk got j q x t m y b) (sym g) (subst (λ (x : State). Chunk got j q l x m y b) (sym h) c)))
+
+pub chunk-once : {got : List ℕ} {i k x y : ℕ} {line l m : List ℕ} {t a b : State} → Chunk got i line k t l x a → Chunk got i line k t m y b
+    → (l ≡ m) × (x ≡ y) × (a ≡ b)
+chunk-once (used h) (used f) = (refl, refl, refl)
+chunk-once (used h) (ended f T S c) = absurd (omega arith)
+chunk-once (used h) (part f T c) = absurd (omega arith)
+chunk-once (ended f T S c) (used h) = absurd (omega arith)
+chunk-once (part f T c) (used h) = absurd (omega arith)
+chunk-once (ended f T S c) (part g U d) = absurd (true≢false (take-once true false T U .2))
+chunk-once (part f T c) (ended g U R d) = absurd (false≢true (take-once false true T U .2))
+chunk-once {t = t} (ended f T S c) (ended {t₁ = u₁} g U R d) =
+    let e = take-once true true T U in
+    let s = step-once S (subst (λ (x : List ℕ). Stepped x t u₁) (sym (ap₂ (λ (n : ℕ) (z : List ℕ). take n z) (e .1) (e .3))) R) in
+    chunk-once c (from-same (e .0) (e .3) refl s d)
+chunk-once (part f T c) (part g U d) = let e = take-once false false T U in chunk-once c (from-same (e .0) (e .3) (e .1) refl d)
+
+-- `text`
+pub front-once : {l o p q : List ℕ} {r s : ℕ} → Fronts l o r p → Fronts l o s q → (r ≡ s) × (p ≡ q)
+front-once {l} {o} a b =
+    by-cases (decLt (length o) (length l))
+    (λ h. (a .full h .0 ∙ sym (b .full h .0), a .full h .1 ∙ sym (b .full h .1)))
+    (λ h. let f : length l ≤ length o = omega arith in (a .room f .0 ∙ sym (b .room f .0), a .room f .1 ∙ sym (b .room f .1)))
+
+-- a whole run: there is no third text
+pub writes-once : {ls : List (List ℕ)} {t u : List ℕ} → Writes ls t → Writes ls u → t ≡ u
+writes-once {ls} {t} {u} a b =
+    by-cases (List-discrete ℕ-discrete t u) (λ e. e)
+    (λ f.
+    let none : (s l : ℕ) (ns : List ℕ) → Amounts ls (s ∷ l ∷ ns) → ⊥ = λ s l ns m. f (a .right s l ns m ∙ sym (b .right s l ns m)) in
+    a .bad none ∙ sym (b .bad none))

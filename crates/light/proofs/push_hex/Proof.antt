@@ -1,0 +1,61 @@
+-- `push_hex` writes digit after digit, the first first (`hex-turn`).
+use borrow.Author.Needs.{needs}
+use native.Mathlib.Omega.{arith}
+use Rattle.light.proofs.laws.Writing.{Hexing, power-pos, hex-start, hex-turn, hex-end}
+use Rattle.light.proofs.push_hex.Statement.{statement}
+use Rattle.light.proofs.push_hex.Tie as tie
+
+abbrev Inv-loop : tie.InvT-loop
+Inv-loop out₀ at n a₀ i₀ p₀ out a i p = Hexing out₀ at n out a i p
+
+abbrev μ-loop : tie.MeasureT-loop
+μ-loop out₀ at n a₀ i₀ p₀ out a i p = i
+
+loop-holds : tie.Need-loop-holds Inv-loop μ-loop
+loop-holds c = hex-start
+
+div-digit : tie.Need-div-digit Inv-loop μ-loop
+div-digit c = let I = c .before .loop .inv in rw (I .weight) (power-pos _ (c .loop-test .taken))
+
+digit-requires : tie.Need-digit-requires Inv-loop μ-loop
+digit-requires c κs = omega arith
+
+slice-write-out : tie.Need-slice-write-out Inv-loop μ-loop
+slice-write-out c =
+    let I = c .before .before .loop .inv in
+    omega (arith, I .place, I .size, c .before .loop-test .taken, c .before .before .before .before .pre)
+
+add-a : tie.Need-add-a Inv-loop μ-loop
+add-a c = search needs
+
+sub-i : tie.Need-sub-i Inv-loop μ-loop
+sub-i c = search needs
+
+loop-less : tie.Need-loop-less Inv-loop μ-loop
+loop-less c = omega (arith, c .before .loop-test .taken)
+
+loop-again : tie.Need-loop-again Inv-loop μ-loop
+loop-again c = hex-turn _ (c .before .before .loop .inv) (c .before .loop-test .taken) (c .before .before .before .before .pre) (c .digit .ensures)
+
+same-length : tie.Need-same-length Inv-loop μ-loop
+same-length c = c .before .loop .inv .size
+
+returns : tie.Need-returns Inv-loop μ-loop
+returns c = hex-end (c .before .loop .inv) (c .loop-test .left)
+
+pub push-hex-spec : {M : Type 1} → statement M
+push-hex-spec =
+    tie.close
+    (tie.spec
+    Inv-loop
+    μ-loop
+    loop-holds
+    div-digit
+    digit-requires
+    slice-write-out
+    add-a
+    sub-i
+    loop-less
+    loop-again
+    same-length
+    returns)

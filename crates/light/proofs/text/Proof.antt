@@ -1,0 +1,134 @@
+-- `text` writes what the lines have said: `bad` (`text-bad`) or the line of the light (`text-room`), if there is room for it (`text-full`).
+use mathlib.Core.List.{[], _∷_}
+use mathlib.Core.Path.{_≡_, refl}
+use native.Mathlib.Omega.{arith}
+use types.Run.{OneOf, miss}
+use denote.Enum.Declared.{tagOf}
+use Rattle.light.proofs.State.{the-type}
+use Rattle.light.specs.declared.State.{State}
+use Rattle.light.specs.declared.State.the-variants as S
+use Rattle.light.specs.Light.{bad}
+use Rattle.light.specs.Writing.{textOf}
+use Rattle.light.proofs.laws.Text.{text-bad, no-number, text-full, text-room}
+use borrow.Author.Needs.{needs}
+use Rattle.light.proofs.text.Statement.{statement}
+use Rattle.light.proofs.text.Tie as tie
+
+abbrev read-at : tie.After-r → tie.After-read
+read-at c = c .before .before
+
+abbrev limits : tie.After-read → tie.After-float-of2
+limits c = c .before
+
+abbrev both : tie.After-float-of2 → tie.After-state
+both c = c .before .before .before
+
+-- a state with another tag than that of `Both`
+other : (t : State) → OneOf (0 ∷ 1 ∷ 3 ∷ []) (tagOf the-type t) → bad ≡ textOf t
+other S.Nothing x = refl
+other (S.Slow s) x = refl
+other (S.Both s l g) x = absurd (miss (0 ∷ 1 ∷ 3 ∷ []) 2 tt x)
+other S.Bad x = refl
+
+enum-known-state : tie.Need-enum-known-state
+enum-known-state c = search needs
+
+write-bad-requires : tie.Need-write-bad-requires
+write-bad-requires c κs = search needs
+
+same-length : tie.Need-same-length
+same-length c = search needs
+
+returns : tie.Need-returns
+returns c =
+    let at-bad = c .before .before in
+    let at-match = at-bad .before .before in
+    let state = at-match .before .before .args .state in
+    text-bad state (other state (at-match .match .keys2)) (at-bad .write-bad .ensures)
+
+float-of-requires : tie.Need-float-of-requires
+float-of-requires c κs = search needs
+
+float-of-requires-2 : tie.Need-float-of-requires-2
+float-of-requires-2 c κs = search needs
+
+read-requires : tie.Need-read-requires
+read-requires c κs = search needs
+
+enum-known-r : tie.Need-enum-known-r
+enum-known-r c = search needs
+
+enum-told : tie.Need-enum-told
+enum-told c = search needs
+
+write-bad-requires-2 : tie.Need-write-bad-requires-2
+write-bad-requires-2 c κs = search needs
+
+same-length-2 : tie.Need-same-length-2
+same-length-2 c = search needs
+
+returns-2 : tie.Need-returns-2
+returns-2 c =
+    let at-told = c .before .before .before .before in
+    let at-read = at-told .before .before in
+    let at-limits = limits at-read in
+    let state = both at-limits .state .given in
+    no-number _ _ _ (state .1) (at-limits .before .float-of .ensures) (at-limits .float-of2 .ensures) (at-read .read .ensures)
+    (at-told .enum-told .given .1)
+
+returns-3 : tie.Need-returns-3
+returns-3 c =
+    let at-read = read-at (c .before .before) in
+    let at-limits = limits at-read in
+    let state = both at-limits .state .given in
+    text-full _ _ _ (state .1) (at-limits .before .float-of .ensures) (at-limits .float-of2 .ensures) (at-read .read .ensures) (c .if1 .taken)
+
+bits-of-requires : tie.Need-bits-of-requires
+bits-of-requires c κs = search needs
+
+bits-of-requires-2 : tie.Need-bits-of-requires-2
+bits-of-requires-2 c κs = search needs
+
+push-light-requires : tie.Need-push-light-requires
+push-light-requires c κs = search needs
+
+same-length-3 : tie.Need-same-length-3
+same-length-3 c = search needs
+
+returns-4 : tie.Need-returns-4
+returns-4 c =
+    let at-light = c .before .before in
+    let at-worst = at-light .before in
+    let at-room = at-worst .before .before .before in
+    let at-r = at-room .before .before in
+    let at-read = read-at at-r in
+    let at-limits = limits at-read in
+    let state = both at-limits .state .given in
+    text-room _ _ _ (state .1) (at-limits .before .float-of .ensures) (at-limits .float-of2 .ensures) (at-read .read .ensures) _ (at-r .r .given .1)
+    (at-worst .before .bits-of .ensures)
+    (at-worst .bits-of2 .ensures)
+    (at-light .push-light .ensures)
+    (omega (arith, at-room .if1 .left))
+
+pub text-spec : {M : Type 1} → statement M
+text-spec =
+    tie.close
+    (tie.spec
+    enum-known-state
+    write-bad-requires
+    same-length
+    returns
+    float-of-requires
+    float-of-requires-2
+    read-requires
+    enum-known-r
+    enum-told
+    write-bad-requires-2
+    same-length-2
+    returns-2
+    returns-3
+    bits-of-requires
+    bits-of-requires-2
+    push-light-requires
+    same-length-3
+    returns-4)
