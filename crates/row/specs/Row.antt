@@ -25,15 +25,9 @@ rowOf f = rowBelow f 64
 unfoldable pub flagged : (ℕ → Bool) → ℕ → Bool → ℕ → Bool
 flagged f s v t = cond (eqb t s) v (f t)
 
--- the flags f read from slot a on, round the 64. 01: "`rotate_right`: a helper."
-abbrev pub turned : (ℕ → Bool) → ℕ → ℕ → Bool
-turned f a s = f ((a + s) % 64)
-
--- 01: the lowest non-empty level's "first occupied slot from elapsed on".
--- r is the first slot that f marks from slot a on, round the 64: it lies some steps on, and no slot on the way is marked
-pub record FirstFrom (f : ℕ → Bool) (a r : ℕ) : Type 0 where
-  pub steps : ℕ
-  pub within : steps < 64
-  pub is : r ≡ (a + steps) % 64
+-- 02: "the first occupied slot at a level is the lowest set bit of its row".
+-- r is the lowest of the first n slots that f marks
+pub record Lowest (f : ℕ → Bool) (n r : ℕ) : Type 0 where
+  pub within : r < n
   pub marked : f r ≡ true
-  pub before : (j : ℕ) → j < steps → turned f a j ≡ false
+  pub before : (j : ℕ) → j < r → f j ≡ false

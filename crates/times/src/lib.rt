@@ -1,6 +1,6 @@
 // The wheel's times: the widths of the six levels, slots and their starts, the level of a deadline, and how far ahead one may lie.
 ghost use mathlib.Core.Path.{_≡_};
-ghost use Prim.Native.Nat.{_-_, _/_, _<_};
+ghost use Prim.Native.Nat.{_-_, _<_};
 ghost use lib.Dec.{eqb, ltb};
 ghost use Rattle.times.specs.Times.{width, slotOf, startAt, levelOf, maxDuration, block};
 
@@ -29,14 +29,6 @@ pub fn slot_for(when: u64, level: usize) -> usize
     ensures { λ r. ⌜ r ≡ slotOf when level ⌝ }
 {
     ((when >> (level * 6)) % 64) as usize
-}
-
-// The level's slots that elapsed has passed in all: the whole quotient, of which its slot is the value mod 64.
-pub fn now_slot(elapsed: u64, level: usize) -> u64
-    requires { ⌜ level < 6 ⌝ }
-    ensures { λ r. ⌜ r ≡ elapsed / width level ⌝ }
-{
-    elapsed >> (level * 6)
 }
 
 // Where the slot starts in the level's turn, 64 slots, that elapsed is in.

@@ -156,7 +156,8 @@ pub fn remove(
     rows[level] = row::clear(rows[level], slot);
 }
 
-// The first occupied slot, from elapsed on, of the lowest non-empty level.
+// The first occupied slot, from elapsed on, of the lowest non-empty level: its lowest one, since none that elapsed has
+// passed is occupied.
 pub fn next_expiration(elapsed: u64, rows: &[u64; 6]) -> Next
     requires { ⌜ NotPassed elapsed (now rows) ⌝ }
     ensures { λ r. ⌜ ((L : Lists) → Rows (old rows) L → NextIs elapsed L r) ⌝ }
@@ -165,7 +166,7 @@ pub fn next_expiration(elapsed: u64, rows: &[u64; 6]) -> Next
     while level < times::NUM_LEVELS {
         let row = rows[level];
         if row != 0 {
-            let slot = row::first_from(row, times::now_slot(elapsed, level));
+            let slot = row::first_slot(row);
             let deadline = times::slot_start(elapsed, level, slot);
             return Next::At(Expiration {
                 level,

@@ -9,7 +9,7 @@ use native.Mathlib.Omega.{arith}
 use lib.Dec.{eqb}
 use lib.Pow.{pow-pos, pow-add, mod-pow-add}
 use borrow.Author.Tests.{eq-eqb, ne-eqb}
-use Rattle.row.specs.Row.{flagAt, bit, rowBelow, flagged, FirstFrom}
+use Rattle.row.specs.Row.{flagAt, bit, rowBelow, flagged, Lowest}
 
 -- ---- a digit and its flag
 
@@ -38,7 +38,7 @@ row-lt f zero = omega arith
 row-lt f (suc n) = omega (arith, row-lt f n, bit-le (f n) (2 ^ n))
 
 -- the first m slots and the n after them
-pub row-split : (f : ℕ → Bool) (m n : ℕ) → rowBelow f (m + n) ≡ rowBelow f m + rowBelow (λ s. f (m + s)) n * 2 ^ m
+row-split : (f : ℕ → Bool) (m n : ℕ) → rowBelow f (m + n) ≡ rowBelow f m + rowBelow (λ s. f (m + s)) n * 2 ^ m
 unfolding rowBelow
 row-split f m zero = rw add-zero (omega arith)
 row-split f m (suc n) = rw add-suc (omega (arith, row-split f m n, ap (λ p. bit (f (m + n)) * p) (pow-add 2 m n)))
@@ -60,7 +60,7 @@ flag-row f n s h =
     = ap (λ i. rowBelow f i / 2 ^ s % 2) e ∙ rw (row-shr f s (1 + (n - s - 1))) (row-low (λ t. f (s + t)) (n - s - 1)) in
     rw digit (bit-flag (f (s + 0)) ∙ ap f (add-zero s))
 
-pub row-mod : (x n : ℕ) → rowBelow (flagAt x) n ≡ x % 2 ^ n
+row-mod : (x n : ℕ) → rowBelow (flagAt x) n ≡ x % 2 ^ n
 unfolding rowBelow
 row-mod x zero = omega arith
 row-mod x (suc n) =
@@ -77,7 +77,7 @@ unfolding rowBelow
 row-ext f g zero h = refl
 row-ext f g (suc n) h = rw (row-ext f g n (λ s l. h s (omega arith)), h n (omega arith))
 
-pub row-some : (f : ℕ → Bool) (n : ℕ) → 0 < rowBelow f n → (s : ℕ) × (s < n) × (f s ≡ true)
+row-some : (f : ℕ → Bool) (n : ℕ) → 0 < rowBelow f n → (s : ℕ) × (s < n) × (f s ≡ true)
 unfolding rowBelow
 row-some f zero h = absurd (omega arith)
 row-some f (suc n) h = go (row-some f n) (f n) refl
@@ -97,11 +97,6 @@ row-none f n h =
 pub flag-none : (s : ℕ) → flagAt 0 s ≡ false
 unfolding flagAt
 flag-none s = rw (zero-div (2 ^ s))
-
-pub row-pos : (f : ℕ → Bool) (n s : ℕ) → s < n → f s ≡ true → 0 < rowBelow f n
-row-pos f n s h e =
-    let some : rowBelow f n ≢ 0 = λ z. true≢false (sym e ∙ sym (flag-row f n s h) ∙ ap (λ x. flagAt x s) z ∙ flag-none s) in
-    omega arith
 
 -- ---- one flag changed
 
@@ -123,12 +118,12 @@ row-change f s v (suc n) h =
     (λ e. rw (e, flagged-here f s v) (omega (arith, row-ext (flagged f s v) f s (λ t l. flagged-other f s v t (omega arith)))))
     (λ d. rw (flagged-other f s v n d) (omega (arith, row-change f s v n (omega arith))))
 
--- ---- the first from a slot on is one slot
+-- ---- there is one lowest slot
 
-first-le : (f : ℕ → Bool) (a r r′ : ℕ) (p : FirstFrom f a r) (q : FirstFrom f a r′) → p .steps ≤ q .steps
-first-le f a r r′ p q =
-    let later : q .steps < p .steps → ⊥ = λ l. true≢false (sym (q .marked) ∙ ap f (q .is) ∙ p .before (q .steps) l) in
+lowest-le : (f : ℕ → Bool) (n r r′ : ℕ) → Lowest f n r → Lowest f n r′ → r ≤ r′
+lowest-le f n r r′ p q =
+    let below : r′ < r → ⊥ = λ l. true≢false (sym (q .marked) ∙ p .before r′ l) in
     omega arith
 
-pub first-fixes : (f : ℕ → Bool) (a r r′ : ℕ) → FirstFrom f a r → FirstFrom f a r′ → r ≡ r′
-first-fixes f a r r′ p q = omega (arith, first-le f a r r′ p q, first-le f a r′ r q p)
+pub lowest-one : (f : ℕ → Bool) (n r r′ : ℕ) → Lowest f n r → Lowest f n r′ → r ≡ r′
+lowest-one f n r r′ p q = omega (arith, lowest-le f n r r′ p q, lowest-le f n r′ r q p)

@@ -1,13 +1,13 @@
 -- The next expiration, found in the occupied rows, is the first slot of the lists whose rows they are.
 use mathlib.Core.Path.{_≡_, refl, sym, ap, _∙_}
 use mathlib.Core.Logic.{inl}
-use mathlib.Core.Bool.{false}
+use mathlib.Core.Bool.{false, true≢false}
 use mathlib.Core.List.{List, [], _∷_}
-use Prim.Native.Nat.{ℕ, _+_, _/_, _%_, _≤_, _<_}
+use Prim.Native.Nat.{ℕ, _+_, _-_, _/_, _%_, _≤_, _<_}
 use native.Mathlib.Omega.{arith}
-use Rattle.times.specs.Times.{width, slotOf, startAt}
+use Rattle.times.specs.Times.{slotOf, startAt}
 use Rattle.times.proofs.laws.Quotients.{slot-lt}
-use Rattle.row.specs.Row.{flagAt, FirstFrom}
+use Rattle.row.specs.Row.{flagAt, Lowest}
 use Rattle.row.proofs.laws.Rows.{flag-none}
 use Rattle.links.specs.Links.{at}
 use Rattle.stack.specs.Places.{slotPlace, slots, levelAt, slotAt}
@@ -54,25 +54,31 @@ module _ {occ : List ℕ} {L : Lists} (R : Rows occ L) where
   pub none-found : ((j : ℕ) → j < 6 → at occ j ≡ 0) → EmptyWheel L
   none-found z q h = none-at q h (z (levelAt q) (omega arith))
 
-  pub slot-found : (e k s : ℕ) → k < 6 → ((j : ℕ) → j < k → at occ j ≡ 0) → FirstFrom (flagAt (at occ k)) (e / width k % 64) s
-      → FirstSlot e L k s
-  unfolding slotOf
-  slot-found e k s hk z F =
-      let hs : s < 64 = omega (arith, F .is) in
-      let c = filled-some (L (slotPlace k s)) (sym (flag-is R k s hk hs) ∙ F .marked) in
+  -- no slot that elapsed has passed is occupied, so that the lowest of a row is none of them
+  lowest-late : (e k s : ℕ) → k < 6 → NotPassed e occ → Lowest (flagAt (at occ k)) 64 s → slotOf e k ≤ s
+  lowest-late e k s hk P F =
+      let passed : s < slotOf e k → ⊥ = λ h. true≢false (sym (F .marked) ∙ P .passed k s hk h) in
+      omega arith
+
+  slot-found : (e k s : ℕ) → k < 6 → ((j : ℕ) → j < k → at occ j ≡ 0) → NotPassed e occ → Lowest (flagAt (at occ k)) 64 s → FirstSlot e L k s
+  slot-found e k s hk z P F =
+      let late = lowest-late e k s hk P F in
+      let c = filled-some (L (slotPlace k s)) (sym (flag-is R k s hk (F .within)) ∙ F .marked) in
       record {
         within = hk;
         lowest = λ q h. none-at q (omega (arith, h)) (z (levelAt q) (omega (arith, h)));
-        steps = F .steps;
-        near = F .within;
-        is = F .is;
-        before = λ j h. unfilled _ (sym (flag-is R k ((e / width k % 64 + j) % 64) hk (omega arith)) ∙ F .before j h);
+        steps = s - slotOf e k;
+        near = omega (arith, F .within);
+        is = omega (arith, late, F .within);
+        before = λ j h.
+            let t : ℕ = (slotOf e k + j) % 64 in
+            unfilled (L (slotPlace k t)) (sym (flag-is R k t hk (omega arith)) ∙ F .before t (omega (arith, late, F .within, h)));
         head = c .0;
         rest = c .1;
         filled = c .2;
       }
 
-  -- the same with the quotient as the code has it
-  pub next-found : (e k s w t : ℕ) → k < 6 → ((j : ℕ) → j < k → at occ j ≡ 0) → w ≡ e / width k → FirstFrom (flagAt (at occ k)) (w % 64) s
+  -- with its start, as the code tells it
+  pub next-found : (e k s t : ℕ) → k < 6 → ((j : ℕ) → j < k → at occ j ≡ 0) → NotPassed e occ → Lowest (flagAt (at occ k)) 64 s
       → t ≡ startAt e k s → NextIs e L (At (record { level = k; slot = s; deadline = t }))
-  next-found e k s w t hk z ew F et = (slot-found e k s hk z (rw ew at F), et)
+  next-found e k s t hk z P F et = (slot-found e k s hk z P F, et)

@@ -1,4 +1,4 @@
--- `next_expiration` meets its contract: the levels passed are empty, and the first that is not has the slot (`next-found`).
+-- `next_expiration` meets its contract: the levels passed are empty, and the lowest slot of the first that is not is the first from elapsed on (`next-found`).
 use borrow.Author.Needs.{needs}
 use mathlib.Core.Path.{_≡_}
 use Prim.Native.Nat.{ℕ, _≤_, _<_, _-_}
@@ -19,7 +19,7 @@ abbrev turn : tie.After-row Inv-loop μ-loop → tie.At-loop Inv-loop μ-loop
 turn c = c .before .before
 
 abbrev row-of : tie.After-slot-start Inv-loop μ-loop → tie.After-row Inv-loop μ-loop
-row-of c = c .before .before .before .before
+row-of c = c .before .before .before
 
 loop-holds : tie.Need-loop-holds Inv-loop μ-loop
 loop-holds c = (omega arith, λ j h. absurd (omega arith))
@@ -30,19 +30,16 @@ mul-row c = search needs
 element-copy-out-row : tie.Need-element-copy-out-row Inv-loop μ-loop
 element-copy-out-row c = search needs
 
-now-slot-requires : tie.Need-now-slot-requires Inv-loop μ-loop
-now-slot-requires c κs = search needs
-
-first-from-requires : tie.Need-first-from-requires Inv-loop μ-loop
-first-from-requires c κs = omega (arith, c .before .if1 .taken)
+first-slot-requires : tie.Need-first-slot-requires Inv-loop μ-loop
+first-slot-requires c κs = omega (arith, c .if1 .taken)
 
 slot-start-requires : tie.Need-slot-start-requires Inv-loop μ-loop
-slot-start-requires c κs = (omega arith, omega (arith, c .first-from .ensures .is))
+slot-start-requires c κs = (omega arith, c .first-slot .ensures .within)
 
 returns : tie.Need-returns Inv-loop μ-loop
 returns c =
-    let empty = turn (row-of c) .loop .inv .1 in
-    λ L R. next-found R _ _ _ _ _ (omega arith) empty (c .before .before .now-slot .ensures) (c .before .first-from .ensures) (c .slot-start .ensures)
+    let at-loop = turn (row-of c) in
+    λ L R. next-found R _ _ _ _ (omega arith) (at-loop .loop .inv .1) (at-loop .before .pre) (c .before .first-slot .ensures) (c .slot-start .ensures)
 
 add-level : tie.Need-add-level Inv-loop μ-loop
 add-level c = search needs
@@ -65,8 +62,7 @@ next-expiration-spec =
     loop-holds
     mul-row
     element-copy-out-row
-    now-slot-requires
-    first-from-requires
+    first-slot-requires
     slot-start-requires
     returns
     add-level
