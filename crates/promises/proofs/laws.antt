@@ -1,5 +1,6 @@
 pub mod Bounded
 pub mod Cleared
+pub mod Clock
 pub mod Decided
 pub mod Does
 pub mod Keys

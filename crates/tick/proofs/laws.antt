@@ -1,0 +1,5 @@
+pub mod Boards
+pub mod Once
+pub mod Promises
+pub mod Reading
+pub mod Shown

@@ -1,0 +1,84 @@
+-- `poll` meets its claim: the reading's answer decides whether the store is asked (`polled`, `asks-nothing`).
+use borrow.Author.Needs.{needs}
+use mathlib.Core.Path.{_≡_}
+use mathlib.Core.Logic.{_⊎_, ⊎-elim}
+use Prim.Native.Nat.{ℕ, suc}
+use native.Mathlib.Omega.{arith}
+use Rattle.queue.specs.Told.{told, ok}
+use Rattle.queue.specs.declared.Answer.the-variants as A
+use Rattle.promises.proofs.laws.Once.{told-one}
+use Rattle.tick.proofs.laws.Reading.{polled, asks-nothing}
+use Rattle.tick.proofs.poll.Statement.{statement}
+use Rattle.tick.proofs.poll.Tie as tie
+
+abbrev to-told : tie.After-poll → tie.After-enum-told
+to-told c =
+    let a = c .before .before .before .before in
+    a .before
+
+abbrev to-poll : tie.After-slice-known8 → tie.After-poll
+to-poll c =
+    let a = c .before .before .before .before in
+    a .before .before .before .before
+
+abbrev to-read : tie.After-enum-told → tie.After-read
+to-read c = c .before .before .before
+
+read-requires : tie.Need-read-requires
+read-requires c κs = search needs
+
+enum-told : tie.Need-enum-told
+enum-told c = search needs
+
+poll-requires : tie.Need-poll-requires
+poll-requires c κs = search needs
+
+unchanged-requires : tie.Need-unchanged-requires
+unchanged-requires c κs = search needs
+
+same-length : tie.Need-same-length
+same-length c = search needs
+
+same-length-2 : tie.Need-same-length-2
+same-length-2 c = search needs
+
+same-length-3 : tie.Need-same-length-3
+same-length-3 c = search needs
+
+same-length-4 : tie.Need-same-length-4
+same-length-4 c = search needs
+
+returns : tie.Need-returns
+returns c =
+    let at-poll = to-poll c in
+    let at-told = to-told at-poll in
+    polled (to-read at-told .read .ensures) (at-told .enum-told .given .1) (at-poll .poll .ensures)
+
+-- `ok` is the first constructor, so none of the keys past it
+past : {k : ℕ} {B : Type 0} → (B → ⊥) → (0 ≡ suc k) ⊎ B → ⊥
+past f x = ⊎-elim (λ e. omega arith) f x
+
+not-ok : (c : tie.At-match-keys2) → told (c .before .before .read .result .answer) ≡ ok → ⊥
+not-ok c e =
+    let a = c .before .before .read .result .answer in
+    let d : a ≡ A.Done = told-one a A.Done e in
+    past (past (past (past (past (past (past (λ k. omega arith))))))) (rw d at (c .match .keys2))
+
+returns-2 : tie.Need-returns-2
+returns-2 c =
+    asks-nothing _ _ _ _ _ _ (c .before .before .before .read .ensures) (not-ok (c .before)) (c .unchanged .ensures)
+
+pub poll-spec : {M : Type 1} → statement M
+poll-spec =
+    tie.close
+    (tie.spec
+    read-requires
+    enum-told
+    poll-requires
+    unchanged-requires
+    same-length
+    same-length-2
+    same-length-3
+    same-length-4
+    returns
+    returns-2)

@@ -1,0 +1,4 @@
+pub mod Boards
+pub mod Claims
+pub mod Promises
+pub mod Shown
