@@ -5,7 +5,7 @@ use mathlib.Core.List.{List, [], _∷_, _++_}
 use Prim.Native.Nat.{ℕ, _≤_}
 use lib.ListN.{length}
 use Rattle.records.specs.Words.{QueueWords}
-use Rattle.lines.specs.Lines.{last}
+use Rattle.lines.specs.Lines.{last, joined}
 use Rattle.lines.specs.Passed.{Passed}
 use Rattle.feed.specs.Replies.{Replies}
 
@@ -30,11 +30,11 @@ pub data Fed (m : ℕ) : List ℕ → List (List ℕ) → QueueWords → List �
   used : {k k′ : List ℕ} {cs : List (List ℕ)} {w w′ : QueueWords} {v : List ℕ} → Fed m k cs w v k′ w′ → Fed m k ([] ∷ cs) w v k′ w′
   none : {k : List ℕ} {w : QueueWords} → Fed m k [] w [] k w
 
--- chunks that were read, as many as reads, all used up
-pub record Served (m : ℕ) (k : List ℕ) (w : QueueWords) (reads : ℕ) (k′ : List ℕ) (w′ : QueueWords) : Type 0 where
+-- chunks that were read, of so many bytes together, all used up; which bytes these are is not said
+pub record Served (m : ℕ) (k : List ℕ) (w : QueueWords) (bytes : ℕ) (k′ : List ℕ) (w′ : QueueWords) : Type 0 where
   pub chunks : List (List ℕ)
   pub text : List ℕ
-  pub count : length chunks ≡ reads
+  pub size : length (joined chunks) ≡ bytes
   pub fed : Fed m k chunks w text k′ w′
 
 -- the end of the input, where l is kept
@@ -42,11 +42,11 @@ pub record Closed (l : List ℕ) (w w′ : QueueWords) : Type 0 where
   pub text : List ℕ
   pub replies : Replies (last l) w text w′
 
--- a program's run: chunks were read, as many as reads, and answered; then the input ended, and what was kept was answered, or it broke off
-pub record Ran (m : ℕ) (k : List ℕ) (w : QueueWords) (reads : ℕ) (ended : Bool) (w′ : QueueWords) : Type 0 where
+-- a program's run: chunks of so many bytes were read and answered; then the input ended, and what was kept was answered, or it broke off
+pub record Ran (m : ℕ) (k : List ℕ) (w : QueueWords) (bytes : ℕ) (ended : Bool) (w′ : QueueWords) : Type 0 where
   pub kept : List ℕ
   pub between : QueueWords
-  pub served : Served m k w reads kept between
+  pub served : Served m k w bytes kept between
   pub closed : ended ≡ true → Closed kept between w′
   pub broken : ended ≡ false → w′ ≡ between
 

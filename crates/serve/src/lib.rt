@@ -197,10 +197,10 @@ fn finish(
     }
 }
 
-// How many chunks were read, what the last read gave, whether the input has ended, the store then, and whether all writes
-// went well.
+// How many bytes were read, what the last read gave, whether the input has ended, the store then, and whether all
+// writes went well.
 struct Outcome {
-    reads: u64,
+    bytes: usize,
     got: isize,
     ended: bool,
     state: Wheel,
@@ -209,8 +209,8 @@ struct Outcome {
 }
 
 // Reads until the input ends; where it cannot be read any more, a line that has not ended stays unanswered. What each
-// read gave is answered, and the last line: that is claimed, and not that it is written. A proved loop has to end, so it
-// counts its reads; no run comes to the last.
+// read gave is answered, and the last line: that is claimed, and not that it is written. A proved loop has to end, so
+// this one ends at 2^63 bytes; no run comes there.
 fn serve(
     line: &mut [u8],
     start: Progress,
@@ -229,21 +229,21 @@ fn serve(
         (length (old line))
         (take (start .kept) (old line))
         (before (start .state) (start .heads .rows) values deadlines nexts prevs turns marks)
-        (r .reads)
+        (r .bytes)
         (r .ended)
         (after (r .state) (r .heads .rows) values deadlines nexts prevs turns marks) ⌝ }
 {
     let mut buf = io::buffer();
     let mut run = start;
-    let mut reads: u64 = 0;
-    while reads < u64::MAX {
+    let mut bytes: usize = 0;
+    while bytes < 9223372036854775808 {
         let got = libc::read(STDIN_FILENO, &mut buf);
         if got < 0 {
             io::write_all(STDERR_FILENO, b"replay: cannot read\n");
             let state = run.state;
             let heads = run.heads;
             return Outcome {
-                reads,
+                bytes,
                 got,
                 ended: false,
                 state,
@@ -266,7 +266,7 @@ fn serve(
             let state = end.state;
             let heads = end.heads;
             return Outcome {
-                reads,
+                bytes,
                 got,
                 ended: true,
                 state,
@@ -287,12 +287,12 @@ fn serve(
             marks,
             out,
         );
-        reads += 1;
+        bytes += k;
         if !run.fine {
             let state = run.state;
             let heads = run.heads;
             return Outcome {
-                reads,
+                bytes,
                 got,
                 ended: false,
                 state,
@@ -304,7 +304,7 @@ fn serve(
     let state = run.state;
     let heads = run.heads;
     Outcome {
-        reads,
+        bytes,
         got: 1,
         ended: false,
         state,

@@ -162,17 +162,23 @@ fed-more {m} {k₂ = k₂} {c = c} {w₂ = w₂} {t = t} (nothing {k = k} {w = w
     subst (λ (x : List ℕ). Fed m k (c ∷ []) w x k₂ w₂) (append-nil t) (call a (used nothing))
 
 pub served-none : {m : ℕ} {k : List ℕ} {w : QueueWords} → Served m k w 0 k w
-served-none = record { chunks = []; text = []; count = refl; fed = nothing }
+served-none = record { chunks = []; text = []; size = refl; fed = nothing }
 
--- one chunk more was read, and all of it answered
-pub served-more : {m i j : ℕ} {k k₁ k₂ c : List ℕ} {w w₁ w₂ : QueueWords} → Served m k w i k₁ w₁ → AllFed j k₁ c w₁ k₂ [] w₂ → j ≡ m
-    → Served m k w (i + 1) k₂ w₂
-served-more {m} {k₁ = k₁} {k₂ = k₂} {c = c} {w₁ = w₁} {w₂ = w₂} S A e =
+joined-more : (cs : List (List ℕ)) (c : List ℕ) → length (joined (cs ++ c ∷ [])) ≡ length (joined cs) + length c
+joined-more [] c = omega (arith, length-append c [])
+joined-more (d ∷ cs) c =
+    omega (arith, length-append d (joined (cs ++ c ∷ [])), length-append d (joined cs), joined-more cs c)
+
+-- one chunk more was read, of n bytes, and all of it answered
+pub served-more : {m i j n : ℕ} {k k₁ k₂ c : List ℕ} {w w₁ w₂ : QueueWords} → Served m k w i k₁ w₁ → AllFed j k₁ c w₁ k₂ [] w₂ → j ≡ m
+    → n ≡ length c
+    → Served m k w (i + n) k₂ w₂
+served-more {m} {k₁ = k₁} {k₂ = k₂} {c = c} {w₁ = w₁} {w₂ = w₂} S A e h =
     let a : Feeds m k₁ c w₁ (A .text) k₂ [] w₂ = subst (λ (x : ℕ). Feeds x k₁ c w₁ (A .text) k₂ [] w₂) e (A .feeds) in
     record {
       chunks = S .chunks ++ c ∷ [];
       text = S .text ++ A .text;
-      count = length-append (S .chunks) (c ∷ []) ∙ ap (λ (x : ℕ). x + 1) (S .count);
+      size = omega (arith, joined-more (S .chunks) c, S .size, h);
       fed = fed-more (S .fed) a;
     }
 

@@ -10,7 +10,7 @@ use mir.Val.{toZ, ofZ}
 use Rattle.records.specs.Words.{words}
 use Rattle.feed.specs.Serving.{Served}
 use Rattle.feed.proofs.laws.Serving.{served-none, served-more, ran-out, broke-off}
-use Rattle.serve.proofs.laws.Read.{read-failed, read-end, read-some}
+use Rattle.serve.proofs.laws.Read.{read-failed, read-end, read-some, read-byte}
 use Rattle.serve.proofs.serve.Statement.{statement}
 use Rattle.serve.proofs.serve.Tie as tie
 
@@ -19,8 +19,8 @@ abbrev word : ℤ → ℤ
 word z = toZ w64 (ofZ w64 z)
 
 abbrev Inv-loop : tie.InvT-loop
-Inv-loop line₀ values₀ deadlines₀ nexts₀ prevs₀ turns₀ marks₀ out₀ buf₀ run₀ reads₀ t24 line values deadlines nexts prevs turns marks out buf
-    run reads =
+Inv-loop line₀ values₀ deadlines₀ nexts₀ prevs₀ turns₀ marks₀ out₀ buf₀ run₀ bytes₀ t24 line values deadlines nexts prevs turns marks out buf
+    run bytes =
     (run .kept ≤ 81)
     × (length buf ≡ 4096)
     × (length line ≡ length line₀)
@@ -33,14 +33,14 @@ Inv-loop line₀ values₀ deadlines₀ nexts₀ prevs₀ turns₀ marks₀ out�
     × (length out ≡ length out₀)
     × Served (length line₀) (take (run₀ .kept) line₀)
     (words (run₀ .state) (run₀ .heads .rows) values₀ deadlines₀ nexts₀ prevs₀ turns₀ marks₀)
-    reads
+    bytes
     (take (run .kept) line)
     (words (run .state) (run .heads .rows) values deadlines nexts prevs turns marks)
 
 abbrev μ-loop : tie.MeasureT-loop
-μ-loop line₀ values₀ deadlines₀ nexts₀ prevs₀ turns₀ marks₀ out₀ buf₀ run₀ reads₀ t24 line values deadlines nexts prevs turns marks out buf
-    run reads =
-    18446744073709551615 - reads
+μ-loop line₀ values₀ deadlines₀ nexts₀ prevs₀ turns₀ marks₀ out₀ buf₀ run₀ bytes₀ t24 line values deadlines nexts prevs turns marks out buf
+    run bytes =
+    9223372036854775808 - bytes
 
 abbrev to-answer : tie.After-slice-known23 Inv-loop μ-loop → tie.After-answer Inv-loop μ-loop
 to-answer c =
@@ -86,11 +86,14 @@ to-then c =
     let b = a .before .before .before .before in
     b .before
 
-abbrev to-some : tie.After-answer Inv-loop μ-loop → tie.Else2 Inv-loop μ-loop
-to-some c =
+abbrev to-count : tie.After-answer Inv-loop μ-loop → tie.After-count Inv-loop μ-loop
+to-count c =
     let a = c .before .before .before .before in
     let b = a .before .before .before .before in
-    b .before .before .before .before
+    b .before .before
+
+abbrev to-some : tie.After-answer Inv-loop μ-loop → tie.Else2 Inv-loop μ-loop
+to-some c = to-count c .before .before
 
 buffer-requires : tie.Need-buffer-requires Inv-loop μ-loop
 buffer-requires c κs = search needs
@@ -204,8 +207,12 @@ slice-aggregate-answer c = search needs
 answer-requires : tie.Need-answer-requires Inv-loop μ-loop
 answer-requires c κs = search needs
 
-add-reads : tie.Need-add-reads Inv-loop μ-loop
-add-reads c = omega (arith, to-in-loop (to-read (to-answer c)) .loop-test .taken)
+add-bytes : tie.Need-add-bytes Inv-loop μ-loop
+add-bytes c =
+    let at-answer = to-answer c in
+    let at-read = to-read at-answer in
+    let turn = to-in-loop at-read in
+    omega (arith, turn .loop-test .taken, to-count at-answer .count .ensures .0 .0, at-read .read .kept .1 .0, turn .before .loop .inv .1)
 
 same-length-17 : tie.Need-same-length-17 Inv-loop μ-loop
 same-length-17 c =
@@ -260,11 +267,17 @@ returns-3 c =
     let at-answer = to-answer (c .before .before .before .before) in
     let turn = to-in-loop (to-read at-answer) .before in (
       read-some (word (to-read at-answer .read .result)) (to-some at-answer .if2 .left),
-      broke-off (served-more (turn .loop .inv .10) (at-answer .answer .ensures .1) (turn .loop .inv .2)),
+      broke-off (served-more (turn .loop .inv .10) (at-answer .answer .ensures .1) (turn .loop .inv .2) (to-count at-answer .count .ensures .0 .1)),
     )
 
 loop-less : tie.Need-loop-less Inv-loop μ-loop
-loop-less c = omega (arith, to-in-loop (to-read (to-answer (c .before .before))) .loop-test .taken)
+loop-less c =
+    let at-answer = to-answer (c .before .before) in
+    let at-read = to-read at-answer in
+    let turn = to-in-loop at-read in
+    let full = at-read .read .kept .1 .0 ∙ turn .before .loop .inv .1 in
+    let some = read-byte (word (at-read .read .result)) (to-some at-answer .if2 .left) (omega (arith, full)) (to-count at-answer .count .ensures .1) in
+    omega (arith, turn .loop-test .taken, some)
 
 loop-again : tie.Need-loop-again Inv-loop μ-loop
 loop-again c =
@@ -283,7 +296,7 @@ loop-again c =
       six .1 .1 .1 .1 .0 ∙ turn .loop .inv .7,
       six .1 .1 .1 .1 .1 .0 ∙ turn .loop .inv .8,
       six .1 .1 .1 .1 .1 .1 .0 ∙ turn .loop .inv .9,
-      served-more (turn .loop .inv .10) (at-answer .answer .ensures .1) (turn .loop .inv .2),
+      served-more (turn .loop .inv .10) (at-answer .answer .ensures .1) (turn .loop .inv .2) (to-count at-answer .count .ensures .0 .1),
     )
 
 same-length-25 : tie.Need-same-length-25 Inv-loop μ-loop
@@ -349,7 +362,7 @@ serve-spec =
     array-share-prefix-buf
     slice-aggregate-answer
     answer-requires
-    add-reads
+    add-bytes
     same-length-17
     same-length-18
     same-length-19
