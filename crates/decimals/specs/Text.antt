@@ -36,3 +36,8 @@ pub record Decimal (l : List ℕ) (n : ℕ) : Type 0 where
 unfoldable pub Spaced : List ℕ → List ℕ → Type 0
 Spaced l [] = l ≡ []
 Spaced l (n ∷ ns) = (d : List ℕ) × (rest : List ℕ) × (l ≡ code " " ∷ d ++ rest) × Decimal d n × Spaced rest ns
+
+-- "fit a u64": each number does
+abbrev pub Fit : List ℕ → Type 0
+Fit [] = Unit
+Fit (n ∷ ns) = (n < 2 ^ 64) × Fit ns

@@ -9,7 +9,8 @@ use lib.ListN.{length, length-append}
 use Rattle.queue.specs.declared.Answer.{Answer}
 use Rattle.queue.specs.declared.Answer.the-variants as A
 use Rattle.answering.specs.Text.{word, shown, Written, put, PutClaim}
-use Rattle.decimals.proofs.laws.Spacing.{Fit, one-text, some-text, at-most-21}
+use Rattle.decimals.specs.Text.{Fit}
+use Rattle.decimals.proofs.laws.Spacing.{one-text, some-text, at-most-21}
 
 -- a word and numbers have one line at most
 pub one-written : {w ns l m : List ℕ} → Written w ns l → Written w ns m → l ≡ m

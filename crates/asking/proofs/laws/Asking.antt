@@ -11,9 +11,9 @@ use Rattle.delay_queue.specs.declared.Call.the-variants as C
 use Rattle.asking.specs.declared.Line.{Line}
 use Rattle.asking.specs.declared.Line.the-variants as L
 use Rattle.asking.specs.declared.Fields.the-variants as F
-use Rattle.decimals.specs.Text.{Spaced}
+use Rattle.decimals.specs.Text.{Spaced, Fit}
 use Rattle.asking.specs.Text.{letter, numbers, Says, ReadClaim}
-use Rattle.decimals.proofs.laws.Spacing.{Fit, one-list, one-text, some-text, at-most-21}
+use Rattle.decimals.proofs.laws.Spacing.{one-list, one-text, some-text, at-most-21}
 use Rattle.asking.specs.Parts.{fieldsOf, callOf}
 
 pub same-call : {c d : Call} → L.Asks c ≡ L.Asks d → c ≡ d

@@ -4,7 +4,7 @@ use mathlib.Core.List.{List, [], _∷_, _++_, nil≢cons, head-eq-of-cons-eq, ta
 use Prim.Native.Nat.{ℕ, suc, _*_, _^_, _≤_, _<_}
 use native.Mathlib.Omega.{arith}
 use lib.ListN.{length, getD, length-append}
-use Rattle.decimals.specs.Text.{Decimal, Spaced}
+use Rattle.decimals.specs.Text.{Decimal, Spaced, Fit}
 use Rattle.decimals.proofs.laws.Decimals.{one-decimal, one-number, at-most-20, some-decimal}
 
 -- no byte is a space
@@ -57,11 +57,6 @@ one-text l m [] p q = p ∙ sym q
 one-text l m (n ∷ ns) p q =
     let e = one-text (p .1) (q .1) ns (p .4) (q .4) in
     p .2 ∙ ap₂ (λ (d r : List ℕ). 32 ∷ d ++ r) (one-decimal (p .3) (q .3)) e ∙ sym (q .2)
-
--- each number fits a u64
-abbrev pub Fit : List ℕ → Type 0
-Fit [] = Unit
-Fit (n ∷ ns) = (n < 2 ^ 64) × Fit ns
 
 pub some-text : (ns : List ℕ) → Fit ns → (l : List ℕ) × Spaced l ns
 unfolding Spaced
