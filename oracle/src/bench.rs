@@ -1,16 +1,28 @@
 //! The replay bench: a line in, an answer out.
 use crate::line::{parse, Answer, Command};
-use crate::rules::{LAST_TURN, MOST_RECORDS};
+use crate::rules::{BENCH_ROOM, LAST_TURN, MOST_RECORDS};
 pub use crate::store::{Entry, Store};
 use std::thread;
 
-#[derive(Default)]
 pub struct Bench {
     store: Option<Store>,
     lines: u64,
+    /// So many records the lent slices are long enough for.
+    room: u64,
     /// The rules are not held against the original. Its own assertions are live, and both its forms
     /// must still answer the same.
     unchecked: bool,
+}
+
+impl Default for Bench {
+    fn default() -> Bench {
+        Bench {
+            store: None,
+            lines: 0,
+            room: BENCH_ROOM,
+            unchecked: false,
+        }
+    }
 }
 
 impl Bench {
@@ -19,6 +31,11 @@ impl Bench {
             unchecked: true,
             ..Bench::default()
         }
+    }
+
+    /// The same with other slices.
+    pub fn with_room(self, room: u64) -> Bench {
+        Bench { room, ..self }
     }
 
     pub fn store(&self) -> Option<&Store> {
@@ -59,7 +76,7 @@ impl Bench {
     }
 
     fn format(&mut self, records: u64, turn: u64) -> Answer {
-        if !(1..=MOST_RECORDS).contains(&records) {
+        if !(1..=MOST_RECORDS.min(self.room)).contains(&records) {
             return Answer::No(1);
         }
         if !(1..=LAST_TURN).contains(&turn) {

@@ -4,7 +4,9 @@ use crate::bench::Store;
 use crate::line::{Answer, Command};
 use crate::malformed::malformed;
 use crate::rng::Rng;
-use crate::rules::{block, key, unpack, BLOCK_BITS, FARTHEST, LAST_TURN, MOST_RECORDS, WIDTHS};
+use crate::rules::{
+    block, key, unpack, BENCH_ROOM, BLOCK_BITS, FARTHEST, LAST_TURN, MOST_RECORDS, WIDTHS,
+};
 use crate::script::Script;
 
 /// Weights of insert, reset, remove, poll, wake, length, clear and malformed lines in a stretch.
@@ -19,10 +21,19 @@ const MIXES: [[u64; 8]; 6] = [
 /// Most deadlines of a stretch lie within two to such a power of elapsed.
 const REACHES: [u64; 9] = [3, 7, 8, 12, 13, 18, 24, 30, 36];
 const GIVEN: usize = 64;
+/// Large stores begin at the edges of the bench's room and of the limit.
+const EDGES: [u64; 6] = [
+    BENCH_ROOM - 1,
+    BENCH_ROOM,
+    BENCH_ROOM + 1,
+    MOST_RECORDS - 1,
+    MOST_RECORDS + 1,
+    MOST_RECORDS,
+];
 
 /// What one seed gives, on stores of any size.
 pub fn generate(seed: u64, lines: usize, with_lists: bool) -> Script {
-    generate_small(seed, lines, MOST_RECORDS, with_lists)
+    generate_small(seed, lines, BENCH_ROOM, with_lists)
 }
 
 /// The same, on stores of at most `most_records`.
@@ -97,6 +108,12 @@ impl<T: Taker> Generator<'_, T> {
         for _ in 0..self.rng.below(6) {
             self.step();
         }
+        if self.is_large() {
+            for records in EDGES {
+                self.command(Command::Format { records, turn: 1 });
+                self.step();
+            }
+        }
         self.format();
         while !self.taker.full() {
             self.stretch();
@@ -141,7 +158,8 @@ impl<T: Taker> Generator<'_, T> {
         }
         self.reach = self.rng.pick(&REACHES);
         self.mix = self.rng.pick(&MIXES);
-        if self.rng.chance(1, 12) {
+        let seldom = if self.is_large() { 3 } else { 12 };
+        if self.rng.chance(1, seldom) {
             self.rush();
         }
         let size = self.store().map_or(4, |store| store.size() as u64);
@@ -265,9 +283,19 @@ impl<T: Taker> Generator<'_, T> {
         }
     }
 
+    /// More records than the bench has room for.
+    fn is_large(&self) -> bool {
+        self.most_records > BENCH_ROOM
+    }
+
     fn odd_format(&mut self) -> Command {
+        let odd = if self.is_large() {
+            [1023, 1025, MOST_RECORDS - 1, 0, 1024, MOST_RECORDS + 1, u64::MAX]
+        } else {
+            [1, 2, 1024, 0, 1025, 65536, u64::MAX]
+        };
         Command::Format {
-            records: self.rng.pick(&[1, 2, 1024, 0, 1025, 65536, u64::MAX]),
+            records: self.rng.pick(&odd),
             turn: self.rng.pick(&[1, LAST_TURN, 0, LAST_TURN + 1, u64::MAX]),
         }
     }
@@ -287,6 +315,9 @@ impl<T: Taker> Generator<'_, T> {
 
     fn fair_format(&mut self) -> Command {
         let records = match self.rng.below(8) {
+            0..=4 if self.is_large() => MOST_RECORDS,
+            5..=6 if self.is_large() => MOST_RECORDS - 1,
+            _ if self.is_large() => 1 + self.rng.below(MOST_RECORDS),
             0..=4 => 1 + self.rng.below(8),
             5 => 1 + self.rng.below(64),
             6 => 1024,

@@ -7,7 +7,10 @@ pub const SLOTS: usize = 64;
 pub const BLOCK_BITS: u32 = 36;
 /// The farthest that a deadline may lie ahead of elapsed.
 pub const FARTHEST: u64 = 68_719_476_735;
-pub const MOST_RECORDS: u64 = 1024;
+/// The most records that a store may have: the numbers below 65,535, which means nobody.
+pub const MOST_RECORDS: u64 = 65_535;
+/// The bench has room for so many.
+pub const BENCH_ROOM: u64 = 1024;
 pub const LAST_TURN: u64 = (1 << 48) - 1;
 
 /// The greatest k with different quotients, 0 if none: by division, where the original counts

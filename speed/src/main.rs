@@ -8,14 +8,18 @@ mod replay;
 use clock::{in_turns, timed, Side, Times};
 use ours::Store;
 use speed::original;
-use speed::script::{Mix, COMMANDS, MIXES, SIZES};
+use speed::script::{Mix, COMMANDS, INSERT, MIXES, SIZES};
 use std::hint::black_box;
 
 /// A judged call takes microseconds, so these runs are shorter.
 const JUDGED: usize = 20_000;
 const JUDGINGS: usize = 1_000;
+/// The judge alone is measured up to the largest store, in runs of so many records judged.
+const JUDGED_SIZES: [usize; 5] = [64, 1024, 8192, 32_768, 65_535];
+const JUDGED_RECORDS: usize = 1_000_000;
+const DAY: u64 = 86_400_000;
 
-const USAGE: &str = "usage: speed calls|judge|judged|replay ROUNDS FOLDER-OF-MIXES [PROGRAM]";
+const USAGE: &str = "usage: speed calls|judge|sizes|judged|replay ROUNDS FOLDER-OF-MIXES [PROGRAM]";
 
 fn main() {
     let words: Vec<String> = std::env::args().collect();
@@ -31,6 +35,7 @@ fn main() {
     match (*what, rest) {
         ("calls", []) => calls(rounds, &mixes),
         ("judge", []) => judge(rounds, &mixes),
+        ("sizes", []) => sizes(rounds),
         ("judged", []) => judged(rounds, &mixes),
         ("replay", [program]) => replayed(rounds, &mixes, program),
         _ => panic!("{USAGE}"),
@@ -120,6 +125,35 @@ fn judge(rounds: usize, mixes: &[Mix]) {
         let ([ours, c], sound) = in_turns(mix.name, rounds, [ours, c]);
         assert_eq!(sound, JUDGINGS as u64, "the store must be sound");
         row(&named(mix), [&ns(&ours), &ns(&c), &ratio(&ours, &c)]);
+    }
+}
+
+/// The judge alone, on full stores up to the largest, their deadlines all over a day.
+fn sizes(rounds: usize) {
+    println!("ns, least (median) of {rounds} runs, every record pending");
+    row("N", ["a judging", "a record"]);
+    for n in JUDGED_SIZES {
+        let mut store = Store::new(n);
+        let when = |i: usize| 1 + (i as u64).wrapping_mul(0x9e37_79b9_7f4a_7c15) % DAY;
+        let script: Vec<_> = (0..n).map(|i| [INSERT << 60, when(i)]).collect();
+        store.inner(&script);
+        let judgings = JUDGED_RECORDS.div_ceil(n);
+        let ours: Side = (
+            "ours",
+            Box::new(move || {
+                timed(judgings, || {
+                    (0..judgings).map(|_| black_box(store.judge()) as u64).sum()
+                })
+            }),
+        );
+        let ([ours], sound) = in_turns("sizes", rounds, [ours]);
+        assert_eq!(sound, judgings as u64, "the store must be sound");
+        let each = |ns: f64| ns / n as f64;
+        let record = Times {
+            least: each(ours.least),
+            median: each(ours.median),
+        };
+        row(&n.to_string(), [&ns(&ours), &ns(&record)]);
     }
 }
 

@@ -180,12 +180,14 @@ fn enough(image: &Image) {
     show_lent(image, MARKS, 9);
 }
 
-// Every record behind the nine would be a retired one. As many as a store may have are sound, and one more is not.
+// Every record behind the nine would be a retired one. As many as the slices have words for are sound, and one more is not.
 fn retired(image: &Image) {
     image::say(b"the words behind the nine records are those of retired ones:\n");
     show(image, N, 10);
     show(image, N, 1024);
     show(image, N, 1025);
+    show(image, N, 1026);
+    show(image, N, 65535);
 }
 
 // No list has a member, so that nothing but n itself is against none.

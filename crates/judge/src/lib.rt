@@ -109,11 +109,9 @@ pub fn is_sound(
     ensures { λ r. ⌜ Tells (Sound (before state heads values deadlines nexts prevs turns marks)) r ⌝ }
 {
     let stacks = state.stacks;
+    // no u16 is over the limit
     let n = stacks.n;
     if n == 0 {
-        return false;
-    }
-    if records::LIMIT < n {
         return false;
     }
     if !has_room(n, values, deadlines, nexts, prevs, turns, marks) {

@@ -31,7 +31,7 @@ pub data Lines : Type 1 where
   line : ℕ → Type 0 → Lines → Lines
 
 -- "Order: format 1, 8; insert 2, 3, 4, 5; reset 2, 6, 4, 5; remove 2, 6; poll 2, 7; next wake, length and clear only 2."
--- 1: "N is 0 or over 1,024, or a lent slice is too short for N"; 8: "first turn 0 or 2^48 and above"
+-- 1: "N is 0 or over" 65,535 (02 [5]: "Refusal 1 moves to the new limit"), "or a lent slice is too short for N"; 8: "first turn 0 or 2^48 and above"
 -- 2: "slices too short or store not sound"; 3: "no record is free and unretired"
 -- 4: "deadline less elapsed is over 68,719,476,735"; 5: "as 4, but not over, and floor(w/2^36) differs from floor(e/2^36)"; 7: "now is below elapsed"
 abbrev pub linesOf : Call → QueueWords → Lines

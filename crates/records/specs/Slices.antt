@@ -31,9 +31,9 @@ pub record Room (n : ℕ) (l : Slices) : Type 0 where
   pub links : linked.Room n (l .links)
   pub turns : n ≤ length (l .turns)
 
--- "N from 1 to 1,024"
+-- 02 [5]: "Raise N to 65,535; record number 65,535 means nobody." 01 had "N from 1 to 1,024"
 abbrev pub limit : ℕ
-limit = 1024
+limit = 65535
 
 -- number 1 is not given: N is in range, and no lent slice is too short for N
 pub record Fits (l : Slices) (n : ℕ) : Type 0 where

@@ -11,8 +11,8 @@ ghost use Rattle.records.specs.Found.{DeadlineNo, FindIs};
 // The last turn: a record that leaves at it is retired.
 pub const LAST_TURN: u64 = (1 << 48) - 1;
 
-// The most records that a store may have.
-pub const LIMIT: u16 = 1024;
+// The most records that a store may have: the numbers below nobody.
+pub const LIMIT: u16 = 65535;
 
 // The record that a key names.
 pub enum Found {

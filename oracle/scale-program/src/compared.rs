@@ -7,12 +7,13 @@ use crate::Found;
 use oracle::bench::{Bench, Store};
 use oracle::generator::Taker;
 use oracle::line::{parse, Answer, Command};
-use oracle::rules::MOST_RECORDS;
+use oracle::rules::BENCH_ROOM;
 use std::mem;
 use std::thread;
 
-/// So many calls go to ours at once where they judge nothing.
+/// So many calls go to ours at once where they judge nothing; and so many on stores that are larger than the bench's.
 const AT_ONCE: usize = 64;
+const AT_ONCE_LARGE: usize = 4096;
 
 #[derive(Clone, Copy, PartialEq, Eq)]
 pub enum How {
@@ -20,11 +21,17 @@ pub enum How {
     Judged,
     /// The same, and every check of the oracle's own is made.
     Checked,
-    /// Calls that judge nothing, lists compared after every [`AT_ONCE`]. Format is a call that users make.
+    /// Calls that judge nothing, lists compared after every [`AT_ONCE`] of them. Format is a call that users make.
     Inner,
 }
 
 impl How {
+    pub fn named(name: &str) -> Option<How> {
+        [How::Judged, How::Checked, How::Inner]
+            .into_iter()
+            .find(|how| how.name() == name)
+    }
+
     pub fn name(self) -> &'static str {
         match self {
             How::Judged => "judged",
@@ -46,6 +53,7 @@ pub struct Compared {
     how: How,
     bench: Bench,
     ours: ours::Store,
+    at_once: usize,
     /// How many lines are taken, malformed ones too; and how many have been.
     most: usize,
     lines: usize,
@@ -62,15 +70,18 @@ pub struct Compared {
 }
 
 impl Compared {
-    pub fn new(how: How, most: usize, wrong: Option<Wrong>) -> Compared {
+    /// Takes so many lines, on memory for so many records.
+    pub fn new(how: How, most: usize, room: u64, wrong: Option<Wrong>) -> Compared {
         let bench = match how {
             How::Checked => Bench::default(),
             _ => Bench::unchecked(),
         };
+        let large = room > BENCH_ROOM;
         Compared {
             how,
-            bench,
-            ours: ours::Store::room(MOST_RECORDS as usize),
+            bench: bench.with_room(room),
+            ours: ours::Store::room(room as usize),
+            at_once: if large { AT_ONCE_LARGE } else { AT_ONCE },
             most,
             lines: 0,
             commands: vec![],
@@ -117,8 +128,7 @@ impl Compared {
         if self.waiting.is_empty() {
             return;
         }
-        let mut got = [[u64::MAX; 6]; AT_ONCE];
-        let got = &mut got[..self.waiting.len()];
+        let got = &mut vec![[u64::MAX; 6]; self.waiting.len()][..];
         if self.how == How::Inner
             && self.waiting[0][0] != ours::FORMAT
             && self.bench.store().is_some()
@@ -219,7 +229,7 @@ impl Taker for Compared {
         self.tally.count(command, answer);
         self.waiting.push(call(command));
         self.expected.push(answer);
-        if alone || self.how != How::Inner || self.waiting.len() == AT_ONCE {
+        if alone || self.how != How::Inner || self.waiting.len() == self.at_once {
             self.flush();
         }
         answer

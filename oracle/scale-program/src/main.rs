@@ -11,7 +11,7 @@ mod wrong;
 use compared::{Compared, Difference, How};
 use oracle::exit::exit;
 use oracle::generator::{give, Taker};
-use oracle::rules::MOST_RECORDS;
+use oracle::rules::{BENCH_ROOM, MOST_RECORDS};
 use oracle::short;
 use std::env;
 use std::fmt;
@@ -26,8 +26,8 @@ use tally::Tally;
 use wrong::{Wrong, WORDS};
 
 const USAGE: &str = "usage: scale [--keep FOLDER] \
-    [ judged FROM TO LINES | inner FROM TO LINES | checked FROM TO LINES | short DEPTH | wrong [WORD] \
-    | gauge FROM TO ]";
+    [ judged FROM TO LINES | inner FROM TO LINES | checked FROM TO LINES \
+    | large judged|inner|checked FROM TO LINES | short DEPTH | wrong [WORD] | gauge FROM TO ]";
 /// Where a script with a difference is kept below the oracle's folder, unless --keep names another.
 const KEEP: &str = "target/differences";
 /// So many short sequences are one piece of work.
@@ -47,18 +47,18 @@ fn run(words: &[&str]) -> Result<bool, String> {
         ["--keep", folder, rest @ ..] => (PathBuf::from(folder), rest),
         _ => (here, words),
     };
-    let seeds = |how, from: &str, to: &str, lines: &str| {
+    let seeds = |room, how: &str, from: &str, to: &str, lines: &str| {
+        let how = How::named(how).ok_or(USAGE)?;
         let (from, to) = (number(from)?, number(to)?);
         let lines = number(lines)? as usize;
         let all = from <= to && lines > 0;
-        all.then_some(Part::Seeds(how, from..=to, lines))
+        all.then_some(Part::Seeds(how, from..=to, lines, room))
             .ok_or(USAGE.to_string())
     };
     let part = match words {
         [] => return whole(&keep),
-        ["judged", from, to, lines] => seeds(How::Judged, from, to, lines)?,
-        ["checked", from, to, lines] => seeds(How::Checked, from, to, lines)?,
-        ["inner", from, to, lines] => seeds(How::Inner, from, to, lines)?,
+        ["large", how, from, to, lines] => seeds(MOST_RECORDS, how, from, to, lines)?,
+        [how, from, to, lines] => seeds(BENCH_ROOM, how, from, to, lines)?,
         ["short", depth] => Part::Short(depth_of(depth)?),
         ["gauge", from, to] => {
             let (from, to) = (number(from)?, number(to)?);
@@ -67,7 +67,7 @@ fn run(words: &[&str]) -> Result<bool, String> {
         ["wrong"] => return all_wrong(),
         ["wrong", word] => {
             let wrong = Wrong::new(number(word)? as usize).ok_or(USAGE)?;
-            return Part::Seeds(How::Judged, 1..=2, 2000).compare(&keep, Some(wrong));
+            return Part::Seeds(How::Judged, 1..=2, 2000, BENCH_ROOM).compare(&keep, Some(wrong));
         }
         _ => return Err(USAGE.into()),
     };
@@ -92,9 +92,10 @@ fn whole(keep: &Path) -> Result<bool, String> {
     let start = Instant::now();
     let mut commands = 0;
     for part in [
-        Part::Seeds(How::Judged, 1..=20_480, 5000),
-        Part::Seeds(How::Inner, 20_481..=40_960, 5000),
-        Part::Seeds(How::Checked, 40_961..=41_472, 5000),
+        Part::Seeds(How::Judged, 1..=20_480, 5000, BENCH_ROOM),
+        Part::Seeds(How::Inner, 20_481..=40_960, 5000, BENCH_ROOM),
+        Part::Seeds(How::Checked, 40_961..=41_472, 5000, BENCH_ROOM),
+        Part::Seeds(How::Inner, 1..=16, 400_000, MOST_RECORDS),
         Part::Short(DEEPEST),
     ] {
         let Some(tally) = part.run(keep, None)? else {
@@ -112,7 +113,7 @@ fn all_wrong() -> Result<bool, String> {
     let mut seen = 0;
     let sides = [How::Judged, How::Inner];
     for how in sides {
-        let work = Part::Seeds(how, 1..=1, 2000);
+        let work = Part::Seeds(how, 1..=1, 2000, BENCH_ROOM);
         if let Some(found) = work.piece(0, None).1 {
             println!("{}: {found}", work.title());
             return Ok(false);
@@ -129,8 +130,8 @@ fn all_wrong() -> Result<bool, String> {
 }
 
 enum Part {
-    /// These seeds, with so many lines each.
-    Seeds(How, RangeInclusive<u64>, usize),
+    /// These seeds, with so many lines each, on memory for so many records.
+    Seeds(How, RangeInclusive<u64>, usize, u64),
     /// Every sequence of so many commands.
     Short(u32),
 }
@@ -148,9 +149,11 @@ struct Found {
 impl Part {
     fn title(&self) -> String {
         match self {
-            Part::Seeds(how, seeds, lines) => {
+            Part::Seeds(how, seeds, lines, room) => {
                 let (from, to) = (seeds.start(), seeds.end());
-                format!("{} seeds {from}..{to}, {lines} lines each", how.name())
+                let (name, large) = (how.name(), *room > BENCH_ROOM);
+                let large = if large { "large " } else { "" };
+                format!("{large}{name} seeds {from}..{to}, {lines} lines each")
             }
             Part::Short(depth) => format!("judged, every sequence of {depth} commands"),
         }
@@ -159,22 +162,22 @@ impl Part {
     /// Into so many pieces the work is cut.
     fn pieces(&self) -> u64 {
         match self {
-            Part::Seeds(_, seeds, _) => seeds.end() - seeds.start() + 1,
+            Part::Seeds(_, seeds, ..) => seeds.end() - seeds.start() + 1,
             Part::Short(depth) => short::count(*depth).div_ceil(CHUNK),
         }
     }
 
     fn piece(&self, number: u64, wrong: Option<Wrong>) -> (Tally, Option<Found>) {
         match self {
-            Part::Seeds(how, seeds, lines) => {
+            Part::Seeds(how, seeds, lines, room) => {
                 let seed = seeds.start() + number;
-                let mut compared = Compared::new(*how, *lines, wrong);
-                give(seed, most_records(seed), &mut compared);
+                let mut compared = Compared::new(*how, *lines, *room, wrong);
+                give(seed, most_records(seed, *room), &mut compared);
                 compared.end();
                 compared.done(format!("{} seed {seed}", how.name()))
             }
             Part::Short(depth) => {
-                let mut compared = Compared::new(How::Judged, usize::MAX, wrong);
+                let mut compared = Compared::new(How::Judged, usize::MAX, BENCH_ROOM, wrong);
                 let first = number * CHUNK;
                 let mut at = first;
                 let range = first..short::count(*depth).min(first + CHUNK);
@@ -243,10 +246,11 @@ impl Part {
     }
 }
 
-/// Small stores mostly; every eighth seed goes on through all sizes.
-fn most_records(seed: u64) -> u64 {
+/// Small stores mostly, and every eighth seed goes on through all sizes; where there is room for more than on the bench, large ones.
+fn most_records(seed: u64, room: u64) -> u64 {
     match seed % 8 {
-        0 => 1 + seed / 8 % MOST_RECORDS,
+        _ if room > BENCH_ROOM => room,
+        0 => 1 + seed / 8 % room,
         n => 1 << (n + 1).min(6),
     }
 }

@@ -1,6 +1,6 @@
 //! What was asked and answered, in numbers.
 use oracle::line::{Answer, Command};
-use oracle::rules::MOST_RECORDS;
+use std::collections::BTreeMap;
 use std::fmt;
 use std::ops::AddAssign;
 
@@ -12,8 +12,10 @@ const ANSWERS: [&str; 16] = [
     "no 5", "no 6", "no 7", "no 8",
 ];
 const DRAINS: usize = 6;
+/// So many sizes are shown.
+const LARGEST: usize = 3;
 
-#[derive(Clone)]
+#[derive(Clone, Default)]
 pub struct Tally {
     /// Seeds, or short sequences.
     pub scripts: u64,
@@ -24,26 +26,10 @@ pub struct Tally {
     moves: u64,
     drains: u64,
     /// How often stores of each size were made.
-    sizes: [u64; MOST_RECORDS as usize + 1],
+    sizes: BTreeMap<u64, u64>,
     /// How often the lists were compared, and the timers that were then in them.
     pub lists: u64,
     pub timers: u64,
-}
-
-impl Default for Tally {
-    fn default() -> Tally {
-        Tally {
-            scripts: 0,
-            commands: [0; COMMANDS.len()],
-            answers: [0; ANSWERS.len()],
-            polls_by_drains: [0; DRAINS],
-            moves: 0,
-            drains: 0,
-            sizes: [0; MOST_RECORDS as usize + 1],
-            lists: 0,
-            timers: 0,
-        }
-    }
 }
 
 impl Tally {
@@ -76,12 +62,19 @@ impl Tally {
             self.polls_by_drains[drains as usize] += 1;
         }
         if let (Command::Format { records, .. }, Answer::Ok) = (command, answer) {
-            self.sizes[records as usize] += 1;
+            *self.sizes.entry(records).or_default() += 1;
         }
     }
 
     pub fn commands(&self) -> u64 {
         self.commands.iter().sum()
+    }
+
+    /// The largest sizes, and how often a store of each was made.
+    fn largest(&self) -> String {
+        let last = self.sizes.iter().rev().take(LARGEST);
+        let each: Vec<String> = last.map(|(size, count)| format!("{size}: {count}")).collect();
+        each.join(", ")
     }
 }
 
@@ -98,7 +91,9 @@ impl AddAssign<&Tally> for Tally {
         add(&mut self.commands, &other.commands);
         add(&mut self.answers, &other.answers);
         add(&mut self.polls_by_drains, &other.polls_by_drains);
-        add(&mut self.sizes, &other.sizes);
+        for (&size, count) in &other.sizes {
+            *self.sizes.entry(size).or_default() += count;
+        }
     }
 }
 
@@ -111,7 +106,6 @@ impl fmt::Display for Tally {
                 .collect();
             each.join(", ")
         };
-        let sizes = self.sizes.iter().filter(|&&count| count > 0).count();
         let by_drains = ["0", "1", "2", "3", "4", "5"];
         writeln!(
             f,
@@ -127,7 +121,7 @@ impl fmt::Display for Tally {
             self.drains,
             named(&by_drains, &self.polls_by_drains)
         )?;
-        writeln!(f, "  sizes of stores: {sizes} different ones")?;
+        writeln!(f, "  sizes of stores: {} different ones, the largest {}", self.sizes.len(), self.largest())?;
         write!(
             f,
             "  lists compared: {} times, {} timers in them",

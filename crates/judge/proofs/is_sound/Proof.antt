@@ -13,43 +13,40 @@ start c =
     let a = c .before .before .before .before in
     a .before .before .before
 
-abbrev roomed : tie.After-heads → tie.Else3
+abbrev roomed : tie.After-heads → tie.Else2
 roomed c = c .before .before .before .before
 
 returns : tie.Need-returns
 returns c = tells-no (λ S. omega (arith, S .standing .fits .some))
 
-returns-2 : tie.Need-returns-2
-returns-2 c = tells-no (λ S. omega (arith, S .standing .fits .few))
-
 has-room-requires : tie.Need-has-room-requires
 has-room-requires c κs = search needs
 
-returns-3 : tie.Need-returns-3
-returns-3 c = tells-no (λ S. c .before .has-room .ensures .no (not-true _ (c .if3 .taken)) (S .standing .fits .room))
+returns-2 : tie.Need-returns-2
+returns-2 c = tells-no (λ S. c .before .has-room .ensures .no (not-true _ (c .if2 .taken)) (S .standing .fits .room))
 
 is-whole-requires : tie.Need-is-whole-requires
 is-whole-requires c κs =
     let e = roomed c in
-    let s = start (e .before .before .before .before) in
+    let s = start (e .before .before .before) in
     record {
       six = search needs;
       shape = shaped (s .args .t2) (s .good .1 .0 .0) (s .good .1 .0 .1 .0 .1) (s .good .1 .0 .1 .1);
-      room = e .before .has-room .ensures .yes (not-false _ (e .if3 .left)) .links;
-      few = omega arith;
+      room = e .before .has-room .ensures .yes (not-false _ (e .if2 .left)) .links;
+      few = omega (arith, s .good .0);
     }
 
-returns-4 : tie.Need-returns-4
-returns-4 c = tells-no (λ S. c .before .is-whole .ensures .no (not-true _ (c .if4 .taken)) (S .standing .whole))
+returns-3 : tie.Need-returns-3
+returns-3 c = tells-no (λ S. c .before .is-whole .ensures .no (not-true _ (c .if3 .taken)) (S .standing .whole))
 
 records-agree-requires : tie.Need-records-agree-requires
 records-agree-requires c κs =
     let e = roomed (c .before .before) in
-    let R = e .before .has-room .ensures .yes (not-false _ (e .if3 .left)) in
+    let R = e .before .has-room .ensures .yes (not-false _ (e .if2 .left)) in
     (R .deadlines, R .turns, R .links .marks)
 
-returns-5 : tie.Need-returns-5
-returns-5 c =
+returns-4 : tie.Need-returns-4
+returns-4 c =
     let w = c .before .before in
     let e = roomed (w .before) in
     tells-by (c .records-agree .ensures)
@@ -57,10 +54,10 @@ returns-5 c =
     judged-sound (record {
       fits = record {
         some = omega arith;
-        few = omega arith;
-        room = e .before .has-room .ensures .yes (not-false _ (e .if3 .left));
+        few = omega (arith, start (e .before .before .before) .good .0);
+        room = e .before .has-room .ensures .yes (not-false _ (e .if2 .left));
       };
-      whole = w .is-whole .ensures .yes (not-false _ (c .before .if4 .left));
+      whole = w .is-whole .ensures .yes (not-false _ (c .before .if3 .left));
       records = R;
     }))
     (λ S. sound-judged S .records)
@@ -70,10 +67,9 @@ is-sound-spec =
     tie.close
     (tie.spec
     returns
-    returns-2
     has-room-requires
-    returns-3
+    returns-2
     is-whole-requires
-    returns-4
+    returns-3
     records-agree-requires
-    returns-5)
+    returns-4)

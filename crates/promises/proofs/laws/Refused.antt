@@ -7,21 +7,22 @@ use Prim.Native.Nat.{ℕ, _<_}
 use native.Mathlib.Decide.{ℕ-discrete, decLt}
 use native.Mathlib.Omega.{arith}
 use Rattle.links.specs.Links.{at}
-use Rattle.links.specs.Lists.{Mem}
+use Rattle.links.specs.Lists.{Mem, nobody}
 use Rattle.stack.specs.Places.{expired, free}
 use Rattle.queue.specs.declared.Answer.{Answer}
 use Rattle.queue.specs.Told.{Told, told}
 use Rattle.queue.specs.Told as T
 use Rattle.records.specs.View.{View}
 use Rattle.records.specs.Records.{Names, TooFar, OtherBlock, Takes, numberIn, turnIn}
-use Rattle.records.specs.Words.{QueueWords, count, elapsed, markOf, view, Sound, PastKept}
+use Rattle.records.specs.Words.{QueueWords, count, elapsed, markOf, view, slices, Sound, PastKept}
+use Rattle.records.specs.Slices.{Room}
 use Rattle.records.proofs.laws.Words.{past-refl}
 use Rattle.queue.specs.Calls.{Refused, Answered, InsertOn}
 use Rattle.records.proofs.laws.Found.{key-names}
 use Rattle.records.proofs.laws.Inner.{mark-at, left-size, placed-size, freed-size}
 use Rattle.delay_queue.specs.declared.Call.{Call}
 use Rattle.delay_queue.specs.declared.Call.the-variants as C
-use Rattle.delay_queue.specs.Claims.{FormatClaim, Judging, ResetClaim, PollClaim, CallClaim}
+use Rattle.delay_queue.specs.Claims.{InRange, FormatClaim, Judging, ResetClaim, PollClaim, CallClaim}
 use Rattle.records.proofs.laws.Cases.{by-deadline}
 use Rattle.promises.proofs.laws.Decided.{sound-dec, fits-dec, range-dec}
 use Rattle.promises.proofs.laws.Quiet.{expired-shown}
@@ -210,6 +211,24 @@ two C.Clear s e f = inl (refl, f)
 pub unsound-refused : (c : Call) (s : QueueWords) (a : Answer) (t : QueueWords) → CallClaim c s a t → isFormat c ≡ false → (Sound s → ⊥)
     → (told a ≡ T.no 2) × (t ≡ s)
 unsound-refused c s a t A e f = refused-exactly c s a t A 2 .0 (two c s e f)
+
+-- 02 [5]: "Raise N to 65,535 .. Refusal 1 moves to the new limit": both sides of it
+pub one-at-the-limit : (s : QueueWords) (turn : ℕ) → RefusedBy (C.Format 65536 turn) s 1
+    × (Room 65535 (slices s) → RefusedBy (C.Format 65535 turn) s 1 → ⊥)
+one-at-the-limit s turn = (
+  inl (refl, λ F. omega (arith, F .few)),
+  λ R x. ⊎-elim (λ y. y .1 (record { some = omega arith; few = omega arith; room = R })) (λ y. passed-eight (y .1)) x,
+)
+  where
+    passed-eight : First (line 8 (InRange turn → ⊥) end) 1 → ⊥
+    passed-eight x = ⊎-elim (λ y. omega (arith, y .0)) (λ y. y .1) x
+
+-- 02 [5]: "record number 65,535 means nobody": a key with it is refused with 6 by every reset and remove, whatever N and its turn
+pub nobody-refused : {s : QueueWords} → Sound s → (key : ℕ) → numberIn key ≡ nobody
+    → RefusedBy (C.Remove key) s 6 × ((when : ℕ) → RefusedBy (C.Reset key when) s 6)
+nobody-refused {s} S key e =
+    let x : NoSuchKey (view s) key = beyond (omega (arith, S .standing .fits .few, e)) in
+    (inr (λ f. f S, inl (refl, x)), λ when. inr (λ f. f S, inl (refl, x)))
 
 -- "Number 7 is judged even with an expired timer waiting."
 pub seven-though-waiting : {s t : QueueWords} {a : Answer} {now : ℕ} → PollClaim s now a t → Sound s → {r : ℕ} {l : List ℕ}
