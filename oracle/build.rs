@@ -1,9 +1,12 @@
 //! Brings the original's text to the compiler. Nothing of it is retyped:
-//!  * src/tokio_util is copied byte for byte, with two lines added at the end of delay_queue.rs
-//!    that let src/whole.rs see its private fields;
+//!  * entries join a list's tail, by the edits of tails.rs in delay_queue.rs: the one change;
+//!  * src/tokio_util is copied byte for byte otherwise, with two lines added at the end of
+//!    delay_queue.rs that let src/whole.rs see its private fields;
 //!  * for src/queue.rs, whole items of delay_queue.rs are cut out, each one slice of the file.
 //!
 //! The original's folder is $NGAWDRELO_RUST, or shared/docs/src beside the repository.
+mod tails;
+
 use std::env;
 use std::fs;
 use std::path::{Path, PathBuf};
@@ -51,7 +54,10 @@ fn main() {
     for file in ["mod.rs", "wheel/mod.rs", "wheel/level.rs", "wheel/stack.rs"] {
         fs::write(copy.join(file), read(&original.join(file))).unwrap();
     }
-    let queue = read(&original.join("delay_queue.rs"));
+    let queue = match tails::edited(&read(&original.join("delay_queue.rs"))) {
+        Ok(text) => text,
+        Err(line) => return println!("cargo::error={line}"),
+    };
     let view = format!(
         "\n#[path = {:?}]\npub mod whole;\n",
         here.join("src/whole.rs")

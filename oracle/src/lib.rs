@@ -1,4 +1,5 @@
-//! The timer wheel and delay queue of wasmtimer 0.4.3, its text unchanged, behind the replay bench.
+//! The timer wheel and delay queue of wasmtimer 0.4.3, its text unchanged but for the edits of
+//! tails.rs, behind the replay bench.
 
 // The wheel's text is a module twice: watched, and inside the whole.
 #![allow(clippy::duplicate_mod)]

@@ -110,13 +110,14 @@ impl Queue {
 
     /// The expired stack, head first.
     pub fn expired(&self) -> Vec<usize> {
-        self.walk(self.expired.head)
+        self.walk(self.expired.head, self.expired.tail)
     }
 
     /// The wheel's lists, head first; slot s of level k is list 64 k + s.
     pub fn lists(&self) -> Vec<Vec<usize>> {
         let notes = self.notes.borrow();
-        notes.heads.iter().map(|&head| self.walk(head)).collect()
+        let ends = notes.heads.iter().zip(&notes.tails);
+        ends.map(|(&head, &tail)| self.walk(head, tail)).collect()
     }
 
     /// Tells each timer's list, number, value and deadline: the wheel's lists, then the expired stack
@@ -134,7 +135,7 @@ impl Queue {
         }
     }
 
-    fn walk(&self, head: Option<Key>) -> Vec<usize> {
+    fn walk(&self, head: Option<Key>, tail: Option<Key>) -> Vec<usize> {
         let mut list = vec![];
         let (mut before, mut at) = (None, head);
         while let Some(key) = at {
@@ -144,6 +145,7 @@ impl Queue {
             before = at;
             at = self.slab[key].next;
         }
+        assert_eq!(before, tail, "the tail must be the last");
         list
     }
 

@@ -26,6 +26,8 @@ struct Record {
     place: Place,
     /// The original's number for this timer.
     number: usize,
+    /// How many placings there were before its last one.
+    placed: u64,
 }
 
 /// A pending timer, as the original holds it.
@@ -49,6 +51,7 @@ pub struct Store {
     fresh: usize,
     /// The record of each number of the original.
     record_of: Vec<usize>,
+    placings: u64,
     original: Original,
     /// Only where every answer is checked.
     model: Option<Model>,
@@ -62,6 +65,7 @@ impl Store {
             deadline: 0,
             place: Place::Free,
             number: 0,
+            placed: 0,
         };
         Store {
             records: vec![free; records],
@@ -69,6 +73,7 @@ impl Store {
             freed: vec![],
             fresh: 0,
             record_of: vec![0; records],
+            placings: 0,
             original: Original::new(records),
             model: checked.then(|| Model::new(records)),
         }
@@ -304,6 +309,8 @@ impl Store {
         let elapsed = self.elapsed();
         let record = &mut self.records[record];
         record.deadline = when.max(elapsed);
+        record.placed = self.placings;
+        self.placings += 1;
         record.place = if when <= elapsed {
             Place::Expired
         } else {

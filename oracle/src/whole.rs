@@ -1,4 +1,4 @@
-//! The whole, unchanged `DelayQueue`, seen from inside: build.rs adds this file to delay_queue.rs
+//! The whole `DelayQueue`, seen from inside: build.rs adds this file to delay_queue.rs
 //! as a child module. Every call is the queue's own but the poll, whose now is given.
 use super::wheel::Stack;
 use super::{DelayQueue, Instant, Key};

@@ -19,28 +19,33 @@ fn processor_time() -> Duration {
 }
 
 /// What one run of a side took, in ns for each of its parts, and the sum of its answers.
-pub fn timed(parts: usize, run: impl FnOnce() -> u64) -> (f64, u64) {
+pub fn timed(parts: usize, run: impl FnOnce() -> u64) -> (f64, Option<u64>) {
     let start = processor_time();
     let sum = run();
     let time = processor_time() - start;
-    (time.as_nanos() as f64 / parts as f64, sum)
+    (time.as_nanos() as f64 / parts as f64, Some(sum))
 }
 
 /// The same of another program, by the clock on the wall.
-pub fn timed_outside(parts: usize, run: impl FnOnce() -> u64) -> (f64, u64) {
+pub fn timed_outside(parts: usize, run: impl FnOnce() -> u64) -> (f64, Option<u64>) {
     let start = Instant::now();
     let sum = run();
-    (start.elapsed().as_nanos() as f64 / parts as f64, sum)
+    (start.elapsed().as_nanos() as f64 / parts as f64, Some(sum))
 }
 
-pub type Side<'a> = (&'static str, Box<dyn FnMut() -> (f64, u64) + 'a>);
+/// The same of a side whose answers are not held against the others'.
+pub fn timed_alone(parts: usize, run: impl FnOnce() -> u64) -> (f64, Option<u64>) {
+    (timed(parts, run).0, None)
+}
+
+pub type Side<'a> = (&'static str, Box<dyn FnMut() -> (f64, Option<u64>) + 'a>);
 
 pub struct Times {
     pub least: f64,
     pub median: f64,
 }
 
-/// Every side once a round, one after the other. All must answer the same: the sum comes back too.
+/// Every side once a round, one after the other. Those that have a sum must answer the same: it comes back too.
 pub fn in_turns<const N: usize>(
     what: &str,
     rounds: usize,
@@ -52,7 +57,7 @@ pub fn in_turns<const N: usize>(
         let mut sums = vec![];
         for (side, times) in sides.iter_mut().zip(&mut times) {
             let (time, sum) = side.1();
-            sums.push(sum);
+            sums.extend(sum);
             if round >= WARM {
                 times.push(time);
             }
@@ -61,7 +66,7 @@ pub fn in_turns<const N: usize>(
             let names = sides.each_ref().map(|side| side.0);
             panic!("{what}: the answers differ: {names:?} {sums:x?}");
         }
-        all = sums[0];
+        all = sums.first().copied().unwrap_or(all);
     }
     let times = times.map(|mut times| {
         times.sort_by(f64::total_cmp);

@@ -5,7 +5,7 @@ mod ours;
 mod prototype;
 mod replay;
 
-use clock::{in_turns, timed, Side, Times};
+use clock::{in_turns, timed, timed_alone, Side, Times};
 use ours::Store;
 use speed::original;
 use speed::script::{Mix, COMMANDS, INSERT, MIXES, SIZES};
@@ -76,7 +76,7 @@ fn calls(rounds: usize, mixes: &[Mix]) {
             "C",
             Box::new(move || {
                 prototype::format(n);
-                timed(script.len(), || prototype::inner(script))
+                timed_alone(script.len(), || prototype::inner(script))
             }),
         );
         let ([ours, rust, c], sum) = in_turns(mix.name, rounds, [ours, rust, c]);
@@ -174,7 +174,7 @@ fn judged(rounds: usize, mixes: &[Mix]) {
             "C",
             Box::new(move || {
                 prototype::judged_format(n);
-                timed(script.len(), || prototype::judged(script))
+                timed_alone(script.len(), || prototype::judged(script))
             }),
         );
         let ([ours, c], _) = in_turns(mix.name, rounds, [ours, c]);

@@ -1,5 +1,6 @@
 //! The original's slab, stacks and wheel with nothing around them but the steps of `DelayQueue` that touch these three. Times are
-//! milliseconds from the start. The oracle holds the same steps against the whole original.
+//! milliseconds from the start. The oracle holds the same steps against the whole original. Entries join a list's tail
+//! (oracle/tails.rs).
 
 // Whole items of delay_queue.rs, and its methods insert_idx and remove_key.
 include!(concat!(env!("OUT_DIR"), "/delay_queue_parts.rs"));

@@ -1,4 +1,5 @@
-//! The C prototype, through calls.c and judge.c. It has one store, its own.
+//! The C prototype, through calls.c and judge.c. It has one store, its own. New and drained entries come to a list's head there, so that its
+//! answers are not held against ours.
 use speed::script::Command;
 
 extern "C" {

@@ -311,7 +311,7 @@ pub fn begun(n: u64, x: u64) -> Image {
     image
 }
 
-// Nine records. 0 is retired; 1 is at level 0, 3 and then 2 in one slot of level 1, 4 at level 2, 5 at level 5; 6 is on the expired
+// Nine records. 0 is retired; 1 is at level 0, 2 and then 3 in one slot of level 1, 4 at level 2, 5 at level 5; 6 is on the expired
 // stack; 7 and then 8 are free.
 pub fn store(x: u64) -> Image {
     let mut image = begun(9, x);
@@ -331,7 +331,7 @@ pub fn polled(x: u64) -> Image {
     image
 }
 
-// Three timers at 70 in one slot of level 1: 2, then 1, then 0.
+// Three timers at 70 in one slot of level 1: 0, then 1, then 2.
 fn three() -> Image {
     let mut image = blank(77);
     image[REST] = 0;
@@ -345,8 +345,8 @@ fn three() -> Image {
 // The same with the middle one cut out of its list, as the first half of a reset leaves it: in no list, at turn 1.
 pub fn cut() -> Image {
     let mut image = three();
-    image[NEXTS + 2] = 0;
-    image[PREVS] = 2;
+    image[NEXTS] = 2;
+    image[PREVS + 2] = 0;
     image[NEXTS + 1] = wide(links::NOBODY);
     image[PREVS + 1] = wide(links::NOBODY);
     image[MARKS + 1] = wide(links::NOBODY);

@@ -49,10 +49,10 @@ fn deadlines(image: &Image) {
 
 fn nexts(image: &Image) {
     // a slot's list ends too early, goes round, goes on in another slot
-    show(image, NEXTS + 3, NOBODY);
-    show(image, NEXTS + 3, 3);
-    show(image, NEXTS + 2, 3);
-    show(image, NEXTS + 2, 1);
+    show(image, NEXTS + 2, NOBODY);
+    show(image, NEXTS + 2, 2);
+    show(image, NEXTS + 3, 2);
+    show(image, NEXTS + 3, 1);
     // the expired stack goes on in the free list, the free list past the last record
     show(image, NEXTS + 6, 7);
     show(image, NEXTS + 8, 9);
@@ -63,10 +63,15 @@ fn nexts(image: &Image) {
 
 fn prevs(image: &Image) {
     // a link back that is missing, or leads to another slot, or round
+    show(image, PREVS + 3, NOBODY);
+    show(image, PREVS + 3, 4);
+    show(image, PREVS + 3, 3);
+    // the tail that a head names: none, itself and not the last, another list's; of a list of one, and of the free list
     show(image, PREVS + 2, NOBODY);
+    show(image, PREVS + 2, 2);
     show(image, PREVS + 2, 4);
-    show(image, PREVS + 3, 2);
-    show(image, PREVS + 7, 8);
+    show(image, PREVS + 1, NOBODY);
+    show(image, PREVS + 7, 7);
     // past the last record; of a retired one
     show(image, PREVS + 8, 9);
     show(image, PREVS, 5);
@@ -137,7 +142,7 @@ fn rows(image: &Image) {
     show(image, OCCUPIED + 5, 0);
     // cleared; the second of its list; past the last record; another slot's
     show(image, HEADS + 67, NOBODY);
-    show(image, HEADS + 67, 2);
+    show(image, HEADS + 67, 3);
     show(image, HEADS + 67, 9);
     show(image, HEADS + 321, 4);
     // an empty slot gets a pending one, a free one, a retired one

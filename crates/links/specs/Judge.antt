@@ -1,12 +1,12 @@
--- The judge of a family: each list is walked with the room that the lists before it left, and what is left in the end must be the number of the
--- loose records.
+-- The judge of a family: each list is walked with the room that the lists before it left, from its tail round to its tail, and what is left in the
+-- end must be the number of the loose records.
 use mathlib.Core.Bool.{Bool, false, cond, _&&_}
 use Prim.Native.Nat.{ℕ, zero, suc}
 use lib.Dec.{eqb, ltb}
 use Rattle.links.specs.declared.Walk.{Walk}
 use Rattle.links.specs.declared.Walk.the-variants.{Wrong, Left}
 use Rattle.links.specs.Lists.{nobody}
-use Rattle.links.specs.Family.{Net}
+use Rattle.links.specs.Family.{Net, tailOr}
 use Rattle.links.specs.Count.{cnt}
 use Rattle.links.specs.Links.{Links, at}
 
@@ -16,10 +16,20 @@ use Rattle.links.specs.Links.{Links, at}
 abbrev pub good : (ℕ → ℕ) → (ℕ → ℕ) → (ℕ → ℕ) → ℕ → ℕ → ℕ → ℕ → Bool
 good nx pv mk n p prev h = ltb h n && (eqb (mk h) p && eqb (pv h) prev)
 
--- the list of p from h on, after prev: wrong, also where it has more members than there is room, or what they leave of the room
-unfoldable pub scan : (ℕ → ℕ) → (ℕ → ℕ) → (ℕ → ℕ) → ℕ → ℕ → ℕ → ℕ → ℕ → Walk
-scan nx pv mk n p zero prev h = cond (eqb h nobody) (Left 0) Wrong
-scan nx pv mk n p (suc k) prev h = cond (eqb h nobody) (Left (suc k)) (cond (good nx pv mk n p prev h) (scan nx pv mk n p k h (nx h)) Wrong)
+-- the walk is at its end, after prev: that is the tail, or all is wrong
+abbrev pub ends : ℕ → ℕ → ℕ → Walk
+ends tail prev left = cond (eqb prev tail) (Left left) Wrong
+
+-- the list of p from h on, after prev: wrong, also where it has more members than there is room or does not end with the tail, or what they leave
+-- of the room
+unfoldable pub scan : (ℕ → ℕ) → (ℕ → ℕ) → (ℕ → ℕ) → ℕ → ℕ → ℕ → ℕ → ℕ → ℕ → Walk
+scan nx pv mk n tail p zero prev h = cond (eqb h nobody) (ends tail prev 0) Wrong
+scan nx pv mk n tail p (suc k) prev h =
+    cond (eqb h nobody) (ends tail prev (suc k)) (cond (good nx pv mk n p prev h) (scan nx pv mk n tail p k h (nx h)) Wrong)
+
+-- the whole list of p, of the head h: it begins after its tail
+abbrev pub scanList : (ℕ → ℕ) → (ℕ → ℕ) → (ℕ → ℕ) → ℕ → ℕ → ℕ → ℕ → Walk
+scanList nx pv mk n p left h = scan nx pv mk n (tailOr nobody pv h) p left (tailOr nobody pv h) h
 
 -- ---- every list
 
@@ -30,7 +40,7 @@ andThen (Left m) f = f m
 -- the k places from p on
 unfoldable pub scanAll : Net → ℕ → ℕ → ℕ → ℕ → Walk
 scanAll s n zero p left = Left left
-scanAll s n (suc k) p left = andThen (scan (s .nx) (s .pv) (s .mk) n p left nobody (s .hd p)) (λ m. scanAll s n k (suc p) m)
+scanAll s n (suc k) p left = andThen (scanList (s .nx) (s .pv) (s .mk) n p left (s .hd p)) (λ m. scanAll s n k (suc p) m)
 
 -- no mark and no link
 abbrev pub bare : ℕ → ℕ → ℕ → Bool
@@ -44,7 +54,7 @@ looseIn nx pv mk n = cnt (isLoose nx pv mk) n
 
 -- the same two of the links: the list of p from its head h on, and how many of n records are loose
 abbrev pub walkOf : Links → ℕ → ℕ → ℕ → ℕ → Walk
-walkOf s n p room h = scan (at (s .nexts)) (at (s .prevs)) (at (s .marks)) n p room 65535 h
+walkOf s n p room h = scanList (at (s .nexts)) (at (s .prevs)) (at (s .marks)) n p room h
 
 abbrev pub looseOf : Links → ℕ → ℕ
 looseOf s n = looseIn (at (s .nexts)) (at (s .prevs)) (at (s .marks)) n

@@ -6,7 +6,7 @@ use Prim.Native.Nat.{ℕ, _≤_, _<_}
 use lib.ListN.{length, getD, set}
 use lib.Dec.{eqb}
 use Rattle.links.specs.Lists.{nobody}
-use Rattle.links.specs.Family.{Net}
+use Rattle.links.specs.Family.{Net, tailOr, headLeft, linkBefore, linkAfter}
 use Rattle.contracts.specs.Lent.{Lent, Turned, old, new}
 
 pub record Links : Type 0 where
@@ -39,20 +39,32 @@ net hd s = record { hd = hd; nx = at (s .nexts); pv = at (s .prevs); mk = at (s 
 abbrev pub setN : List ℕ → ℕ → ℕ → List ℕ
 setN l k v = cond (eqb k nobody) l (set l k v)
 
+-- the back links, when i comes between the tail and h, the head: alone it is its own tail
+unfoldable pub between : List ℕ → ℕ → ℕ → List ℕ
+between ps i h = setN (set ps i (tailOr i (at ps) h)) h i
+
 -- i comes in front of h, with the mark p
 unfoldable pub joined : Links → ℕ → ℕ → ℕ → Links
-joined s p i h = links (set (s .nexts) i h) (setN (set (s .prevs) i nobody) h i) (set (s .marks) i p)
+joined s p i h = links (set (s .nexts) i h) (between (s .prevs) i h) (set (s .marks) i p)
 
--- i leaves its neighbours, who are joined, and is loose
-unfoldable pub cutOut : Links → ℕ → Links
-cutOut s i =
-    links (set (setN (s .nexts) (at (s .prevs) i) (at (s .nexts) i)) i nobody)
-    (set (setN (s .prevs) (at (s .nexts) i) (at (s .prevs) i)) i nobody)
+-- i, which has no link, comes after the tail of the list whose head is h, with the mark p
+unfoldable pub added : Links → ℕ → ℕ → ℕ → Links
+added s p i h = links (setN (s .nexts) (tailOr nobody (at (s .prevs)) h) i) (between (s .prevs) i h) (set (s .marks) i p)
+
+-- the head, h before, of the list that i came to the tail of
+unfoldable pub headWith : ℕ → ℕ → ℕ
+headWith i h = cond (eqb h nobody) i h
+
+-- i leaves its neighbours in the list of the head h, who are joined, and is loose
+unfoldable pub cutOut : Links → ℕ → ℕ → Links
+cutOut s i h =
+    links (set (setN (s .nexts) (linkBefore (at (s .prevs)) i h) (at (s .nexts) i)) i nobody)
+    (set (setN (s .prevs) (linkAfter (at (s .nexts)) i h) (at (s .prevs) i)) i nobody)
     (set (s .marks) i nobody)
 
 -- the head, h before, of the list that i leaves
 unfoldable pub headAfter : Links → ℕ → ℕ → ℕ
-headAfter s i h = cond (eqb i h) (at (s .nexts) i) h
+headAfter s i h = headLeft (at (s .nexts)) i h
 
 -- n records are there
 pub record Room (n : ℕ) (s : Links) : Type 0 where
@@ -64,15 +76,17 @@ pub record Room (n : ℕ) (s : Links) : Type 0 where
 abbrev pub Inside : ℕ → List ℕ → Type 0
 Inside k l = k ≢ nobody → k < length l
 
+-- for both ends
 pub record CanJoin (s : Links) (i h : ℕ) : Type 0 where
   pub next : i < length (s .nexts)
   pub prev : i < length (s .prevs)
   pub mark : i < length (s .marks)
   pub first : Inside h (s .prevs)
+  pub last : Inside (tailOr nobody (at (s .prevs)) h) (s .nexts)
 
-pub record CanCut (s : Links) (i : ℕ) : Type 0 where
+pub record CanCut (s : Links) (i h : ℕ) : Type 0 where
   pub next : i < length (s .nexts)
   pub prev : i < length (s .prevs)
   pub mark : i < length (s .marks)
-  pub after : Inside (at (s .nexts) i) (s .prevs)
-  pub before : Inside (at (s .prevs) i) (s .nexts)
+  pub before : Inside (linkBefore (at (s .prevs)) i h) (s .nexts)
+  pub after : Inside (linkAfter (at (s .nexts)) i h) (s .prevs)

@@ -20,6 +20,10 @@ abbrev pub firstD : ℕ → List ℕ → ℕ
 firstD e [] = e
 firstD e (x ∷ l) = x
 
+abbrev pub lastD : ℕ → List ℕ → ℕ
+lastD p [] = p
+lastD p (x ∷ l) = lastD x l
+
 -- the list without the first i in it
 abbrev pub without : ℕ → List ℕ → List ℕ
 without i [] = []

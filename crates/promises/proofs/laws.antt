@@ -3,6 +3,8 @@ pub mod Cleared
 pub mod Clock
 pub mod Decided
 pub mod Does
+pub mod First
+pub mod FirstShown
 pub mod Keys
 pub mod KeysGone
 pub mod KeysOne
@@ -19,6 +21,8 @@ pub mod Order
 pub mod Outs
 pub mod Past
 pub mod Polling
+pub mod Precedes
+pub mod Queued
 pub mod Quiet
 pub mod Refused
 pub mod Runs

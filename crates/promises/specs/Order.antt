@@ -1,11 +1,11 @@
 -- Words of the promise on order: what a poll does to the lists, among equal deadlines.
 use mathlib.Core.Path.{_≡_}
 use mathlib.Core.Bool.{Bool, cond}
-use mathlib.Core.List.{List, [], _∷_, reverse}
-use Prim.Native.Nat.{ℕ, zero, suc, _<_}
+use mathlib.Core.List.{List, [], _∷_}
+use Prim.Native.Nat.{ℕ, _<_}
 use lib.Dec.{eqb}
 use Rattle.times.specs.Times.{slotOf}
-use Rattle.stack.specs.Places.{slotPlace, slots, expired, levelAt}
+use Rattle.stack.specs.Places.{slotPlace, slots, expired}
 use Rattle.queue.specs.Told.{Told, Hands}
 use Rattle.records.specs.View.{View}
 use Rattle.records.specs.Records.{keyOf, Names}
@@ -21,14 +21,9 @@ keep f (x ∷ l) = cond (f x) (x ∷ keep f l) (keep f l)
 abbrev pub ofDeadline : (ℕ → ℕ) → ℕ → List ℕ → List ℕ
 ofDeadline d w l = keep (λ x. eqb (d x) w) l
 
--- "moved to the head of its slot one level down": from a slot of level k + 1, x goes to the place r
+-- "moved" to "its slot one level down": from a slot of level k + 1, x goes to the place r
 abbrev pub goesTo : (ℕ → ℕ) → ℕ → ℕ → ℕ → Bool
 goesTo d k r x = eqb (slotPlace k (slotOf (d x) k)) r
-
--- reversed k times: a drain reverses those that stay together
-abbrev pub turned : ℕ → List ℕ → List ℕ
-turned zero l = l
-turned (suc k) l = turned k (reverse l)
 
 -- ---- a poll of the queue
 
@@ -39,6 +34,6 @@ pub record PollOrder (v : View) (x : Told) (u : View) : Type 0 where
       → (Hands x (keyOf v r) (v .value r) (v .deadline r) 0 0) × (u .lists expired ≡ l) × (u .elapsed ≡ v .elapsed)
   -- "At level 0 the head is handed out": what lay at level 0 was the head of its slot
   pub head : (k w d m n r p : ℕ) → Hands x k w d m n → Names v k r p → p < 64 → (l : List ℕ) × (v .lists p ≡ r ∷ l) × (u .lists p ≡ l)
-  -- what lay in any slot was the first of its equals there, their list reversed once for each level; the others lie at level 0 now, in that order
+  -- what lay in any slot was the first of its equals there, and the others lie at level 0 now, in their order
   pub equals : (k w d m n r p : ℕ) → Hands x k w d m n → Names v k r p → p < slots
-      → (q : ℕ) × (q < 64) × (turned (levelAt p) (ofDeadline (v .deadline) d (v .lists p)) ≡ r ∷ ofDeadline (v .deadline) d (u .lists q))
+      → (q : ℕ) × (q < 64) × (ofDeadline (v .deadline) d (v .lists p) ≡ r ∷ ofDeadline (v .deadline) d (u .lists q))

@@ -70,11 +70,12 @@ taken l v = withLists (change (v .lists) free l) v
 unfoldable pub left : ℕ → ℕ → View → View
 left p r v = withLists (change (v .lists) p (without r (v .lists p))) v
 
--- "Insert and reset first raise the deadline to elapsed if it is smaller. A deadline equal to elapsed goes on the expired stack, a later one at the
--- head of its slot."
+-- "Insert and reset first raise the deadline to elapsed if it is smaller. A deadline equal to elapsed goes on the expired stack, a later one"
+-- to its slot
 unfoldable pub target : ℕ → ℕ → ℕ
 target e w = cond (eqb w e) expired (placeFor e w)
 
+-- "New entries .. now join a list's tail": `put`
 unfoldable pub placed : ℕ → ℕ → View → View
 placed r when v =
     let w = max when (v .elapsed) in

@@ -12,10 +12,10 @@ unfoldable pub over : ℕ → (ℕ → ℕ) → List ℕ → List ℕ
 over zero f l = l
 over (suc k) f l = set (over k f l) k (f k)
 
--- the one before i
-abbrev pub before : ℕ → ℕ
-before zero = nobody
-before (suc i) = i
+-- the one before i, of n: the head's back link keeps the tail
+abbrev pub before : ℕ → ℕ → ℕ
+before n zero = n - 1
+before n (suc i) = i
 
 -- no head is anybody
 abbrev pub noRow : List ℕ
@@ -26,7 +26,7 @@ noRows = replicate 6 noRow
 
 unfoldable pub formatted : ℕ → List ℕ → List ℕ → List ℕ → StackWords
 formatted n ns ps ms =
-    words (n ∷ 65535 ∷ 0 ∷ []) noRows (set (over n (λ i. i + 1) ns) (n - 1) nobody) (over n before ps) (over n (λ i. free) ms)
+    words (n ∷ 65535 ∷ 0 ∷ []) noRows (set (over n (λ i. i + 1) ns) (n - 1) nobody) (over n (before n) ps) (over n (λ i. free) ms)
 
 -- of the links that `format` is lent
 abbrev pub formattedOf : ℕ → Turned (List ℕ) → Turned (List ℕ) → Turned (List ℕ) → StackWords

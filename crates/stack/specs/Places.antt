@@ -1,6 +1,8 @@
 -- The places, as numbers: "every record is in exactly one place (free, retired, expired stack or one slot)". Retired is no list and has no number.
-use mathlib.Core.List.{List, _∷_}
+use mathlib.Core.Bool.{cond}
+use mathlib.Core.List.{List, [], _∷_, _++_}
 use Prim.Native.Nat.{ℕ, _+_, _*_, _/_, _%_}
+use lib.Dec.{eqb}
 use Rattle.links.specs.Lists.{nobody}
 
 -- slot s of level k
@@ -34,6 +36,7 @@ topLevel = 5
 abbrev pub mostHeights : ℕ
 mostHeights = topLevel * nobody
 
--- where i comes into the list l of the place p: the only word that says it is the head
+-- where i comes into the list l of the place p, the only word that says it: "New entries and drained entries now join a list's tail", and the free
+-- list alone has "freed ones last freed first"
 unfoldable pub put : ℕ → ℕ → List ℕ → List ℕ
-put p i l = i ∷ l
+put p i l = cond (eqb p free) (i ∷ l) (l ++ i ∷ [])

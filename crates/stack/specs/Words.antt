@@ -7,9 +7,9 @@ use Prim.Native.Nat.{ℕ, _<_}
 use lib.Dec.{eqb}
 use Rattle.links.specs.Lists.{nobody}
 use Rattle.contracts.specs.Lent.{Lent, Turned, old, new}
-use Rattle.links.specs.Links.{Links, links, at, joined, cutOut, headAfter, CanJoin, CanCut}
+use Rattle.links.specs.Links.{Links, links, at, joined, added, headWith, cutOut, headAfter, CanJoin, CanCut}
 use Rattle.stack.specs.declared.Stacks.{Stacks}
-use Rattle.stack.specs.Places.{slotPlace, places}
+use Rattle.stack.specs.Places.{slotPlace, free, places}
 use Rattle.stack.specs.Heads.{headOf, rowsWith, stacksWith, slotHead}
 
 pub record StackWords : Type 0 where
@@ -62,33 +62,40 @@ markOf t i = at (t .links .marks) i
 abbrev pub withHead : StackWords → ℕ → ℕ → Links → StackWords
 withHead t p v ls = stackWords (stacksWith (t .stacks) p v) (rowsWith (t .heads) p v) ls
 
--- i comes to the head of the list of p
+-- i comes to the head of the list of p, or to its tail
+abbrev pub toHead : StackWords → ℕ → ℕ → StackWords
+toHead t p i = withHead t p i (joined (t .links) p i (headAt t p))
+
+abbrev pub toTail : StackWords → ℕ → ℕ → StackWords
+toTail t p i = withHead t p (headWith i (headAt t p)) (added (t .links) p i (headAt t p))
+
+-- i comes into the list of p: at the head of the free list, at the tail of every other
 unfoldable pub push : StackWords → ℕ → ℕ → StackWords
-push t p i = withHead t p i (joined (t .links) p i (headAt t p))
+push t p i = cond (eqb p free) (toHead t p i) (toTail t p i)
 
 -- i leaves the list of its mark
 unfoldable pub remove : StackWords → ℕ → StackWords
-remove t i = withHead t (markOf t i) (headAfter (t .links) i (headAt t (markOf t i))) (cutOut (t .links) i)
+remove t i = withHead t (markOf t i) (headAfter (t .links) i (headAt t (markOf t i))) (cutOut (t .links) i (headAt t (markOf t i)))
 
 -- the head of the list of p leaves it, if there is one
 unfoldable pub pop : StackWords → ℕ → StackWords
 pop t p = cond (eqb (headAt t p) nobody) t (remove t (headAt t p))
 
--- p is a place, and i can come to its head
+-- p is a place, and i can come into its list
 abbrev pub CanPush : StackWords → ℕ → ℕ → Type 0
 CanPush t p i = (p < places) × CanJoin (t .links) i (headAt t p)
 
 -- i has the mark of a place, and can leave its neighbours
 abbrev pub CanRemove : StackWords → ℕ → Type 0
-CanRemove t i = (markOf t i < places) × CanCut (t .links) i
+CanRemove t i = (markOf t i < places) × CanCut (t .links) i (headAt t (markOf t i))
 
 -- p is a place, and its head can leave it
 pub record CanPop (t : StackWords) (p : ℕ) : Type 0 where
   pub place : p < places
   pub marked : headAt t p ≢ nobody → markOf t (headAt t p) < places
-  pub linked : headAt t p ≢ nobody → CanCut (t .links) (headAt t p)
+  pub linked : headAt t p ≢ nobody → CanCut (t .links) (headAt t p) (headAt t (markOf t (headAt t p)))
 
--- s is a slot of level k, and i can come to its head
+-- s is a slot of level k, and i can come into its list
 pub record CanPushSlot (hh : List (List ℕ)) (ls : Links) (k s i : ℕ) : Type 0 where
   pub level : k < 6
   pub slot : s < 64
@@ -99,4 +106,4 @@ pub record CanPopSlot (hh : List (List ℕ)) (ls : Links) (k s : ℕ) : Type 0 w
   pub level : k < 6
   pub slot : s < 64
   pub marked : slotHead hh k s ≢ nobody → at (ls .marks) (slotHead hh k s) ≡ slotPlace k s
-  pub linked : slotHead hh k s ≢ nobody → CanCut ls (slotHead hh k s)
+  pub linked : slotHead hh k s ≢ nobody → CanCut ls (slotHead hh k s) (slotHead hh k s)

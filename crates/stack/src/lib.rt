@@ -99,7 +99,7 @@ fn set_head(tops: &mut [u16; 3], heads: &mut [[u16; 64]; 6], place: u16, item: u
     *tops = [tops[0], tops[1], item];
 }
 
-// The loose record `item` comes into the list of the place.
+// The loose record `item` comes into the list of the place: to the head of the free list, to the tail of every other.
 pub fn push(
     tops: &mut [u16; 3],
     heads: &mut [[u16; 64]; 6],
@@ -113,8 +113,13 @@ pub fn push(
     ensures { λ _. ⌜ after tops heads nexts prevs marks ≡ push (before tops heads nexts prevs marks) place item ⌝ }
 {
     let head = head_of(tops, heads, place);
-    links::join(nexts, prevs, marks, place, item, head);
-    set_head(tops, heads, place, item);
+    if place == FREE {
+        links::join(nexts, prevs, marks, place, item, head);
+        set_head(tops, heads, place, item);
+        return;
+    }
+    let first = links::add(nexts, prevs, marks, place, item, head);
+    set_head(tops, heads, place, first);
 }
 
 // The record `item` leaves its list, wherever it stands there, and is loose.
@@ -170,8 +175,8 @@ pub fn push_slot(
     ensures { λ _. ⌜ Slotwise heads nexts prevs marks (λ t t′. t′ ≡ push t (slotPlace level slot) item) ⌝ }
 {
     let head = heads[level][slot];
-    links::join(nexts, prevs, marks, slot_place(level, slot), item, head);
-    heads[level][slot] = item;
+    let first = links::add(nexts, prevs, marks, slot_place(level, slot), item, head);
+    heads[level][slot] = first;
 }
 
 pub fn pop_slot(
@@ -285,7 +290,7 @@ pub fn format(
 {
     *tops = [n, links::NOBODY, 0];
     *heads = [[links::NOBODY; 64]; 6];
-    let mut before = links::NOBODY;
+    let mut before = n - 1;
     let mut i = 0u16;
     while i < n {
         let k = i as usize;

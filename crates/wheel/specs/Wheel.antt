@@ -52,7 +52,8 @@ EmptyWheel L = (q : ℕ) → q < slots → L q ≡ []
 unfoldable pub arrive : ℕ → ℕ → ℕ → Lists → Lists
 arrive k w x L = let q = slotPlace k (slotOf w k) in change L q (put q x (L q))
 
--- "the slot is drained: each entry, from the head, is moved to the head of its slot one level down (one move each)": p is a slot of level k + 1
+-- "the slot is drained: each entry, from the head, is moved" to "its slot one level down (one move each)", and "drained entries now join a list's
+-- tail": p is a slot of level k + 1
 pub data Drains (d : ℕ → ℕ) (k p : ℕ) : Lists → ℕ → Lists → Type 0 where
   drained : {L : Lists} → L p ≡ [] → Drains d k p L 0 L
   moved : {L M : Lists} {m x : ℕ} {l : List ℕ} → L p ≡ x ∷ l → Drains d k p (arrive k (d x) x (change L p l)) m M → Drains d k p L (suc m) M

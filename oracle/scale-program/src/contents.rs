@@ -76,7 +76,9 @@ fn read(ours: &ours::Store, into: &mut Vec<Entry>) -> Result<(), String> {
 
 fn walk(ours: &ours::Store, place: usize, head: u64, into: &mut Vec<Entry>) -> Result<(), String> {
     let most = ours.values.len().min(ours.state[7] as usize);
-    let (mut before, mut at) = (NOBODY, head);
+    // The head's back link is the tail.
+    let tail = ours.prevs.get(head as usize).map_or(NOBODY, |&tail| tail.into());
+    let (mut before, mut at) = (tail, head);
     while at != NOBODY {
         let record = at as usize;
         if record >= most || into.len() == most {
@@ -96,6 +98,9 @@ fn walk(ours: &ours::Store, place: usize, head: u64, into: &mut Vec<Entry>) -> R
             deadline: ours.deadlines[record],
         });
         (before, at) = (at, ours.nexts[record].into());
+    }
+    if before != tail {
+        return Err(format!("the tail of place {place}"));
     }
     Ok(())
 }

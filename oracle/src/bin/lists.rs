@@ -47,7 +47,7 @@ fn worked(cases: &Path) -> Result<Script, String> {
 /// Hand-written cases, 40 seeds of 400 lines, then 4 of 4,000 that fill stores of 1,024 records.
 fn answers(cases: &Path) -> Result<Script, String> {
     let mut script = Script::new(false);
-    for case in ["lines", "mornings", "wake", "traps"] {
+    for case in ["lines", "mornings", "wake", "traps", "order"] {
         add_case(cases, case, &mut script)?;
     }
     for seed in 1..=40 {

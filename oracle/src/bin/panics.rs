@@ -1,4 +1,4 @@
-//! panics: what the whole, unchanged `DelayQueue` does where the bench refuses, and a few things
+//! panics: what the whole `DelayQueue` does where the bench refuses, and a few things
 //! that are its own. Each case has a queue to itself; a panic is caught and shown.
 use oracle::whole::Whole;
 use std::fmt::Debug;

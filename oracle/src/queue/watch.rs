@@ -1,5 +1,5 @@
 //! A stack that hands every call on to the original's `Stack` and notes what happened. The wheel
-//! keeps its slots to itself; this is how their heads, moves and drains are seen.
+//! keeps its slots to itself; this is how their heads, tails, moves and drains are seen.
 use super::{wheel, Key, SlabStorage, Stack, Wheel};
 use crate::rules::{SLOTS, WIDTHS};
 use std::cell::RefCell;
@@ -7,8 +7,9 @@ use std::rc::Rc;
 
 #[derive(Debug, Default)]
 pub struct Notes {
-    /// The head of each list as the original's stack holds it now.
+    /// Head and tail of each list as the original's stack holds them now.
     pub heads: Vec<Option<Key>>,
+    pub tails: Vec<Option<Key>>,
     pub counts: Counts,
 }
 
@@ -47,6 +48,7 @@ impl Default for Watch {
         let notes = MAKING.with_borrow(Rc::clone);
         let list = notes.borrow().heads.len();
         notes.borrow_mut().heads.push(None);
+        notes.borrow_mut().tails.push(None);
         Watch {
             list,
             stack: Stack::default(),
@@ -59,6 +61,7 @@ impl Watch {
     fn note(&self, count: impl FnOnce(&mut Counts)) {
         let mut notes = self.notes.borrow_mut();
         notes.heads[self.list] = self.stack.head;
+        notes.tails[self.list] = self.stack.tail;
         count(&mut notes.counts);
     }
 }

@@ -34,6 +34,7 @@ impl Store {
         self.check_pops(before, out);
         self.check_clock(before, out);
         self.check_least(before, out);
+        self.check_first(before, out);
     }
 
     /// Moves and drains as the original made them. A pop that hands out may empty its slot of level
@@ -92,6 +93,20 @@ impl Store {
         }
     }
 
+    /// "Among equal deadlines on the wheel the one placed first comes out first, a reset counting as a
+    /// new placing; expired ones still precede the wheel" (02 [6]), and among them too.
+    fn check_first(&self, before: &Before, out: Option<usize>) {
+        let Some(out) = out else {
+            return;
+        };
+        let rank = |record: usize| {
+            let record = &self.records[record];
+            (record.place != Place::Expired, record.deadline, record.placed)
+        };
+        let first = before.heights.iter().map(|&(record, _)| rank(record)).min();
+        assert_eq!(Some(rank(out)), first, "first set, first out");
+    }
+
     /// The rules between calls, judged on what the original holds.
     pub fn check_sound(&self) {
         let Some(model) = &self.model else {
@@ -101,7 +116,7 @@ impl Store {
         self.check_places(&lists);
         self.check_slots(&lists);
         for (list, expected) in lists.iter().zip(&model.lists) {
-            assert!(list.iter().eq(expected.iter().rev()), "a list by the rules");
+            assert!(list.iter().eq(expected), "a list by the rules");
         }
         assert_eq!(self.elapsed(), model.elapsed);
         assert_eq!(self.next_wake(), model.wake());

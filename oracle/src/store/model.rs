@@ -1,14 +1,16 @@
 //! The steps of the wheel in the words of the rules, over plain lists: a second reading that the
 //! original's lists and answers are held against.
 use crate::rules::{level, slot, SLOTS, WIDTHS};
+use std::collections::VecDeque;
 
 /// The place of the expired stack, after the slots; slot s of level k is 64 k + s.
 pub const EXPIRED: usize = WIDTHS.len() * SLOTS;
 
 pub struct Model {
     pub elapsed: u64,
-    /// Records in each place, the head at the end.
-    pub lists: Vec<Vec<usize>>,
+    /// Records in each place, head first. "New entries and drained entries now join a list's tail, and
+    /// heads still leave first, on slots and expired stack alike" (02 [6]).
+    pub lists: Vec<VecDeque<usize>>,
     deadlines: Vec<u64>,
 }
 
@@ -23,7 +25,7 @@ impl Model {
     pub fn new(records: usize) -> Model {
         Model {
             elapsed: 0,
-            lists: vec![vec![]; EXPIRED + 1],
+            lists: vec![VecDeque::new(); EXPIRED + 1],
             deadlines: vec![0; records],
         }
     }
@@ -37,7 +39,7 @@ impl Model {
             let k = level(self.elapsed, deadline);
             SLOTS * k + slot(k, deadline)
         };
-        self.lists[place].push(record);
+        self.lists[place].push_back(record);
     }
 
     pub fn remove(&mut self, record: usize) {
@@ -48,7 +50,7 @@ impl Model {
 
     /// Answers the record handed out, moves and drains.
     pub fn poll(&mut self, now: u64) -> (Option<usize>, u64, u64) {
-        if let Some(record) = self.lists[EXPIRED].pop() {
+        if let Some(record) = self.lists[EXPIRED].pop_front() {
             return (Some(record), 0, 0);
         }
         let (mut moves, mut drains) = (0, 0);
@@ -58,7 +60,7 @@ impl Model {
                 return (None, moves, drains);
             };
             if first.level == 0 {
-                return (self.lists[first.place].pop(), moves, drains);
+                return (self.lists[first.place].pop_front(), moves, drains);
             }
             moves += self.drain(&first);
             drains += 1;
@@ -91,13 +93,13 @@ impl Model {
         })
     }
 
-    /// Each entry, from the head, goes to the head of its slot one level down.
+    /// Each entry, from the head, goes to the tail of its slot one level down.
     fn drain(&mut self, first: &First) -> u64 {
         let mut moves = 0;
-        while let Some(record) = self.lists[first.place].pop() {
+        while let Some(record) = self.lists[first.place].pop_front() {
             let k = first.level - 1;
             let place = SLOTS * k + slot(k, self.deadlines[record]);
-            self.lists[place].push(record);
+            self.lists[place].push_back(record);
             moves += 1;
         }
         moves

@@ -12,7 +12,7 @@ mod before {
     include!(env!("NGAWDRELO_BEFORE"));
 }
 
-use clock::{in_turns, timed, Side, Times};
+use clock::{in_turns, timed_alone, Side, Times};
 use speed::script::{Mix, COMMANDS, MIXES, SIZES};
 
 fn main() {
@@ -30,14 +30,14 @@ fn main() {
             "before",
             Box::new(move || {
                 let mut store = before::Store::new(records);
-                (timed(script.len(), || store.inner(script)).0, 0)
+                timed_alone(script.len(), || store.inner(script))
             }),
         );
         let two: Side = (
             "now",
             Box::new(move || {
                 let mut store = ours::Store::new(records);
-                (timed(script.len(), || store.inner(script)).0, 0)
+                timed_alone(script.len(), || store.inner(script))
             }),
         );
         let ([one, two], _) = in_turns(name, rounds, [one, two]);

@@ -1,15 +1,20 @@
--- `cut` meets its contract, store by store (`cut-is`); the head by the test.
+-- `cut` meets its contract, store by store (`cut-is`).
 use borrow.Author.Needs.{needs}
-use borrow.Author.Tests.{eq-eqb, ne-eqb}
 use Rattle.links.specs.Links.{headAfter}
-use Rattle.links.proofs.laws.Links.{cut-is}
+use Rattle.links.proofs.laws.Links.{cut-is, cut-asks}
 use Rattle.links.proofs.cut.Statement.{statement}
 use Rattle.links.proofs.cut.Tie as tie
 
-abbrev to-put : tie.After-slice-known7 → tie.After-put
-to-put c =
+abbrev start : tie.After-choose → tie.Start
+start c =
     let a = c .before .before .before .before in
     a .before .before
+
+abbrev chosen : tie.After-put → tie.After-choose
+chosen c = c .before .before .before
+
+abbrev linked : tie.After-choose3 → tie.After-put
+linked c = c .before .before .before .before
 
 mul-before : tie.Need-mul-before
 mul-before c = search needs
@@ -23,11 +28,22 @@ mul-after c = search needs
 slice-read-after : tie.Need-slice-read-after
 slice-read-after c = search needs
 
+choose-requires : tie.Need-choose-requires
+choose-requires c κs = search needs
+
+choose-requires-2 : tie.Need-choose-requires-2
+choose-requires-2 c κs = search needs
+
 put-requires : tie.Need-put-requires
-put-requires c κs = search needs
+put-requires c κs = rw (c .choose2 .ensures) (start (c .before .before) .pre .before)
+
+choose-requires-3 : tie.Need-choose-requires-3
+choose-requires-3 c κs = search needs
 
 put-requires-2 : tie.Need-put-requires-2
-put-requires-2 c κs = search needs
+put-requires-2 c κs =
+    let first = chosen (linked c) in
+    cut-asks (start first .pre) (first .choose .ensures) (c .choose3 .ensures)
 
 mul-nexts : tie.Need-mul-nexts
 mul-nexts c = search needs
@@ -59,21 +75,12 @@ same-length-3 c = search needs
 returns : tie.Need-returns
 unfolding headAfter
 returns c =
-    (simp (eq-eqb _ _ (c .if1 .taken)), cut-is _ _ (to-put (c .before) .put .ensures) (c .before .before .before .put2 .ensures))
-
-same-length-4 : tie.Need-same-length-4
-same-length-4 c = search needs
-
-same-length-5 : tie.Need-same-length-5
-same-length-5 c = search needs
-
-same-length-6 : tie.Need-same-length-6
-same-length-6 c = search needs
-
-returns-2 : tie.Need-returns-2
-unfolding headAfter
-returns-2 c =
-    (simp (ne-eqb _ _ (c .if1 .left)), cut-is _ _ (to-put (c .before) .put .ensures) (c .before .before .before .put2 .ensures))
+    let last = c .before .before .before in
+    let put = linked last in
+    let first = chosen put in (
+      first .choose .ensures,
+      cut-is _ _ _ (first .choose .ensures) (put .before .choose2 .ensures) (last .choose3 .ensures) (put .put .ensures) (c .before .before .put2 .ensures),
+    )
 
 pub cut-spec : {M : Type 1} → statement M
 cut-spec =
@@ -83,7 +90,10 @@ cut-spec =
     slice-read-before
     mul-after
     slice-read-after
+    choose-requires
+    choose-requires-2
     put-requires
+    choose-requires-3
     put-requires-2
     mul-nexts
     slice-write-nexts
@@ -94,8 +104,4 @@ cut-spec =
     same-length
     same-length-2
     same-length-3
-    returns
-    same-length-4
-    same-length-5
-    same-length-6
-    returns-2)
+    returns)

@@ -5,7 +5,7 @@ use mathlib.Core.List.{List}
 use Prim.Native.Nat.{ℕ, _<_}
 use native.Mathlib.Omega.{arith}
 use native.Mathlib.Decide.{ℕ-discrete}
-use Rattle.links.specs.Lists.{nobody, Mem, firstD, change}
+use Rattle.links.specs.Lists.{nobody, Mem, firstD, lastD, change}
 use Rattle.links.proofs.laws.Lists.{change-same, change-other}
 use Rattle.links.specs.Segments.{Seg}
 use Rattle.links.proofs.laws.Segments.{seg-frame}
@@ -15,7 +15,7 @@ use Rattle.links.proofs.laws.Family.{Upd, fam-some, fam-apart, fam-loos
 -- t holds l at p; nobody but i comes or goes, and whoever is neither i nor in the list of p keeps both links
 pub record Changed (P n : ℕ) (s : Net) (L : ℕ → List ℕ) (p i : ℕ) (l : List ℕ) (t : Net) : Type 0 where
   pub head : Upd (s .hd) p (firstD nobody l) (t .hd)
-  pub seg : Seg (t .nx) (t .pv) nobody l nobody
+  pub seg : Seg (t .nx) (t .pv) (lastD nobody l) l nobody
   pub kept : (y : ℕ) → y ≢ nobody → y ≢ i → (Mem y (L p) → ⊥) → (t .nx y ≡ s .nx y) × (t .pv y ≡ s .pv y)
   pub mark : (j : ℕ) → j ≢ i → t .mk j ≡ s .mk j
   pub only : (q : ℕ) → q ≢ p → Mem i (L q) → ⊥
@@ -31,13 +31,13 @@ module _ {P n : ℕ} {s : Net} {L : ℕ → List ℕ} (F : Fam P n s L) {p i : �
   not-self : (q : ℕ) → q ≢ p → (y : ℕ) → Mem y (L q) → y ≢ i
   not-self q d y m = λ (e : y ≡ i). C .only q d (rw e at m)
 
-  segs′ : (q : ℕ) → Dec (q ≡ p) → Seg (t .nx) (t .pv) nobody (change L p l q) nobody
+  segs′ : (q : ℕ) → Dec (q ≡ p) → Seg (t .nx) (t .pv) (lastD nobody (change L p l q)) (change L p l q) nobody
   segs′ q (yes e) = rw (e, change-same) (C .seg)
   segs′ q (no d) =
       let kept : (y : ℕ) → Mem y (L q) → (t .nx y ≡ s .nx y) × (t .pv y ≡ s .pv y)
       = λ y m. C .kept y (fam-some F q y m) (not-self q d y m) (fam-apart F p q d y m) in
       rw (change-other L p l q d)
-      (seg-frame (s .nx) (s .pv) (t .nx) (t .pv) nobody (L q) nobody (λ y m. kept y m .0) (λ y m. kept y m .1) (F .segs q))
+      (seg-frame (s .nx) (s .pv) (t .nx) (t .pv) (lastD nobody (L q)) (L q) nobody (λ y m. kept y m .0) (λ y m. kept y m .1) (F .segs q))
 
   mems′ : (q : ℕ) → Dec (q ≡ p) → (j : ℕ) → Mem j (change L p l q) → Member P n t q j
   mems′ q (yes e) j m = rw e (C .mems j (rw (e, change-same) at m))

@@ -1,13 +1,15 @@
--- Laws of a family of lists: nobody is in two lists, nor twice in one.
+-- Laws of a family of lists: nobody is in two lists, nor twice in one; each list keeps its tail (`fam-tail`).
 use mathlib.Core.Path.{_≡_, refl, sym, ap, _∙_}
-use mathlib.Core.Logic.{_≢_, _⊎_, inl, inr}
+use mathlib.Core.Logic.{_≢_, _⊎_, inl, inr, ⊎-elim}
 use mathlib.Core.List.{List, [], _∷_}
 use Prim.Native.Nat.{ℕ, _<_}
 use native.Mathlib.Omega.{arith}
-use Rattle.links.specs.Lists.{nobody, Mem, firstD}
-use Rattle.links.proofs.laws.Lists.{Nodup}
-use Rattle.links.proofs.laws.Segments.{seg-nodup}
-use Rattle.links.specs.Family.{Net, Loose, Fam}
+use borrow.Author.Tests.{eq-eqb, ne-eqb}
+use Rattle.links.specs.Lists.{nobody, Mem, firstD, lastD}
+use Rattle.links.proofs.laws.Lists.{Nodup, mem-last}
+use Rattle.links.proofs.laws.Segments.{seg-nodup, seg-prev}
+use Rattle.links.specs.Segments.{Seg}
+use Rattle.links.specs.Family.{Net, Loose, Fam, tailOr}
 
 -- g is f with v at k
 pub record Upd {A : Type 0} (f : ℕ → A) (k : ℕ) (v : A) (g : ℕ → A) : Type 0 where
@@ -27,7 +29,7 @@ module _ {P n : ℕ} {s : Net} {L : ℕ → List ℕ} (F : Fam P n s L) where
   fam-none p m = fam-some p nobody m refl
 
   pub fam-nodup : (p : ℕ) → Nodup (L p)
-  fam-nodup p = seg-nodup (s .nx) (s .pv) nobody (L p) (fam-none p) (F .segs p)
+  fam-nodup p = seg-nodup (s .nx) (s .pv) (lastD nobody (L p)) (L p) (fam-none p) (F .segs p)
 
   -- nobody is in two lists, and no loose one in any
   pub fam-apart : (p q : ℕ) → q ≢ p → (i : ℕ) → Mem i (L q) → Mem i (L p) → ⊥
@@ -35,6 +37,10 @@ module _ {P n : ℕ} {s : Net} {L : ℕ → List ℕ} (F : Fam P n s L) where
 
   pub fam-loose : (i : ℕ) → s .mk i ≡ nobody → (p : ℕ) → Mem i (L p) → ⊥
   fam-loose i e p m = let M = F .mems p i m in omega (arith, M .place, M .mark, F .few)
+
+  -- who has no mark has no link
+  pub fam-bare : (i : ℕ) → i < n → s .mk i ≡ nobody → Loose s i
+  fam-bare i hi e = ⊎-elim (λ m. absurd (fam-loose i e (s .mk i) m)) (λ o. o) (F .cover i hi)
 
   -- a marked record is in the list of its mark
   pub fam-marked : (i : ℕ) → i < n → s .mk i < P → Mem i (L (s .mk i))
@@ -58,3 +64,27 @@ module _ {P n : ℕ} {s : Net} {L : ℕ → List ℕ} (F : Fam P n s L) where
       by : (l : List ℕ) → L p ≡ l → (k : List ℕ) × (L p ≡ s .hd p ∷ k)
       by [] e = absurd (h (F .heads p ∙ ap (firstD nobody) e))
       by (x ∷ l) e = (l, e ∙ ap (λ (y : ℕ). y ∷ l) (sym (F .heads p ∙ ap (firstD nobody) e)))
+
+  -- each list keeps its tail
+  pub fam-tail : (p d : ℕ) → tailOr d (s .pv) (s .hd p) ≡ lastD d (L p)
+  fam-tail p d = by (L p) refl
+    where
+      by : (l : List ℕ) → L p ≡ l → tailOr d (s .pv) (s .hd p) ≡ lastD d (L p)
+      by [] e =
+          let h : s .hd p ≡ nobody = F .heads p ∙ ap (firstD nobody) e in
+          rw (eq-eqb (s .hd p) nobody h, e)
+      by (x ∷ l) e =
+          let h : s .hd p ≡ x = F .heads p ∙ ap (firstD nobody) e in
+          let k : x ≢ nobody = fam-some p x (rw e (inl refl)) in
+          let g : Seg (s .nx) (s .pv) (lastD x l) (x ∷ l) nobody = rw e at (F .segs p) in
+          rw (h, ne-eqb x nobody k, e) (g .0)
+
+  -- so the back link of a member is one of its list
+  pub fam-before : (p i : ℕ) → Mem i (L p) → Mem (s .pv i) (L p)
+  fam-before p i m =
+      ⊎-elim (λ (e : s .pv i ≡ lastD nobody (L p)). rw e (last (L p) m)) (λ k. k)
+      (seg-prev (s .nx) (s .pv) (lastD nobody (L p)) nobody (L p) (F .segs p) i m)
+    where
+      last : (l : List ℕ) → Mem i l → Mem (lastD nobody l) l
+      last [] k = absurd k
+      last (x ∷ l) k = mem-last x l

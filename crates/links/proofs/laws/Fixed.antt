@@ -6,7 +6,7 @@ use Prim.Native.Nat.{ℕ, _<_}
 use native.Mathlib.Omega.{arith}
 use native.Mathlib.Decide.{decLt}
 use lib.Seq.{ext-getD}
-use Rattle.links.specs.Lists.{nobody, Mem}
+use Rattle.links.specs.Lists.{nobody, Mem, lastD}
 use Rattle.links.proofs.laws.Segments.{seg-same}
 use Rattle.links.specs.Family.{Net, Loose, Fam}
 use Rattle.links.proofs.laws.Family.{fam-loose}
@@ -32,7 +32,7 @@ module _ {P n : ℕ} {s t : Net} {L : ℕ → List ℕ} (F : Fam P n s L) (G : F
     where
       by : Mem i (L (s .mk i)) ⊎ Loose s i → Mem i (L (t .mk i)) ⊎ Loose t i → One i
       by (inl m) k =
-          let q = seg-same (s .nx) (s .pv) (t .nx) (t .pv) nobody (L (s .mk i)) nobody (F .segs (s .mk i)) (G .segs (s .mk i)) i m in
+          let q = seg-same (s .nx) (s .pv) (t .nx) (t .pv) (lastD nobody (L (s .mk i))) (L (s .mk i)) nobody (F .segs (s .mk i)) (G .segs (s .mk i)) i m in
           record { next = q .0; prev = q .1; mark = G .mems (s .mk i) i m .mark }
       by (inr o) (inl m) = absurd (fam-loose F i (o .mark) (t .mk i) m)
       by (inr o) (inr k) = record { next = k .next ∙ sym (o .next); prev = k .prev ∙ sym (o .prev); mark = k .mark ∙ sym (o .mark) }

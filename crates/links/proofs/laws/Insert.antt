@@ -1,44 +1,37 @@
--- A loose record comes into a list: anywhere (`fam-insert`), and at its head (`fam-push`). Every other list stays, and the family is whole.
+-- A loose record comes into a list: at its head (`fam-push`), and at its end (`fam-add`). Every other list stays, and the family is whole.
 use mathlib.Core.Path.{_≡_, refl, sym, ap, _∙_, subst}
 use mathlib.Core.Logic.{_≢_, _⊎_, inl, inr}
 use mathlib.Core.List.{List, [], _∷_, _++_}
+use mathlib.Core.Bool.{cond}
 use Prim.Native.Nat.{ℕ, _<_}
 use native.Mathlib.Omega.{arith}
-use Rattle.links.specs.Lists.{nobody, Mem, firstD, change}
-use Rattle.links.proofs.laws.Lists.{Nodup, lastD, change-same, mem-left, mem-right, mem-app, mem-last, first-not, last-not, nodup-left, nodup-right, nodup-apart}
+use lib.Dec.{eqb}
+use borrow.Author.Tests.{ne-eqb}
+use Rattle.links.specs.Lists.{nobody, Mem, firstD, lastD, change}
+use Rattle.links.proofs.laws.Lists.{Nodup, change-same, mem-left, mem-right, mem-app, mem-last, first-not, last-not}
 use Rattle.links.specs.Segments.{Seg}
-use Rattle.links.proofs.laws.Segments.{seg-left, seg-right, seg-join, seg-start, seg-end}
-use Rattle.links.specs.Family.{Net, Member, Fam}
-use Rattle.links.proofs.laws.Family.{Upd, Put, fam-some, fam-nodup, fam-loose}
+use Rattle.links.proofs.laws.Segments.{seg-join, seg-start, seg-end}
+use Rattle.links.specs.Family.{Net, Member, Fam, tailOr}
+use Rattle.links.proofs.laws.Family.{Upd, Put, fam-some, fam-none, fam-nodup, fam-loose, fam-bare, fam-tail}
 use Rattle.links.proofs.laws.Change.{fam-change}
 
--- ---- i comes into the list of p between a and b
-
--- what the stores of i between a and b, in the list of p, leave
-pub record Inserted (s : Net) (p i : ℕ) (a b : List ℕ) (t : Net) : Type 0 where
-  pub head : Upd (s .hd) p (firstD nobody (a ++ i ∷ b)) (t .hd)
-  pub nx₁ : ℕ → ℕ
-  pub next : Upd (s .nx) i (firstD nobody b) nx₁
-  pub next-last : Put nx₁ (lastD nobody a) i (t .nx)
+-- what the stores of both have in common: i stands between the last and the first
+pub record Between (s : Net) (p i : ℕ) (t : Net) : Type 0 where
   pub pv₁ : ℕ → ℕ
-  pub prev : Upd (s .pv) i (lastD nobody a) pv₁
-  pub prev-first : Put pv₁ (firstD nobody b) i (t .pv)
+  pub prev : Upd (s .pv) i (tailOr i (s .pv) (s .hd p)) pv₁
+  pub prev-first : Put pv₁ (s .hd p) i (t .pv)
   pub mark : Upd (s .mk) i p (t .mk)
 
-module _ {P n : ℕ} {s : Net} {L : ℕ → List ℕ} (F : Fam P n s L) (p i : ℕ) (a b : List ℕ) {t : Net} (I : Inserted s p i a b t)
-    (hp : p < P) (hi : i < n) (loose : s .mk i ≡ nobody) (split : L p ≡ a ++ b) where
-  in-left : (y : ℕ) → Mem y a → Mem y (L p)
-  in-left y m = subst (λ (l : List ℕ). Mem y l) (sym split) (mem-left y a b m)
+last-snoc : (d i : ℕ) (l : List ℕ) → lastD d (l ++ i ∷ []) ≡ i
+last-snoc d i [] = refl
+last-snoc d i (x ∷ l) = last-snoc x i l
 
-  in-right : (y : ℕ) → Mem y b → Mem y (L p)
-  in-right y m = subst (λ (l : List ℕ). Mem y l) (sym split) (mem-right y a b m)
+first-snoc : (i : ℕ) (l : List ℕ) → (Mem nobody l → ⊥) → cond (eqb (firstD nobody l) nobody) i (firstD nobody l) ≡ firstD nobody (l ++ i ∷ [])
+first-snoc i [] h = refl
+first-snoc i (x ∷ l) h = rw (ne-eqb x nobody (λ e. h (inl (sym e))))
 
-  nodup : Nodup (a ++ b)
-  nodup = subst Nodup split (fam-nodup F p)
-
-  seg : Seg (s .nx) (s .pv) nobody (a ++ b) nobody
-  seg = subst (λ (l : List ℕ). Seg (s .nx) (s .pv) nobody l nobody) split (F .segs p)
-
+module _ {P n : ℕ} {s : Net} {L : ℕ → List ℕ} (F : Fam P n s L) (p i : ℕ) {t : Net} (B : Between s p i t)
+    (hp : p < P) (hi : i < n) (loose : s .mk i ≡ nobody) where
   i-some : i ≢ nobody
   i-some = omega (arith, F .small)
 
@@ -48,103 +41,123 @@ module _ {P n : ℕ} {s : Net} {L : ℕ → List ℕ} (F : Fam P n s L) (p i : �
   i-out : Mem i (L p) → ⊥
   i-out m = not-new p i m refl
 
-  keeps-nx : (y : ℕ) → y ≢ i → y ≢ lastD nobody a → t .nx y ≡ s .nx y
-  keeps-nx y h k = I .next-last .other y k ∙ I .next .other y h
+  keeps-pv : (y : ℕ) → y ≢ i → y ≢ firstD nobody (L p) → t .pv y ≡ s .pv y
+  keeps-pv y h k = B .prev-first .other y (λ z. k (z ∙ F .heads p)) ∙ B .prev .other y h
 
-  keeps-pv : (y : ℕ) → y ≢ i → y ≢ firstD nobody b → t .pv y ≡ s .pv y
-  keeps-pv y h k = I .prev-first .other y k ∙ I .prev .other y h
+  own-prev : t .pv i ≡ lastD i (L p)
+  own-prev =
+      B .prev-first .other i (λ z. first-not i nobody (L p) i-some i-out (z ∙ F .heads p)) ∙ B .prev .same ∙ fam-tail F p i
 
-  -- whoever is not in the list of p, and is not i, keeps both links
-  keeps : (y : ℕ) → y ≢ nobody → y ≢ i → (Mem y (L p) → ⊥) → (t .nx y ≡ s .nx y) × (t .pv y ≡ s .pv y)
-  keeps y h d m = (
-    keeps-nx y d (last-not y nobody a h (λ k. m (in-left y k))),
-    keeps-pv y d (first-not y nobody b h (λ k. m (in-right y k))),
-  )
-
-  new-left : (a₁ : List ℕ) → a₁ ≡ a → Seg (t .nx) (t .pv) nobody a₁ i
-  new-left [] e = tt
-  new-left (x ∷ l) e =
-      let mm : (y : ℕ) → Mem y (x ∷ l) → Mem y a = λ y m. subst (λ (z : List ℕ). Mem y z) e m in
-      let la : lastD x l ≡ lastD nobody a = ap (λ (z : List ℕ). lastD nobody z) e in
-      let some : (y : ℕ) → Mem y (x ∷ l) → y ≢ nobody = λ y m. fam-some F p y (in-left y (mm y m)) in
-      seg-end (s .nx) (s .pv) (t .nx) (t .pv) nobody x l (firstD nobody b) i
-      (subst Nodup (sym e) (nodup-left a b nodup))
-      (λ y m k. keeps-nx y (not-new p y (in-left y (mm y m))) (λ j. k (j ∙ sym la)))
-      (λ y m. keeps-pv y (not-new p y (in-left y (mm y m))) (first-not y nobody b (some y m) (nodup-apart a b nodup y (mm y m))))
-      (ap (t .nx) la ∙ I .next-last .same (λ j. some (lastD x l) (mem-last x l) (la ∙ j)))
-      (subst (λ (z : List ℕ). Seg (s .nx) (s .pv) nobody z (firstD nobody b)) (sym e) (seg-left (s .nx) (s .pv) nobody nobody a b seg))
-
-  new-right : (b₁ : List ℕ) → b₁ ≡ b → Seg (t .nx) (t .pv) i b₁ nobody
-  new-right [] e = tt
-  new-right (x ∷ l) e =
-      let mm : (y : ℕ) → Mem y (x ∷ l) → Mem y b = λ y m. subst (λ (z : List ℕ). Mem y z) e m in
-      let fi : x ≡ firstD nobody b = ap (λ (z : List ℕ). firstD nobody z) e in
-      let some : (y : ℕ) → Mem y (x ∷ l) → y ≢ nobody = λ y m. fam-some F p y (in-right y (mm y m)) in
-      seg-start (s .nx) (s .pv) (t .nx) (t .pv) (lastD nobody a) i x l nobody
-      (subst Nodup (sym e) (nodup-right a b nodup))
-      (λ y m. keeps-nx y (not-new p y (in-right y (mm y m))) (last-not y nobody a (some y m) (λ k. nodup-apart a b nodup y k (mm y m))))
-      (λ y m k. keeps-pv y (not-new p y (in-right y (mm y m))) (λ j. k (j ∙ sym fi)))
-      (ap (t .pv) fi ∙ I .prev-first .same (λ j. some x (inl refl) (fi ∙ j)))
-      (subst (λ (z : List ℕ). Seg (s .nx) (s .pv) (lastD nobody a) z nobody) (sym e) (seg-right (s .nx) (s .pv) nobody nobody a b seg))
-
-  new-seg : Seg (t .nx) (t .pv) nobody (a ++ i ∷ b) nobody
-  new-seg =
-      seg-join (t .nx) (t .pv) nobody nobody a (i ∷ b) (new-left a refl) (
-        I .prev-first .other i (first-not i nobody b i-some (λ m. i-out (in-right i m))) ∙ I .prev .same,
-        I .next-last .other i (last-not i nobody a i-some (λ m. i-out (in-left i m))) ∙ I .next .same,
-        new-right b refl,
-      )
+  first-prev : (x : ℕ) (l : List ℕ) → L p ≡ x ∷ l → t .pv x ≡ i
+  first-prev x l e =
+      let h : s .hd p ≡ x = F .heads p ∙ ap (firstD nobody) e in
+      ap (t .pv) (sym h) ∙ B .prev-first .same (λ z. fam-some F p x (rw e (inl refl)) (sym h ∙ z))
 
   old-mem : (j : ℕ) → Mem j (L p) → Member P n t p j
   old-mem j m =
       let M = F .mems p j m in
-      record { place = M .place; below = M .below; mark = I .mark .other j (not-new p j m) ∙ M .mark }
+      record { place = M .place; below = M .below; mark = B .mark .other j (not-new p j m) ∙ M .mark }
 
-  new-mem : (j : ℕ) → Mem j a ⊎ Mem j (i ∷ b) → Member P n t p j
-  new-mem j (inl m) = old-mem j (in-left j m)
-  new-mem j (inr (inl e)) = rw e (record { place = hp; below = hi; mark = I .mark .same })
-  new-mem j (inr (inr m)) = old-mem j (in-right j m)
-
-  grown : (j : ℕ) → Mem j a ⊎ Mem j b → Mem j (a ++ i ∷ b)
-  grown j (inl m) = mem-left j a (i ∷ b) m
-  grown j (inr m) = mem-right j a (i ∷ b) (inr m)
-
-  pub fam-insert : Fam P n t (change L p (a ++ i ∷ b))
-  fam-insert =
-      fam-change F
-      (record {
-        head = I .head;
-        seg = new-seg;
-        kept = keeps;
-        mark = I .mark .other;
-        only = λ q d m. not-new q i m refl;
-        mems = λ j m. new-mem j (mem-app j a (i ∷ b) m);
-        stay = λ j d m. grown j (mem-app j a b (rw split at m));
-        self = inl (rw (I .mark .same, change-same) (mem-right i a (i ∷ b) (inl refl)));
-      })
+  new-mem : (j : ℕ) → j ≡ i → Member P n t p j
+  new-mem j e = rw e (record { place = hp; below = hi; mark = B .mark .same })
 
 -- ---- i comes to the head of the list of p
 
 pub record Pushed (s : Net) (p i : ℕ) (t : Net) : Type 0 where
   pub head : Upd (s .hd) p i (t .hd)
   pub next : Upd (s .nx) i (s .hd p) (t .nx)
-  pub pv₁ : ℕ → ℕ
-  pub prev : Upd (s .pv) i nobody pv₁
-  pub prev-first : Put pv₁ (s .hd p) i (t .pv)
-  pub mark : Upd (s .mk) i p (t .mk)
+  pub between : Between s p i t
 
 pub fam-push : {P n : ℕ} {s : Net} {L : ℕ → List ℕ} → Fam P n s L → (p i : ℕ) {t : Net} → Pushed s p i t
     → p < P → i < n → s .mk i ≡ nobody → Fam P n t (change L p (i ∷ L p))
 fam-push {P} {n} {s} {L} F p i {t} W hp hi lo =
-    fam-insert F p i [] (L p)
+    fam-change F
     (record {
       head = W .head;
-      nx₁ = t .nx;
-      next = rw (F .heads p) at (W .next);
-      next-last = record { same = λ h. absurd (h refl); other = λ j h. refl };
-      pv₁ = W .pv₁;
-      prev = W .prev;
-      prev-first = rw (F .heads p) at (W .prev-first);
-      mark = W .mark;
+      seg = (own-prev F p i B hp hi lo, W .next .same ∙ F .heads p, right (L p) refl);
+      kept = λ y h d m. (W .next .other y d, keeps-pv F p i B hp hi lo y d (first-not y nobody (L p) h m));
+      mark = B .mark .other;
+      only = λ q d m. not-new F p i B hp hi lo q i m refl;
+      mems = λ j m. mem j m;
+      stay = λ j d m. inr m;
+      self = inl (rw (B .mark .same, change-same) (inl refl));
     })
-    hp hi lo refl
+  where
+    B : Between s p i t
+    B = W .between
+
+    mem : (j : ℕ) → Mem j (i ∷ L p) → Member P n t p j
+    mem j (inl e) = new-mem F p i B hp hi lo j e
+    mem j (inr m) = old-mem F p i B hp hi lo j m
+
+    right : (l : List ℕ) → L p ≡ l → Seg (t .nx) (t .pv) i l nobody
+    right [] e = tt
+    right (x ∷ l) e =
+        let mm : (y : ℕ) → Mem y (x ∷ l) → Mem y (L p) = λ y m. rw e m in
+        seg-start (s .nx) (s .pv) (t .nx) (t .pv) (lastD x l) i x l nobody
+        (subst Nodup e (fam-nodup F p))
+        (λ y m. W .next .other y (not-new F p i B hp hi lo p y (mm y m)))
+        (λ y m k. keeps-pv F p i B hp hi lo y (not-new F p i B hp hi lo p y (mm y m)) (λ j. k (j ∙ ap (firstD nobody) e)))
+        (first-prev F p i B hp hi lo x l e)
+        (rw e at (F .segs p))
+
+-- ---- i comes to the end of the list of p
+
+pub record Added (s : Net) (p i : ℕ) (t : Net) : Type 0 where
+  pub head : Upd (s .hd) p (cond (eqb (s .hd p) nobody) i (s .hd p)) (t .hd)
+  pub next-last : Put (s .nx) (tailOr nobody (s .pv) (s .hd p)) i (t .nx)
+  pub between : Between s p i t
+
+pub fam-add : {P n : ℕ} {s : Net} {L : ℕ → List ℕ} → Fam P n s L → (p i : ℕ) {t : Net} → Added s p i t
+    → p < P → i < n → s .mk i ≡ nobody → Fam P n t (change L p (L p ++ i ∷ []))
+fam-add {P} {n} {s} {L} F p i {t} W hp hi lo =
+    fam-change F
+    (record {
+      head = record { same = W .head .same ∙ rw (F .heads p) (first-snoc i (L p) (fam-none F p)); other = W .head .other };
+      seg =
+          subst (λ (z : ℕ). Seg (t .nx) (t .pv) z (L p ++ i ∷ []) nobody) (sym (last-snoc nobody i (L p)))
+          (seg-join (t .nx) (t .pv) i nobody (L p) (i ∷ []) (left (L p) refl) (own-prev F p i B hp hi lo, own-next, tt));
+      kept = λ y h d m. (
+        keeps-nx y (last-not y nobody (L p) h m),
+        keeps-pv F p i B hp hi lo y d (first-not y nobody (L p) h m),
+      );
+      mark = B .mark .other;
+      only = λ q d m. not-new F p i B hp hi lo q i m refl;
+      mems = λ j m. mem j (mem-app j (L p) (i ∷ []) m);
+      stay = λ j d m. mem-left j (L p) (i ∷ []) m;
+      self = inl (rw (B .mark .same, change-same) (mem-right i (L p) (i ∷ []) (inl refl)));
+    })
+  where
+    B : Between s p i t
+    B = W .between
+
+    tail : tailOr nobody (s .pv) (s .hd p) ≡ lastD nobody (L p)
+    tail = fam-tail F p nobody
+
+    keeps-nx : (y : ℕ) → y ≢ lastD nobody (L p) → t .nx y ≡ s .nx y
+    keeps-nx y k = W .next-last .other y (λ z. k (z ∙ tail))
+
+    own-next : t .nx i ≡ nobody
+    own-next = keeps-nx i (last-not i nobody (L p) (i-some F p i B hp hi lo) (i-out F p i B hp hi lo)) ∙ fam-bare F i hi lo .next
+
+    mem : (j : ℕ) → Mem j (L p) ⊎ Mem j (i ∷ []) → Member P n t p j
+    mem j (inl m) = old-mem F p i B hp hi lo j m
+    mem j (inr (inl e)) = new-mem F p i B hp hi lo j e
+    mem j (inr (inr m)) = absurd m
+
+    left : (l : List ℕ) → L p ≡ l → Seg (t .nx) (t .pv) i l i
+    left [] e = tt
+    left (x ∷ l) e =
+        let mm : (y : ℕ) → Mem y (x ∷ l) → Mem y (L p) = λ y m. rw e m in
+        let d : Nodup (x ∷ l) = subst Nodup e (fam-nodup F p) in
+        let la : lastD x l ≡ lastD nobody (L p) = ap (lastD nobody) (sym e) in
+        let some : lastD x l ≢ nobody = fam-some F p (lastD x l) (mm (lastD x l) (mem-last x l)) in
+        seg-start (t .nx) (s .pv) (t .nx) (t .pv) (lastD x l) i x l i d
+        (λ y m. refl)
+        (λ y m k. keeps-pv F p i B hp hi lo y (not-new F p i B hp hi lo p y (mm y m)) (λ j. k (j ∙ ap (firstD nobody) e)))
+        (first-prev F p i B hp hi lo x l e)
+        (seg-end (s .nx) (s .pv) (t .nx) (s .pv) (lastD x l) x l nobody i d
+        (λ y m k. keeps-nx y (λ j. k (j ∙ sym la)))
+        (λ y m. refl)
+        (ap (t .nx) (la ∙ sym tail) ∙ W .next-last .same (λ z. some (la ∙ sym tail ∙ z)))
+        (rw e at (F .segs p)))

@@ -4,16 +4,12 @@ use mathlib.Core.Logic.{_≢_, _⊎_, inl, inr, ⊎-elim}
 use mathlib.Core.List.{List, [], _∷_, _++_}
 use Prim.Native.Nat.{ℕ}
 use borrow.Author.Tests.{eq-eqb, ne-eqb}
-use Rattle.links.specs.Lists.{Mem, firstD, without, change}
+use Rattle.links.specs.Lists.{Mem, firstD, lastD, without, change}
 
 -- nobody is in the list twice
 abbrev pub Nodup : List ℕ → Type 0
 Nodup [] = Unit {0}
 Nodup (x ∷ l) = (Mem x l → ⊥) × Nodup l
-
-abbrev pub lastD : ℕ → List ℕ → ℕ
-lastD p [] = p
-lastD p (x ∷ l) = lastD x l
 
 -- ---- membership
 

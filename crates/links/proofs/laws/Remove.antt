@@ -1,29 +1,36 @@
 -- A record leaves the list of its mark and is loose (`fam-unlink`). Every other list stays, and the family is whole.
 use mathlib.Core.Path.{_≡_, refl, sym, ap, _∙_, subst}
 use mathlib.Core.Logic.{_≢_, _⊎_, inl, inr}
-use mathlib.Core.List.{List, [], _∷_, _++_}
-use mathlib.Core.Bool.{cond}
+use mathlib.Core.List.{List, [], _∷_, _++_, append-nil}
 use Prim.Native.Nat.{ℕ, _<_}
-use lib.Dec.{eqb}
 use borrow.Author.Tests.{eq-eqb, ne-eqb}
-use Rattle.links.specs.Lists.{nobody, Mem, firstD, without, change}
-use Rattle.links.proofs.laws.Lists.{Nodup, lastD, without-split, mem-left, mem-right, mem-app, mem-split, mem-cast, mem-last, first-not, last-not, nodup-left, nodup-right, nodup-apart}
+use Rattle.links.specs.Lists.{nobody, Mem, firstD, lastD, without, change}
+use Rattle.links.proofs.laws.Lists.{Nodup, without-split, mem-left, mem-right, mem-app, mem-split, mem-cast, mem-last, first-not, last-not, nodup-left, nodup-right, nodup-apart}
 use Rattle.links.specs.Segments.{Seg}
 use Rattle.links.proofs.laws.Segments.{seg-left, seg-right, seg-join, seg-start, seg-end}
-use Rattle.links.specs.Family.{Net, Member, Fam}
+use Rattle.links.specs.Family.{Net, Member, Fam, headLeft, linkBefore, linkAfter}
 use Rattle.links.proofs.laws.Family.{Upd, Put, fam-some, fam-nodup, fam-apart, fam-marked}
 use Rattle.links.proofs.laws.Change.{fam-change}
 
 -- what the stores of an unlinking of i leave: its neighbours are joined, and its own links and mark are cleared
 pub record Unlinked (s : Net) (i : ℕ) (t : Net) : Type 0 where
-  pub head : Upd (s .hd) (s .mk i) (cond (eqb i (s .hd (s .mk i))) (s .nx i) (s .hd (s .mk i))) (t .hd)
+  pub head : Upd (s .hd) (s .mk i) (headLeft (s .nx) i (s .hd (s .mk i))) (t .hd)
   pub nx₁ : ℕ → ℕ
-  pub next : Put (s .nx) (s .pv i) (s .nx i) nx₁
+  pub next : Put (s .nx) (linkBefore (s .pv) i (s .hd (s .mk i))) (s .nx i) nx₁
   pub next-own : Upd nx₁ i nobody (t .nx)
   pub pv₁ : ℕ → ℕ
-  pub prev : Put (s .pv) (s .nx i) (s .pv i) pv₁
+  pub prev : Put (s .pv) (linkAfter (s .nx) i (s .hd (s .mk i))) (s .pv i) pv₁
   pub prev-own : Upd pv₁ i nobody (t .pv)
   pub mark : Upd (s .mk) i nobody (t .mk)
+
+-- a list's last does not depend on what stands before a part that is not empty
+last-app : (d e i : ℕ) (a : List ℕ) (y : ℕ) (m : List ℕ) → lastD d (a ++ i ∷ y ∷ m) ≡ lastD e (a ++ y ∷ m)
+last-app d e i [] y m = refl
+last-app d e i (x ∷ a) y m = last-app x x i a y m
+
+first-app : (a : List ℕ) → firstD nobody (a ++ []) ≡ firstD nobody a
+first-app [] = refl
+first-app (x ∷ a) = refl
 
 module _ {P n : ℕ} {s : Net} {L : ℕ → List ℕ} (F : Fam P n s L) (i : ℕ) {t : Net} (D : Unlinked s i t)
     (a b : List ℕ) (split : L (s .mk i) ≡ a ++ i ∷ b) where
@@ -36,12 +43,19 @@ module _ {P n : ℕ} {s : Net} {L : ℕ → List ℕ} (F : Fam P n s L) (i : ℕ
   nodup : Nodup (a ++ i ∷ b)
   nodup = subst Nodup split (fam-nodup F (s .mk i))
 
-  seg : Seg (s .nx) (s .pv) nobody (a ++ i ∷ b) nobody
-  seg = subst (λ (l : List ℕ). Seg (s .nx) (s .pv) nobody l nobody) split (F .segs (s .mk i))
+  -- the last before, and the last after
+  abbrev old : ℕ
+  old = lastD nobody (a ++ i ∷ b)
+
+  abbrev new : ℕ
+  new = lastD nobody (a ++ b)
+
+  seg : Seg (s .nx) (s .pv) old (a ++ i ∷ b) nobody
+  seg = subst (λ (l : List ℕ). Seg (s .nx) (s .pv) (lastD nobody l) l nobody) split (F .segs (s .mk i))
 
   -- the right part begins with i
-  seg-i : Seg (s .nx) (s .pv) (lastD nobody a) (i ∷ b) nobody
-  seg-i = seg-right (s .nx) (s .pv) nobody nobody a (i ∷ b) seg
+  seg-i : Seg (s .nx) (s .pv) (lastD old a) (i ∷ b) nobody
+  seg-i = seg-right (s .nx) (s .pv) old nobody a (i ∷ b) seg
 
   not-left : (y : ℕ) → Mem y a → y ≢ i
   not-left y m k = nodup-apart a (i ∷ b) nodup y m (inl k)
@@ -58,63 +72,107 @@ module _ {P n : ℕ} {s : Net} {L : ℕ → List ℕ} (F : Fam P n s L) (i : ℕ
   some-right : (y : ℕ) → Mem y b → y ≢ nobody
   some-right y m = fam-some F (s .mk i) y (in-right y (inr m))
 
-  keeps-nx : (y : ℕ) → y ≢ i → y ≢ lastD nobody a → t .nx y ≡ s .nx y
-  keeps-nx y d h = D .next-own .other y d ∙ D .next .other y (λ k. h (k ∙ seg-i .0))
+  -- i was the head just where nobody stood before it
+  head-was : (a₁ : List ℕ) → a₁ ≡ a → s .hd (s .mk i) ≡ firstD i a₁
+  head-was [] e = F .heads (s .mk i) ∙ ap (firstD nobody) (split ∙ ap (λ (z : List ℕ). z ++ i ∷ b) (sym e))
+  head-was (x ∷ l) e = F .heads (s .mk i) ∙ ap (firstD nobody) (split ∙ ap (λ (z : List ℕ). z ++ i ∷ b) (sym e))
 
-  keeps-pv : (y : ℕ) → y ≢ i → y ≢ firstD nobody b → t .pv y ≡ s .pv y
-  keeps-pv y d h = D .prev-own .other y d ∙ D .prev .other y (λ k. h (k ∙ seg-i .1))
+  new-head : (a₁ : List ℕ) → a₁ ≡ a → headLeft (s .nx) i (s .hd (s .mk i)) ≡ firstD nobody (a₁ ++ b)
+  new-head [] e = rw (eq-eqb i (s .hd (s .mk i)) (sym (head-was [] e))) (seg-i .1)
+  new-head (x ∷ l) e =
+      let h = head-was (x ∷ l) e in
+      let m : Mem x a = subst (λ (z : List ℕ). Mem x z) e (inl refl) in
+      rw (ne-eqb i (s .hd (s .mk i)) (λ k. not-left x m (sym (k ∙ h)))) h
+
+  -- who gets a new link: the last of a, and the one that follows i in the ring
+  before-is : (a₁ : List ℕ) → a₁ ≡ a → linkBefore (s .pv) i (s .hd (s .mk i)) ≡ lastD nobody a₁
+  before-is [] e = rw (eq-eqb i (s .hd (s .mk i)) (sym (head-was [] e)))
+  before-is (x ∷ l) e =
+      let h = head-was (x ∷ l) e in
+      let m : Mem x a = subst (λ (z : List ℕ). Mem x z) e (inl refl) in
+      rw (ne-eqb i (s .hd (s .mk i)) (λ k. not-left x m (sym (k ∙ h)))) (seg-i .0 ∙ ap (lastD old) (sym e))
+
+  after-is : (b₁ : List ℕ) → b₁ ≡ b → linkAfter (s .nx) i (s .hd (s .mk i)) ≡ firstD (firstD nobody a) b₁
+  after-is [] e =
+      rw (eq-eqb (s .nx i) nobody (seg-i .1 ∙ ap (firstD nobody) (sym e)))
+      (new-head a refl ∙ ap (λ (z : List ℕ). firstD nobody (a ++ z)) (sym e) ∙ first-app a)
+  after-is (y ∷ m) e =
+      let f : s .nx i ≡ y = seg-i .1 ∙ ap (firstD nobody) (sym e) in
+      rw (ne-eqb (s .nx i) nobody (λ k. some-right y (subst (Mem y) e (inl refl)) (sym f ∙ k))) f
+
+  keeps-nx : (y : ℕ) → y ≢ i → y ≢ lastD nobody a → t .nx y ≡ s .nx y
+  keeps-nx y d h = D .next-own .other y d ∙ D .next .other y (λ k. h (k ∙ before-is a refl))
+
+  keeps-pv : (y : ℕ) → y ≢ i → y ≢ firstD (firstD nobody a) b → t .pv y ≡ s .pv y
+  keeps-pv y d h = D .prev-own .other y d ∙ D .prev .other y (λ k. h (k ∙ after-is b refl))
+
+  after-pv : (y : ℕ) → y ≢ i → y ≢ nobody → y ≡ firstD (firstD nobody a) b → t .pv y ≡ lastD old a
+  after-pv y d h e =
+      let f = after-is b refl in
+      D .prev-own .other y d ∙ ap (D .pv₁) (e ∙ sym f) ∙ D .prev .same (λ k. h (e ∙ sym f ∙ k)) ∙ seg-i .0
 
   -- whoever is not in the list that i leaves keeps both links
   keeps : (y : ℕ) → y ≢ nobody → y ≢ i → (Mem y (L (s .mk i)) → ⊥) → (t .nx y ≡ s .nx y) × (t .pv y ≡ s .pv y)
   keeps y h d m = (
     keeps-nx y d (last-not y nobody a h (λ k. m (in-left y k))),
-    keeps-pv y d (first-not y nobody b h (λ k. m (in-right y (inr k)))),
+    keeps-pv y d (first-not y (firstD nobody a) b (first-not y nobody a h (λ k. m (in-left y k))) (λ k. m (in-right y (inr k)))),
   )
 
-  new-left : (a₁ : List ℕ) → a₁ ≡ a → Seg (t .nx) (t .pv) nobody a₁ (firstD nobody b)
+  -- the back link of the head of a: the new last
+  start : (x : ℕ) (l : List ℕ) → x ∷ l ≡ a → (b₁ : List ℕ) → b₁ ≡ b → t .pv x ≡ new
+  start x l e [] f =
+      let m : Mem x a = subst (Mem x) e (inl refl) in
+      let z : x ≡ firstD (firstD nobody a) b = ap (firstD nobody) e ∙ ap (firstD (firstD nobody a)) f in
+      after-pv x (not-left x m) (some-left x m) z
+      ∙ ap (lastD old) (sym e) ∙ ap (lastD nobody) (e ∙ sym (append-nil a) ∙ ap (λ (c : List ℕ). a ++ c) f)
+  start x l e (y ∷ k) f =
+      let m : Mem x a = subst (Mem x) e (inl refl) in
+      let my : Mem y b = subst (Mem y) f (inl refl) in
+      keeps-pv x (not-left x m) (λ z. apart x m (subst (λ (c : ℕ). Mem c b) (sym (z ∙ ap (firstD (firstD nobody a)) (sym f))) my))
+      ∙ (subst (λ (c : List ℕ). Seg (s .nx) (s .pv) old c i) (sym e) (seg-left (s .nx) (s .pv) old nobody a (i ∷ b) seg)) .0
+      ∙ ap (λ (c : List ℕ). lastD nobody (a ++ i ∷ c)) (sym f) ∙ last-app nobody nobody i a y k ∙ ap (λ (c : List ℕ). lastD nobody (a ++ c)) f
+
+  new-left : (a₁ : List ℕ) → a₁ ≡ a → Seg (t .nx) (t .pv) new a₁ (firstD nobody b)
   new-left [] e = tt
   new-left (x ∷ l) e =
       let mm : (y : ℕ) → Mem y (x ∷ l) → Mem y a = λ y m. subst (λ (z : List ℕ). Mem y z) e m in
       let la : lastD x l ≡ lastD nobody a = ap (λ (z : List ℕ). lastD nobody z) e in
       let ml : Mem (lastD x l) a = mm (lastD x l) (mem-last x l) in
-      seg-end (s .nx) (s .pv) (t .nx) (t .pv) nobody x l i (firstD nobody b)
-      (subst Nodup (sym e) (nodup-left a (i ∷ b) nodup))
+      let d : Nodup (x ∷ l) = subst Nodup (sym e) (nodup-left a (i ∷ b) nodup) in
+      seg-start (t .nx) (s .pv) (t .nx) (t .pv) old new x l (firstD nobody b) d
+      (λ y m. refl)
+      (λ y m k. keeps-pv y (not-left y (mm y m)) (first-not y (firstD nobody a) b (λ j. k (j ∙ ap (firstD nobody) (sym e))) (apart y (mm y m))))
+      (start x l e b refl)
+      (seg-end (s .nx) (s .pv) (t .nx) (s .pv) old x l i (firstD nobody b) d
       (λ y m k. keeps-nx y (not-left y (mm y m)) (λ j. k (j ∙ sym la)))
-      (λ y m. keeps-pv y (not-left y (mm y m)) (first-not y nobody b (some-left y (mm y m)) (apart y (mm y m))))
+      (λ y m. refl)
       (D .next-own .other (lastD x l) (not-left (lastD x l) ml)
-      ∙ ap (D .nx₁) (la ∙ sym (seg-i .0))
-      ∙ D .next .same (λ j. some-left (lastD x l) ml (la ∙ sym (seg-i .0) ∙ j))
+      ∙ ap (D .nx₁) (la ∙ sym (before-is a refl))
+      ∙ D .next .same (λ j. some-left (lastD x l) ml (la ∙ sym (before-is a refl) ∙ j))
       ∙ seg-i .1)
-      (subst (λ (z : List ℕ). Seg (s .nx) (s .pv) nobody z i) (sym e) (seg-left (s .nx) (s .pv) nobody nobody a (i ∷ b) seg))
+      (subst (λ (z : List ℕ). Seg (s .nx) (s .pv) old z i) (sym e) (seg-left (s .nx) (s .pv) old nobody a (i ∷ b) seg)))
 
-  new-right : (b₁ : List ℕ) → b₁ ≡ b → Seg (t .nx) (t .pv) (lastD nobody a) b₁ nobody
+  -- the one before b is the last of a, or the new last where a is empty
+  same-last : (a₁ b₁ : List ℕ) (y : ℕ) (m : List ℕ) → y ∷ m ≡ b₁
+      → lastD (lastD nobody (a₁ ++ i ∷ b₁)) a₁ ≡ lastD (lastD nobody (a₁ ++ b₁)) a₁
+  same-last [] b₁ y m g = ap (λ (c : List ℕ). lastD i c) (sym g) ∙ ap (λ (c : List ℕ). lastD nobody c) g
+  same-last (x ∷ l) b₁ y m g = refl
+
+  new-right : (b₁ : List ℕ) → b₁ ≡ b → Seg (t .nx) (t .pv) (lastD new a) b₁ nobody
   new-right [] e = tt
   new-right (x ∷ l) e =
       let mm : (y : ℕ) → Mem y (x ∷ l) → Mem y b = λ y m. subst (λ (z : List ℕ). Mem y z) e m in
-      let fi : x ≡ firstD nobody b = ap (λ (z : List ℕ). firstD nobody z) e in
+      let fi : x ≡ firstD (firstD nobody a) b = ap (firstD (firstD nobody a)) e in
       let mf : Mem x b = mm x (inl refl) in
-      seg-start (s .nx) (s .pv) (t .nx) (t .pv) i (lastD nobody a) x l nobody
+      seg-start (s .nx) (s .pv) (t .nx) (t .pv) i (lastD new a) x l nobody
       (subst Nodup (sym e) (nodup-right a (i ∷ b) nodup .1))
       (λ y m. keeps-nx y (not-right y (mm y m)) (last-not y nobody a (some-right y (mm y m)) (λ k. apart y k (mm y m))))
       (λ y m k. keeps-pv y (not-right y (mm y m)) (λ j. k (j ∙ sym fi)))
-      (D .prev-own .other x (not-right x mf)
-      ∙ ap (D .pv₁) (fi ∙ sym (seg-i .1))
-      ∙ D .prev .same (λ j. some-right x mf (fi ∙ sym (seg-i .1) ∙ j))
-      ∙ seg-i .0)
+      (after-pv x (not-right x mf) (some-right x mf) fi ∙ same-last a b x l e)
       (subst (λ (z : List ℕ). Seg (s .nx) (s .pv) i z nobody) (sym e) (seg-i .2))
 
-  new-seg : Seg (t .nx) (t .pv) nobody (a ++ b) nobody
-  new-seg = seg-join (t .nx) (t .pv) nobody nobody a b (new-left a refl) (new-right b refl)
-
-  -- i was the head just where nobody was before it
-  new-head : (a₁ : List ℕ) → a₁ ≡ a → cond (eqb i (s .hd (s .mk i))) (s .nx i) (s .hd (s .mk i)) ≡ firstD nobody (a₁ ++ b)
-  new-head [] e =
-      let h : s .hd (s .mk i) ≡ i = F .heads (s .mk i) ∙ ap (firstD nobody) (split ∙ ap (λ (z : List ℕ). z ++ i ∷ b) (sym e)) in
-      rw (eq-eqb i (s .hd (s .mk i)) (sym h)) (seg-i .1)
-  new-head (x ∷ l) e =
-      let h : s .hd (s .mk i) ≡ x = F .heads (s .mk i) ∙ ap (firstD nobody) (split ∙ ap (λ (z : List ℕ). z ++ i ∷ b) (sym e)) in
-      let m : Mem x a = subst (λ (z : List ℕ). Mem x z) e (inl refl) in
-      rw (ne-eqb i (s .hd (s .mk i)) (λ k. not-left x m (sym (k ∙ h)))) h
+  new-seg : Seg (t .nx) (t .pv) new (a ++ b) nobody
+  new-seg = seg-join (t .nx) (t .pv) new nobody a b (new-left a refl) (new-right b refl)
 
   old-mem : (j : ℕ) → j ≢ i → Mem j (L (s .mk i)) → Member P n t (s .mk i) j
   old-mem j d m =

@@ -5,8 +5,8 @@ use mathlib.Core.List.{List, [], _∷_, _++_}
 use Prim.Native.Nat.{ℕ}
 use native.Mathlib.Omega.{arith}
 use lib.ListN.{length, length-append}
-use Rattle.links.specs.Lists.{nobody, Mem, firstD}
-use Rattle.links.proofs.laws.Lists.{Nodup, lastD, mem-split, mem-right, mem-cast, mem-last}
+use Rattle.links.specs.Lists.{nobody, Mem, firstD, lastD}
+use Rattle.links.proofs.laws.Lists.{Nodup, mem-split, mem-right, mem-cast, mem-last}
 use Rattle.links.specs.Segments.{Seg}
 
 -- ---- parts and wholes

@@ -6,7 +6,7 @@ use Prim.Native.Nat.{ℕ, zero, suc, _≤_}
 use native.Mathlib.Omega.{arith}
 use lib.ListN.{length}
 use borrow.Author.Tests.{eq-eqb, ne-eqb}
-use Rattle.links.specs.Lists.{nobody, Mem, firstD}
+use Rattle.links.specs.Lists.{nobody, Mem, firstD, lastD}
 use Rattle.links.specs.Segments.{Seg}
 use Rattle.links.specs.Family.{Net, Fam}
 use Rattle.links.proofs.laws.Family.{fam-some, fam-nodup}
@@ -29,5 +29,5 @@ pub fam-lists : {P n : ℕ} {s : Net} {L : ℕ → List ℕ} → Fam P n s L →
 unfolding lists
 fam-lists {P} {n} {s} {L} F =
     fun-ext (λ p.
-    walk-is (s .nx) (s .pv) nobody (L p) n (s .hd p) (F .heads p) (F .segs p) (fam-some F p)
+    walk-is (s .nx) (s .pv) (lastD nobody (L p)) (L p) n (s .hd p) (F .heads p) (F .segs p) (fam-some F p)
     (length-below (L p) n (fam-nodup F p) (λ i m. F .mems p i m .below)))

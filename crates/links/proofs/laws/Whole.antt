@@ -1,7 +1,8 @@
--- Words that hold a family of lists (`Whole`), and what `joined` and `cutOut` make of them: one list changes, every other stays, the family is whole.
+-- Words that hold a family of lists (`Whole`), and what `joined`, `added` and `cutOut` make of them: one list changes, every other stays, the family is
+-- whole.
 use mathlib.Core.Path.{_≡_, refl, _∙_}
 use mathlib.Core.Logic.{_≢_, _⊎_, inl, inr, by-cases}
-use mathlib.Core.List.{List, _∷_}
+use mathlib.Core.List.{List, [], _∷_, _++_}
 use mathlib.Core.Bool.{true}
 use Prim.Native.Nat.{ℕ, _≤_, _<_}
 use native.Mathlib.Omega.{arith}
@@ -9,17 +10,17 @@ use native.Mathlib.Decide.{ℕ-discrete}
 use lib.ListN.{length, set, length-set}
 use lib.Seq.{getD-set-same, getD-set-other}
 use borrow.Author.Tests.{eq-eqb, ne-eqb}
-use Rattle.links.specs.Lists.{nobody, Mem, without, change}
+use Rattle.links.specs.Lists.{nobody, Mem, lastD, without, change}
 use Rattle.links.proofs.laws.Lists.{mem-first}
-use Rattle.links.proofs.laws.Segments.{seg-next, seg-prev}
-use Rattle.links.specs.Family.{Fam}
-use Rattle.links.proofs.laws.Family.{Upd, Put, fam-marked}
-use Rattle.links.proofs.laws.Insert.{fam-push}
+use Rattle.links.proofs.laws.Segments.{seg-next}
+use Rattle.links.specs.Family.{Fam, tailOr, linkBefore, linkAfter}
+use Rattle.links.proofs.laws.Family.{Upd, Put, fam-marked, fam-before}
+use Rattle.links.proofs.laws.Insert.{Between, fam-push, fam-add}
 use Rattle.links.proofs.laws.Remove.{fam-unlink}
 use Rattle.links.specs.Walk.{lists}
 use Rattle.links.proofs.laws.Walk.{fam-lists}
 use Rattle.links.proofs.laws.Judge.{judge, judge-sound, judge-complete}
-use Rattle.links.specs.Links.{Links, at, net, setN, joined, cutOut, headAfter, Room, Inside, CanJoin, CanCut}
+use Rattle.links.specs.Links.{Links, at, net, setN, between, joined, added, headWith, cutOut, headAfter, Room, Inside, CanJoin, CanCut}
 use Rattle.links.specs.Whole.{listsOf, Whole, Kept, LinksKept}
 
 -- t with the heads hd′ is whole, its lists are those of s but for p's, which is l, and words past n records are as they were
@@ -84,9 +85,19 @@ module _ {P n : ℕ} {hd : ℕ → ℕ} {s : Links} (W : Whole P n hd s) where
   abbrev L : ℕ → List ℕ
   L = listsOf n hd s
 
+  head-in : (p : ℕ) → hd p ≢ nobody → Mem (hd p) (L p)
+  head-in p h = rw (W .fam .heads p) (mem-first nobody (L p) (λ e. h (W .fam .heads p ∙ e)))
+
   -- a head is nobody or a record
   pub head-below : (p : ℕ) → hd p ≢ nobody → hd p < n
-  head-below p h = W .fam .mems p (hd p) (rw (W .fam .heads p) (mem-first nobody (L p) (λ e. h (W .fam .heads p ∙ e)))) .below
+  head-below p h = W .fam .mems p (hd p) (head-in p h) .below
+
+  -- and so is a tail
+  tail-below : (p : ℕ) → tailOr nobody (at (s .prevs)) (hd p) ≢ nobody → tailOr nobody (at (s .prevs)) (hd p) < n
+  tail-below p =
+      by-cases (ℕ-discrete (hd p) nobody)
+      (λ e. rw (eq-eqb (hd p) nobody e) (λ h. absurd (h refl)))
+      (λ d. rw (ne-eqb (hd p) nobody d) (λ h. W .fam .mems p (at (s .prevs) (hd p)) (fam-before (W .fam) p (hd p) (head-in p d)) .below))
 
   pub can-join : (p i : ℕ) → i < n → CanJoin s i (hd p)
   can-join p i hi =
@@ -95,32 +106,67 @@ module _ {P n : ℕ} {hd : ℕ → ℕ} {s : Links} (W : Whole P n hd s) where
         prev = omega arith;
         mark = omega arith;
         first = λ h. omega (arith, head-below p h);
+        last = λ h. omega (arith, tail-below p h);
+      }
+
+  -- what both ends have in common: i comes between the tail and the head
+  prevs-kept : (p i : ℕ) → i < n → Kept n (s .prevs) (between (s .prevs) i (hd p))
+  unfolding between
+  prevs-kept p i hi = kept-trans (kept-set n (s .prevs) i _ hi) (kept-setN n (set (s .prevs) i _) (hd p) i (head-below p))
+
+  stands : (p i : ℕ) → i < n → (hd′ : ℕ → ℕ) (ns : List ℕ)
+      → Between (net hd s) p i (net hd′ (record { nexts = ns; prevs = between (s .prevs) i (hd p); marks = set (s .marks) i p }))
+  unfolding between
+  stands p i hi hd′ ns =
+      let C = can-join p i hi in
+      let v = tailOr i (at (s .prevs)) (hd p) in
+      record {
+        pv₁ = at (set (s .prevs) i v);
+        prev = upd-set (s .prevs) i v (C .prev);
+        prev-first = put-setN (set (s .prevs) i v) (hd p) i (λ h. simp length-set (C .first h));
+        mark = upd-set (s .marks) i p (C .mark);
       }
 
   join-kept : (p i : ℕ) → i < n → LinksKept n s (joined s p i (hd p))
   unfolding joined
   join-kept p i hi =
-      record {
-        nexts = kept-set n (s .nexts) i (hd p) hi;
-        prevs = kept-trans (kept-set n (s .prevs) i nobody hi) (kept-setN n (set (s .prevs) i nobody) (hd p) i (head-below p));
-        marks = kept-set n (s .marks) i p hi;
-      }
+      record { nexts = kept-set n (s .nexts) i (hd p) hi; prevs = prevs-kept p i hi; marks = kept-set n (s .marks) i p hi }
 
   -- the loose record i comes to the head of the list of p
   pub join-law : (p i : ℕ) → p < P → i < n → at (s .marks) i ≡ nobody → {hd′ : ℕ → ℕ} → Upd hd p i hd′
       → Changes P n hd s p (i ∷ L p) hd′ (joined s p i (hd p))
   unfolding joined
   join-law p i hp hi lo H =
-      let C = can-join p i hi in
       changed (W .room) (join-kept p i hi)
       (fam-push (W .fam) p i
       (record {
         head = H;
-        next = upd-set (s .nexts) i (hd p) (C .next);
-        pv₁ = at (set (s .prevs) i nobody);
-        prev = upd-set (s .prevs) i nobody (C .prev);
-        prev-first = put-setN (set (s .prevs) i nobody) (hd p) i (λ h. simp length-set (C .first h));
-        mark = upd-set (s .marks) i p (C .mark);
+        next = upd-set (s .nexts) i (hd p) (can-join p i hi .next);
+        between = stands p i hi _ (set (s .nexts) i (hd p));
+      })
+      hp hi lo)
+
+  add-kept : (p i : ℕ) → i < n → LinksKept n s (added s p i (hd p))
+  unfolding added
+  add-kept p i hi =
+      record {
+        nexts = kept-setN n (s .nexts) _ i (tail-below p);
+        prevs = prevs-kept p i hi;
+        marks = kept-set n (s .marks) i p hi;
+      }
+
+  -- the loose record i comes to the tail of the list of p
+  pub add-law : (p i : ℕ) → p < P → i < n → at (s .marks) i ≡ nobody → {hd′ : ℕ → ℕ} → Upd hd p (headWith i (hd p)) hd′
+      → Changes P n hd s p (L p ++ i ∷ []) hd′ (added s p i (hd p))
+  unfolding added headWith
+  add-law p i hp hi lo H =
+      let C = can-join p i hi in
+      changed (W .room) (add-kept p i hi)
+      (fam-add (W .fam) p i
+      (record {
+        head = H;
+        next-last = put-setN (s .nexts) (tailOr nobody (at (s .prevs)) (hd p)) i (C .last);
+        between = stands p i hi _ (setN (s .nexts) (tailOr nobody (at (s .prevs)) (hd p)) i);
       })
       hp hi lo)
 
@@ -135,50 +181,69 @@ module _ {P n : ℕ} {hd : ℕ → ℕ} {s : Links} (W : Whole P n hd s) where
     neighbour k (inl e) h = absurd (h e)
     neighbour k (inr m) h = W .fam .mems here k m .below
 
-    after-below : at (s .nexts) i ≢ nobody → at (s .nexts) i < n
-    after-below = neighbour (at (s .nexts) i) (seg-next (at (s .nexts)) (at (s .prevs)) nobody nobody (L here) (W .fam .segs here) i mine)
+    next-below : at (s .nexts) i ≢ nobody → at (s .nexts) i < n
+    next-below = neighbour (at (s .nexts) i) (seg-next (at (s .nexts)) (at (s .prevs)) (lastD nobody (L here)) nobody (L here) (W .fam .segs here) i mine)
 
-    before-below : at (s .prevs) i ≢ nobody → at (s .prevs) i < n
-    before-below = neighbour (at (s .prevs) i) (seg-prev (at (s .nexts)) (at (s .prevs)) nobody nobody (L here) (W .fam .segs here) i mine)
+    before-below : linkBefore (at (s .prevs)) i (hd here) ≢ nobody → linkBefore (at (s .prevs)) i (hd here) < n
+    before-below =
+        by-cases (ℕ-discrete i (hd here))
+        (λ e. rw (eq-eqb i (hd here) e) (λ h. absurd (h refl)))
+        (λ d. rw (ne-eqb i (hd here) d) (λ h. W .fam .mems here (at (s .prevs) i) (fam-before (W .fam) here i mine) .below))
 
-    pub can-cut : CanCut s i
+    after-below : linkAfter (at (s .nexts)) i (hd here) ≢ nobody → linkAfter (at (s .nexts)) i (hd here) < n
+    unfolding headAfter
+    after-below =
+        by-cases (ℕ-discrete (at (s .nexts) i) nobody)
+        (λ e.
+        by-cases (ℕ-discrete i (hd here))
+        (λ f. rw (eq-eqb (at (s .nexts) i) nobody e, eq-eqb i (hd here) f) (λ h. absurd (h e)))
+        (λ f. rw (eq-eqb (at (s .nexts) i) nobody e, ne-eqb i (hd here) f) (head-below here)))
+        (λ d. rw (ne-eqb (at (s .nexts) i) nobody d) next-below)
+
+    pub can-cut : CanCut s i (hd here)
     can-cut =
         record {
           next = omega arith;
           prev = omega arith;
           mark = omega arith;
-          after = λ h. omega (arith, after-below h);
           before = λ h. omega (arith, before-below h);
+          after = λ h. omega (arith, after-below h);
         }
 
-    cut-kept : LinksKept n s (cutOut s i)
+    next-kept : Kept n (s .nexts) (setN (s .nexts) (linkBefore (at (s .prevs)) i (hd here)) (at (s .nexts) i))
+    next-kept = kept-setN n (s .nexts) (linkBefore (at (s .prevs)) i (hd here)) (at (s .nexts) i) before-below
+
+    prev-kept : Kept n (s .prevs) (setN (s .prevs) (linkAfter (at (s .nexts)) i (hd here)) (at (s .prevs) i))
+    prev-kept = kept-setN n (s .prevs) (linkAfter (at (s .nexts)) i (hd here)) (at (s .prevs) i) after-below
+
+    cut-kept : LinksKept n s (cutOut s i (hd here))
     unfolding cutOut
     cut-kept =
         record {
-          nexts = kept-trans (kept-setN n (s .nexts) (at (s .prevs) i) (at (s .nexts) i) before-below) (kept-set n _ i nobody hi);
-          prevs = kept-trans (kept-setN n (s .prevs) (at (s .nexts) i) (at (s .prevs) i) after-below) (kept-set n _ i nobody hi);
+          nexts = kept-trans next-kept (kept-set n _ i nobody hi);
+          prevs = kept-trans prev-kept (kept-set n _ i nobody hi);
           marks = kept-set n (s .marks) i nobody hi;
         }
 
     -- i leaves the list of its mark, and is loose
     pub cut-law : {hd′ : ℕ → ℕ} → Upd hd here (headAfter s i (hd here)) hd′
-        → Changes P n hd s here (without i (L here)) hd′ (cutOut s i)
+        → Changes P n hd s here (without i (L here)) hd′ (cutOut s i (hd here))
     unfolding cutOut headAfter
     cut-law H =
         let C = can-cut in
-        let ns = setN (s .nexts) (at (s .prevs) i) (at (s .nexts) i) in
-        let ps = setN (s .prevs) (at (s .nexts) i) (at (s .prevs) i) in
-        let kn = kept-setN n (s .nexts) (at (s .prevs) i) (at (s .nexts) i) before-below in
-        let kp = kept-setN n (s .prevs) (at (s .nexts) i) (at (s .prevs) i) after-below in
+        let ns = setN (s .nexts) (linkBefore (at (s .prevs)) i (hd here)) (at (s .nexts) i) in
+        let ps = setN (s .prevs) (linkAfter (at (s .nexts)) i (hd here)) (at (s .prevs) i) in
+        let kn = next-kept in
+        let kp = prev-kept in
         changed (W .room) cut-kept
         (fam-unlink (W .fam) i
         (record {
           head = H;
           nx₁ = at ns;
-          next = put-setN (s .nexts) (at (s .prevs) i) (at (s .nexts) i) (C .before);
+          next = put-setN (s .nexts) (linkBefore (at (s .prevs)) i (hd here)) (at (s .nexts) i) (C .before);
           next-own = upd-set ns i nobody (omega arith);
           pv₁ = at ps;
-          prev = put-setN (s .prevs) (at (s .nexts) i) (at (s .prevs) i) (C .after);
+          prev = put-setN (s .prevs) (linkAfter (at (s .nexts)) i (hd here)) (at (s .prevs) i) (C .after);
           prev-own = upd-set ps i nobody (omega arith);
           mark = upd-set (s .marks) i nobody (C .mark);
         })
@@ -186,9 +251,9 @@ module _ {P n : ℕ} {hd : ℕ → ℕ} {s : Links} (W : Whole P n hd s) where
 
 -- ---- the mark of one that was cut out
 
-pub mark-cut : {n : ℕ} {s : Links} → Room n s → (i : ℕ) → i < n → Upd (at (s .marks)) i nobody (at (cutOut s i .marks))
+pub mark-cut : {n : ℕ} {s : Links} → Room n s → (i h : ℕ) → i < n → Upd (at (s .marks)) i nobody (at (cutOut s i h .marks))
 unfolding cutOut
-mark-cut {n} {s} Z i hi = upd-set (s .marks) i nobody (omega arith)
+mark-cut {n} {s} Z i h hi = upd-set (s .marks) i nobody (omega arith)
 
 -- ---- the judge decides it, both ways; a number that is no place has no head
 

@@ -1,60 +1,71 @@
--- `walk_list` meets its contract: what a scan from here says is what it says from the head (`scan-go`, and a law for each way out).
+-- `walk_list` meets its contract: what a scan from here says is what it says from the head (`scan-start`, `scan-go`, and a law for each way out).
 use borrow.Author.Needs.{needs}
-use mathlib.Core.Path.{_≡_, sym, _∙_}
+use mathlib.Core.Path.{_≡_, refl, sym, _∙_}
 use Prim.Native.Nat.{_<_}
 use native.Mathlib.Omega.{arith}
 use Rattle.links.specs.Links.{at}
-use Rattle.links.specs.Judge.{scan}
-use Rattle.links.proofs.laws.Judge.{scan-end, scan-full, scan-far, scan-mark, scan-prev, scan-go}
+use Rattle.links.specs.Judge.{scan, scanList}
+use Rattle.links.proofs.laws.Judge.{scan-start, scan-end, scan-tail, scan-full, scan-far, scan-mark, scan-prev, scan-go}
 use Rattle.links.proofs.walk_list.Statement.{statement}
 use Rattle.links.proofs.walk_list.Tie as tie
 
 abbrev Inv-loop : tie.InvT-loop
-Inv-loop nexts prevs marks n place head room left₀ prev₀ item₀ left prev item =
+Inv-loop nexts prevs marks n place head room tail left₀ prev₀ item₀ left prev item =
     (item < 65536)
-    × (scan (at nexts) (at prevs) (at marks) n place left prev item ≡ scan (at nexts) (at prevs) (at marks) n place room 65535 head)
+    × (scan (at nexts) (at prevs) (at marks) n tail place left prev item ≡ scanList (at nexts) (at prevs) (at marks) n place room head)
 
 abbrev μ-loop : tie.MeasureT-loop
-μ-loop nexts prevs marks n place head room left₀ prev₀ item₀ left prev item = left
+μ-loop nexts prevs marks n place head room tail left₀ prev₀ item₀ left prev item = left
 
-abbrev to-else1 : tie.After-shared-slice-known Inv-loop μ-loop → tie.Else1 Inv-loop μ-loop
-to-else1 c = c .before .before
+abbrev turn : tie.After-shared-slice-known2 Inv-loop μ-loop → tie.In-loop Inv-loop μ-loop
+turn c = c .before .before .before
+
+returns : tie.Need-returns Inv-loop μ-loop
+returns c = sym (scan-end _ _ _ _ _ _ _ _ _ (c .if1 .taken) refl)
+
+returns-2 : tie.Need-returns-2 Inv-loop μ-loop
+returns-2 c = sym (scan-far _ _ _ _ _ _ _ _ _ (c .before .if1 .left) (c .if2 .taken))
+
+mul-tail : tie.Need-mul-tail Inv-loop μ-loop
+mul-tail c = search needs
+
+shared-slice-read-tail : tie.Need-shared-slice-read-tail Inv-loop μ-loop
+shared-slice-read-tail c = search needs
 
 loop-holds : tie.Need-loop-holds Inv-loop μ-loop
-loop-holds c = search needs
+loop-holds c = (omega arith, scan-start _ _ _ _ _ _ _ (c .before .before .if1 .left))
 
 cast-k : tie.Need-cast-k Inv-loop μ-loop
 cast-k c = search needs
 
-returns : tie.Need-returns Inv-loop μ-loop
-returns c =
-    sym (scan-full _ _ _ _ _ _ _ _ (c .before .loop-test .taken) (c .if1 .taken)) ∙ c .before .before .loop .inv .1
-
-returns-2 : tie.Need-returns-2 Inv-loop μ-loop
-returns-2 c =
-    sym (scan-far _ _ _ _ _ _ _ _ (c .before .before .loop-test .taken) (c .if2 .taken)) ∙ c .before .before .before .loop .inv .1
-
-mul-if3 : tie.Need-mul-if3 Inv-loop μ-loop
-mul-if3 c = search needs
-
-shared-slice-read-if3 : tie.Need-shared-slice-read-if3 Inv-loop μ-loop
-shared-slice-read-if3 c = search needs
-
 returns-3 : tie.Need-returns-3 Inv-loop μ-loop
-returns-3 c =
-    let in-loop = c .before .before .before .before in
-    sym (scan-mark _ _ _ _ _ _ _ _ (in-loop .loop-test .taken) (c .if3 .taken)) ∙ in-loop .before .loop .inv .1
-
-mul-if4 : tie.Need-mul-if4 Inv-loop μ-loop
-mul-if4 c = search needs
-
-shared-slice-read-if4 : tie.Need-shared-slice-read-if4 Inv-loop μ-loop
-shared-slice-read-if4 c = search needs
+returns-3 c = sym (scan-full _ _ _ _ _ _ _ _ _ (c .before .loop-test .taken) (c .if3 .taken)) ∙ c .before .before .loop .inv .1
 
 returns-4 : tie.Need-returns-4 Inv-loop μ-loop
 returns-4 c =
-    let in-loop = to-else1 (c .before .before .before) .before in
-    sym (scan-prev _ _ _ _ _ _ _ _ (in-loop .loop-test .taken) (c .if4 .taken)) ∙ in-loop .before .loop .inv .1
+    sym (scan-far _ _ _ _ _ _ _ _ _ (c .before .before .loop-test .taken) (c .if4 .taken)) ∙ c .before .before .before .loop .inv .1
+
+mul-if5 : tie.Need-mul-if5 Inv-loop μ-loop
+mul-if5 c = search needs
+
+shared-slice-read-if5 : tie.Need-shared-slice-read-if5 Inv-loop μ-loop
+shared-slice-read-if5 c = search needs
+
+returns-5 : tie.Need-returns-5 Inv-loop μ-loop
+returns-5 c =
+    let in-loop = turn (c .before) in
+    sym (scan-mark _ _ _ _ _ _ _ _ _ (in-loop .loop-test .taken) (c .if5 .taken)) ∙ in-loop .before .loop .inv .1
+
+mul-if6 : tie.Need-mul-if6 Inv-loop μ-loop
+mul-if6 c = search needs
+
+shared-slice-read-if6 : tie.Need-shared-slice-read-if6 Inv-loop μ-loop
+shared-slice-read-if6 c = search needs
+
+returns-6 : tie.Need-returns-6 Inv-loop μ-loop
+returns-6 c =
+    let in-loop = turn (c .before .before .before) in
+    sym (scan-prev _ _ _ _ _ _ _ _ _ (in-loop .loop-test .taken) (c .if6 .taken)) ∙ in-loop .before .loop .inv .1
 
 sub-left : tie.Need-sub-left Inv-loop μ-loop
 sub-left c = search needs
@@ -70,15 +81,18 @@ loop-less c = search needs
 
 loop-again : tie.Need-loop-again Inv-loop μ-loop
 loop-again c =
-    let in-loop = to-else1 (c .before .before .before .before) .before in
-    let turn = in-loop .before in (
-      omega (arith, c .shared-slice-known3 .given (turn .loop .item)),
-      sym (scan-go _ _ _ _ _ _ _ _ (in-loop .loop-test .taken) (omega arith) (omega arith) (c .before .before .before .if3 .left) (c .before .if4 .left))
-          ∙ turn .loop .inv .1,
+    let in-loop = turn (c .before .before .before .before) in
+    let at-loop = in-loop .before in (
+      omega (arith, c .shared-slice-known4 .given (at-loop .loop .item)),
+      sym (scan-go _ _ _ _ _ _ _ _ _ (in-loop .loop-test .taken) (omega arith) (omega arith) (c .before .before .before .if5 .left) (c .before .if6 .left))
+          ∙ at-loop .loop .inv .1,
     )
 
-returns-5 : tie.Need-returns-5 Inv-loop μ-loop
-returns-5 c = sym (scan-end _ _ _ _ _ _ _ _ (c .loop-test .left)) ∙ c .before .loop .inv .1
+returns-7 : tie.Need-returns-7 Inv-loop μ-loop
+returns-7 c = sym (scan-tail _ _ _ _ _ _ _ _ _ (c .before .loop-test .left) (c .if7 .taken)) ∙ c .before .before .loop .inv .1
+
+returns-8 : tie.Need-returns-8 Inv-loop μ-loop
+returns-8 c = sym (scan-end _ _ _ _ _ _ _ _ _ (c .before .loop-test .left) (c .if7 .left)) ∙ c .before .before .loop .inv .1
 
 pub walk-list-spec : {M : Type 1} → statement M
 walk-list-spec =
@@ -86,19 +100,24 @@ walk-list-spec =
     (tie.spec
     Inv-loop
     μ-loop
-    loop-holds
-    cast-k
     returns
     returns-2
-    mul-if3
-    shared-slice-read-if3
+    mul-tail
+    shared-slice-read-tail
+    loop-holds
+    cast-k
     returns-3
-    mul-if4
-    shared-slice-read-if4
     returns-4
+    mul-if5
+    shared-slice-read-if5
+    returns-5
+    mul-if6
+    shared-slice-read-if6
+    returns-6
     sub-left
     mul-item
     shared-slice-read-item
     loop-less
     loop-again
-    returns-5)
+    returns-7
+    returns-8)

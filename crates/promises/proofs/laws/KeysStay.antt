@@ -9,6 +9,7 @@ use native.Mathlib.Decide.{ℕ-discrete}
 use native.Mathlib.Omega.{arith}
 use borrow.Author.Tests.{ne-eqb}
 use Rattle.links.specs.Lists.{Mem, without, change}
+use Rattle.links.proofs.laws.Lists.{change-other}
 use Rattle.stack.specs.Places.{expired, free}
 use Rattle.wheel.specs.Wheel.{Lists}
 use Rattle.wheel.proofs.laws.Sums.{mem-kept, put-mem, hits}
@@ -34,16 +35,17 @@ key-is {v} {k} N = omega arith
 
 -- ---- a record that is not the one that moves
 
--- r stays pending in w, with its turn, value and deadline
+-- r stays pending in w, with its turn, value and deadline; on the expired stack if it was there
 pub record Stays (v w : View) (r : ℕ) : Type 0 where
   pub n : w .n ≡ v .n
   pub turn : w .turn r ≡ v .turn r
   pub value : w .value r ≡ v .value r
   pub deadline : w .deadline r ≡ v .deadline r
   pub waits : (p : ℕ) → At v r p → (q : ℕ) × At w r q
+  pub expired : Mem r (v .lists expired) → Mem r (w .lists expired)
 
 stays-same : (v : View) (r : ℕ) → Stays v v r
-stays-same v r = record { n = refl; turn = refl; value = refl; deadline = refl; waits = λ p a. (p, a) }
+stays-same v r = record { n = refl; turn = refl; value = refl; deadline = refl; waits = λ p a. (p, a); expired = λ m. m }
 
 stays-then : {u v w : View} {r : ℕ} → Stays u v r → Stays v w r → Stays u w r
 stays-then A B =
@@ -53,6 +55,7 @@ stays-then A B =
       value = B .value ∙ A .value;
       deadline = B .deadline ∙ A .deadline;
       waits = λ p a. let b = A .waits p a in B .waits (b .0) (b .1);
+      expired = λ m. B .expired (A .expired m);
     }
 
 -- one list changes, and r stays in it
@@ -64,6 +67,7 @@ stays-lists v p l r h =
       value = refl;
       deadline = refl;
       waits = λ q a. (q, record { timed = a .timed; member = mem-kept (v .lists) p l q r h (a .member) });
+      expired = λ m. mem-kept (v .lists) p l expired r h m;
     }
 
 stays-left : (p i : ℕ) (v : View) (r : ℕ) → r ≢ i → Stays v (left p i v) r
@@ -79,6 +83,7 @@ stays-freed i v r d =
       value = rw (B .value);
       deadline = rw (B .deadline);
       waits = λ q a. (q, record { timed = a .timed; member = rw (B .lists q (a .timed)) (a .member) });
+      expired = λ m. rw (B .lists expired (omega arith)) m;
     }
 
 stays-placed : (i when : ℕ) (v : View) (r : ℕ) → r ≢ i → Stays v (placed i when v) r
@@ -99,6 +104,7 @@ stays-placed i when v r d =
               (λ m. put-mem p i r (v .lists p) (inr m)) (a .member);
         },
       );
+      expired = λ m. mem-kept (v .lists) p _ expired r (λ n. put-mem p i r (v .lists p) (inr n)) m;
     }
 
 stays-taken : (v : View) {i : ℕ} {l : List ℕ} (value : ℕ) → v .lists free ≡ i ∷ l → (r : ℕ) → r ≢ i
@@ -117,6 +123,7 @@ stays-taken v {i} {l} value e r d =
               (λ m. ⊎-elim (λ z. absurd (d z)) (λ k. k) (rw e at m)) (a .member);
         },
       );
+      expired = λ m. rw (change-other (v .lists) free l expired (omega arith)) m;
     }
 
 stays-wheel : {v : View} {now m n e : ℕ} {o : Option ℕ} {L : Lists} → v .lists expired ≡ []
@@ -132,6 +139,7 @@ stays-wheel {v} x P r z =
           by-cases (ℕ-discrete p expired)
           (λ e. absurd (rw (e, x) at (a .member)))
           (λ d. let b = waits-on P r z (p, omega arith, a .member) in (b .0, record { timed = omega arith; member = b .2 }));
+      expired = λ m. absurd (rw x at m);
     }
 
 -- ---- one call

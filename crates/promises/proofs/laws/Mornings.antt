@@ -11,6 +11,7 @@ use Rattle.times.proofs.laws.Levels.{levels-of-01}
 use Rattle.links.specs.Lists.{change}
 use Rattle.links.proofs.laws.Lists.{change-same, change-other}
 use Rattle.stack.specs.Places.{slotPlace, slots, expired, free, put}
+use Rattle.stack.proofs.laws.Places.{put-empty}
 use Rattle.wheel.specs.Wheel.{Lists, placeFor, FirstSlot, arrive, Drains, drained, moved, Polls, early, drain}
 use Rattle.wheel.proofs.laws.Next.{first-one, first-not-empty}
 use Rattle.wheel.proofs.laws.One.{polls-one}
@@ -66,10 +67,9 @@ only-first {L} {x} e k s hk h hs O =
 
 -- it comes to an empty wheel
 only-put : (L : Lists) (p x : ℕ) → p < slots → ((q : ℕ) → q < slots → L q ≡ []) → Only (change L p (put p x (L p))) p x
-unfolding put
 only-put L p x hp E =
     record {
-      here = change-same L p (put p x (L p)) ∙ ap (λ l. put p x l) (E p hp);
+      here = change-same L p (put p x (L p)) ∙ ap (put p x) (E p hp) ∙ put-empty p x;
       else = λ q h d. change-other L p (put p x (L p)) q d ∙ E q h;
     }
 

@@ -1,8 +1,8 @@
 -- The order in which equal deadlines leave is that of the lists.
 use mathlib.Core.Path.{_≡_, refl, sym, ap, _∙_}
-use mathlib.Core.Logic.{_≢_, _⊎_, inl, inr, ⊎-elim, by-cases}
+use mathlib.Core.Logic.{_≢_, inl, inr, by-cases}
 use mathlib.Core.Bool.{Bool, true, false, cond, true≢false}
-use mathlib.Core.List.{List, [], _∷_, _++_, reverse, reverseAux, reverseAux-eq, reverse-reverse, nil≢cons}
+use mathlib.Core.List.{List, [], _∷_, _++_, append-nil, append-assoc, nil≢cons}
 use mathlib.Core.Option.{some}
 use Prim.Native.Nat.{ℕ, suc, _/_, _≤_, _<_}
 use native.Mathlib.Decide.{ℕ-discrete}
@@ -13,7 +13,8 @@ use Rattle.times.specs.Times.{slotOf}
 use Rattle.times.proofs.laws.Quotients.{slot-lt}
 use Rattle.links.specs.Lists.{Mem, change}
 use Rattle.links.proofs.laws.Lists.{change-same, change-other}
-use Rattle.stack.specs.Places.{slotPlace, slots, expired, put, levelAt}
+use Rattle.stack.specs.Places.{slotPlace, slots, expired, free, put, levelAt}
+use Rattle.stack.proofs.laws.Places.{put-tail}
 use Rattle.wheel.specs.Wheel.{Lists, FirstSlot, arrive, Drains, drained, moved, Polls, out, drain}
 use Rattle.wheel.specs.Between.{Between}
 use Rattle.wheel.proofs.laws.Between.{rule-between, place-level}
@@ -29,23 +30,13 @@ use Rattle.queue.specs.Steps.{QueuePolls, polled, popped, handed, nothing}
 use Rattle.records.specs.Words.{QueueWords, elapsed, view, Sound}
 use Rattle.delay_queue.specs.Claims.{PollClaim}
 use Rattle.promises.proofs.laws.Polling.{none-out, freed-beside, one-list, key-of-names}
-use Rattle.promises.specs.Order.{keep, ofDeadline, goesTo, turned, PollOrder}
-
--- ---- what is said
-
--- so at an even level the order is that of the list, and at an odd one the reverse
-pub turned-two : (k : ℕ) (l : List ℕ) → turned (suc (suc k)) l ≡ turned k l
-turned-two k l = ap (turned k) (reverse-reverse l)
+use Rattle.promises.specs.Order.{keep, ofDeadline, goesTo, PollOrder}
 
 -- ---- lists
 
-turn-cond : (b : Bool) (x : ℕ) (xs ys : List ℕ) → reverseAux xs (cond b (x ∷ ys) ys) ≡ reverseAux (cond b (x ∷ xs) xs) ys
-turn-cond true x xs ys = refl
-turn-cond false x xs ys = refl
-
-keep-turn : (f : ℕ → Bool) (xs ys : List ℕ) → keep f (reverseAux xs ys) ≡ reverseAux (keep f xs) (keep f ys)
-keep-turn f [] ys = refl
-keep-turn f (x ∷ xs) ys = keep-turn f xs (x ∷ ys) ∙ turn-cond (f x) x (keep f xs) (keep f ys)
+add-cond : (b : Bool) (x : ℕ) (xs ys : List ℕ) → cond b (xs ++ x ∷ []) xs ++ ys ≡ xs ++ cond b (x ∷ ys) ys
+add-cond true x xs ys = append-assoc xs (x ∷ []) ys
+add-cond false x xs ys = refl
 
 keep-none : (f : ℕ → Bool) (l : List ℕ) → ((x : ℕ) → f x ≡ false) → keep f l ≡ []
 keep-none f [] h = refl
@@ -73,48 +64,42 @@ mem-keep f y (x ∷ l) m = by (f x) refl m (mem-keep f y l)
     by true e (inr h) ih = let r = ih h in (inr (r .0), r .1)
     by false e h ih = let r = ih h in (inr (r .0), r .1)
 
-mem-turn : (y : ℕ) (xs ys : List ℕ) → Mem y (reverseAux xs ys) → Mem y xs ⊎ Mem y ys
-mem-turn y [] ys m = inr m
-mem-turn y (x ∷ xs) ys m =
-    ⊎-elim (λ h. inl (inr h)) (λ h. ⊎-elim (λ e. inl (inl e)) (λ k. inr k) h) (mem-turn y xs (x ∷ ys) m)
-
 -- ---- a drain
 
 module _ (d : ℕ → ℕ) (k h : ℕ) (level : h / 64 ≡ suc k) (below : h < slots) where
   -- one move
-  move-order : (L : Lists) (x : ℕ) (l : List ℕ) (r : ℕ) → r ≢ h → arrive k (d x) x (change L h l) r ≡ cond (goesTo d k r x) (x ∷ L r) (L r)
-  unfolding arrive put
+  move-order : (L : Lists) (x : ℕ) (l : List ℕ) (r : ℕ) → r ≢ h → arrive k (d x) x (change L h l) r ≡ cond (goesTo d k r x) (L r ++ x ∷ []) (L r)
+  unfolding arrive
   move-order L x l r n =
       let q = slotPlace k (slotOf (d x) k) in
       let M = change L h l in
       let other : M r ≡ L r = change-other L h l r n in
       by-cases (ℕ-discrete q r)
-      (λ e. rw (eq-eqb q r e, e) (change-same M r (put r x (M r)) ∙ ap (put r x) other))
+      (λ e.
+      let timed : r ≢ free = omega (arith, e, slot-lt (d x) k, level, below) in
+      rw (eq-eqb q r e, e) (change-same M r (put r x (M r)) ∙ put-tail r x (M r) timed ∙ ap (λ (a : List ℕ). a ++ x ∷ []) other))
       (λ e. rw (ne-eqb q r e) (change-other M q (put q x (M q)) r (λ z. e (sym z)) ∙ other))
 
-  drains-order : {L M : Lists} {m : ℕ} → Drains d k h L m M → (r : ℕ) → r ≢ h → M r ≡ reverseAux (keep (goesTo d k r) (L h)) (L r)
-  drains-order (drained {L} e) r n = rw e
-  drains-order (moved {L} {M} {m} {x} {l} e D) r n =
+  -- "drained entries now join a list's tail": those that go to one slot stand after what it held, in their order
+  pub drain-order : {L M : Lists} {m : ℕ} → Drains d k h L m M → (r : ℕ) → r ≢ h → M r ≡ L r ++ keep (goesTo d k r) (L h)
+  drain-order (drained {L} e) r n = rw e (sym (append-nil (L r)))
+  drain-order (moved {L} {M} {m} {x} {l} e D) r n =
       let f = goesTo d k r in
       let W = arrive k (d x) x (change L h l) in
       let a : W h ≡ l = move-rest d k h level below L x l e in
-      let b : W r ≡ cond (f x) (x ∷ L r) (L r) = move-order L x l r n in
-      cc (drains-order D r n, turn-cond (f x) x (keep f l) (L r))
-
-  -- "each entry, from the head, is moved to the head of its slot one level down": those that go to one slot stand before what it held, in reverse
-  pub drain-order : {L M : Lists} {m : ℕ} → Drains d k h L m M → (r : ℕ) → r ≢ h → M r ≡ reverse (keep (goesTo d k r) (L h)) ++ L r
-  drain-order {L} D r n = drains-order D r n ∙ reverseAux-eq (keep (goesTo d k r) (L h)) (L r)
+      let b : W r ≡ cond (f x) (L r ++ x ∷ []) (L r) = move-order L x l r n in
+      cc (drain-order D r n, add-cond (f x) x (L r) (keep f l))
 
 -- ---- a poll of the wheel
 
--- x, handed out, lay in the place: with as many reversals as its level, it is the first of its equals there, and the others come next, at level 0
+-- x, handed out, lay in the place and is the first of its equals there; the others come next, at level 0, in their order
 record Ordered (d : ℕ → ℕ) (L : Lists) (x : ℕ) (N : Lists) : Type 0 where
   place : ℕ
   below : place < slots
   member : Mem x (L place)
   slot : ℕ
   low : slot < 64
-  order : turned (levelAt place) (ofDeadline d (d x) (L place)) ≡ x ∷ ofDeadline d (d x) (N slot)
+  order : ofDeadline d (d x) (L place) ≡ x ∷ ofDeadline d (d x) (N slot)
 
 -- a drain, and what the rest of the poll does
 drained-order : {d : ℕ → ℕ} {e : ℕ} {L : Lists} → Between d e L → {k s : ℕ} → FirstSlot e L (suc k) s → {m : ℕ} {M : Lists}
@@ -130,29 +115,26 @@ drained-order {d} {e} {L} B {k} {s} F {m} {M} D {x} {N} O = by (ℕ-discrete (le
     not-here : O .place ≢ slotPlace (suc k) s
     not-here = λ z. rw (z, empty) at (O .member)
 
-    is : M (O .place) ≡ reverseAux (keep (goesTo d k (O .place)) (L (slotPlace (suc k) s))) (L (O .place))
-    is = drains-order d k (slotPlace (suc k) s) level (here-below B F) D (O .place) not-here
+    is : M (O .place) ≡ L (O .place) ++ keep (goesTo d k (O .place)) (L (slotPlace (suc k) s))
+    is = drain-order d k (slotPlace (suc k) s) level (here-below B F) D (O .place) not-here
 
     by : Dec (levelAt (O .place) ≡ k) → Ordered d L x N
     by (yes z) =
         let f = goesTo d k (O .place) in
         let w : ℕ → Bool = λ y. eqb (d y) (d x) in
         let l = L (slotPlace (suc k) s) in
-        let e₁ : M (O .place) ≡ reverse (keep f l) = is ∙ ap (reverseAux (keep f l)) (F .lowest (O .place) (omega arith)) in
-        let m₁ : Mem x (reverse (keep f l)) = rw e₁ at (O .member) in
-        let m₂ : Mem x (keep f l) = ⊎-elim (λ a. a) (λ a. absurd a) (mem-turn x (keep f l) [] m₁) in
-        let m₃ = mem-keep f x l m₂ in
+        let e₁ : M (O .place) ≡ keep f l = is ∙ ap (λ a. a ++ keep f l) (F .lowest (O .place) (omega arith)) in
+        let m₃ = mem-keep f x l (rw e₁ at (O .member)) in
         let same : (y : ℕ) → w y ≡ true → f y ≡ true
         = λ y g. let a : d y ≡ d x = eqb-true (d y) (d x) g in rw a (m₃ .1) in
-        let e₂ : keep w (M (O .place)) ≡ reverse (keep w l) = ap (keep w) e₁ ∙ keep-turn w (keep f l) []
-        ∙ ap reverse (keep-keep w f l same) in
+        let e₂ : keep w (M (O .place)) ≡ keep w l = ap (keep w) e₁ ∙ keep-keep w f l same in
         record {
           place = slotPlace (suc k) s;
           below = here-below B F;
           member = m₃ .0;
           slot = O .slot;
           low = O .low;
-          order = rw level (cc);
+          order = sym e₂ ∙ O .order;
         }
     by (no z) =
         let f = goesTo d k (O .place) in
@@ -161,7 +143,7 @@ drained-order {d} {e} {L} B {k} {s} F {m} {M} D {x} {N} O = by (ℕ-discrete (le
         = λ y.
         ne-eqb (slotPlace k (slotOf (d y) k)) (O .place)
         (λ g. z (ap (λ q. levelAt q) (sym g) ∙ place-level k (slotOf (d y) k) (slot-lt (d y) k))) in
-        let e₁ : M (O .place) ≡ L (O .place) = is ∙ ap (λ a. reverseAux a (L (O .place))) (keep-none f l nobody) in
+        let e₁ : M (O .place) ≡ L (O .place) = is ∙ ap (λ a. L (O .place) ++ a) (keep-none f l nobody) ∙ append-nil (L (O .place)) in
         record {
           place = O .place;
           below = O .below;
@@ -183,8 +165,7 @@ polls-order {d} B (out {e} {s} {x} {L} {l} F due is) =
       slot = p;
       low = omega arith;
       order =
-          ap (λ j. turned j (ofDeadline d (d x) (L p))) low
-          ∙ ap (ofDeadline d (d x)) is
+          ap (ofDeadline d (d x)) is
           ∙ ap (λ b. cond b (x ∷ ofDeadline d (d x) l) (ofDeadline d (d x) l)) (eq-eqb (d x) (d x) refl)
           ∙ ap (λ a. x ∷ ofDeadline d (d x) a) (sym (change-same L p l));
     }
@@ -203,7 +184,7 @@ polls-head {x = x} (drain {k = k} F due D r) p low m one = absurd (rw (F .lowest
 
 module _ {s : QueueWords} (S : Sound s) where
   -- the key of a pending record names it, and it alone, in its place
-  names-it : {i q k r p : ℕ} → At (view s) i q → keyOf (view s) i ≡ k → Names (view s) k r p → (i ≡ r) × (q ≡ p)
+  pub names-it : {i q k r p : ℕ} → At (view s) i q → keyOf (view s) i ≡ k → Names (view s) k r p → (i ≡ r) × (q ≡ p)
   names-it a e N = names-one S (rw e at (key-of-names S a)) N
 
   module _ {now : ℕ} (not-back : elapsed s ≤ now) where

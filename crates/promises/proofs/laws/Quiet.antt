@@ -1,6 +1,6 @@
 -- A store where nothing is pending: there is one, and a poll takes it to any time. So the mornings and the refusals have stores to speak of. And stores
 -- where a timer has expired, alone or with another on the wheel.
-use mathlib.Core.Path.{_≡_, refl, sym, ap, _∙_}
+use mathlib.Core.Path.{_≡_, refl, sym, ap, _∙_, subst}
 use mathlib.Core.List.{List, [], _∷_, nil≢cons}
 use mathlib.Core.Option.{Option·some-ne-none}
 use mathlib.Core.Logic.{_≢_, inl}
@@ -11,10 +11,12 @@ use Rattle.times.specs.Times.{width, slotOf, levelBelow, levelOf}
 use Rattle.links.specs.Lists.{Mem, change}
 use Rattle.links.proofs.laws.Lists.{change-same, change-other}
 use Rattle.stack.specs.Places.{expired, free, put}
+use Rattle.stack.proofs.laws.Places.{put-empty}
 use Rattle.stack.specs.Format.{formatted, range}
 use Rattle.stack.proofs.laws.Whole as stack-laws
 use Rattle.wheel.specs.Wheel.{idle, placeFor}
 use Rattle.wheel.proofs.laws.One.{polls-one}
+use Rattle.wheel.proofs.laws.Sums.{put-mem}
 use Rattle.queue.specs.declared.Answer.{Answer}
 use Rattle.queue.specs.Told.{Told}
 use Rattle.records.specs.View.{View, withValue, upd}
@@ -80,12 +82,12 @@ quiet-shown e = let m = poll-met one e in (m .1, quiet-poll one-quiet (omega ari
 
 placed-expired : (v : View) (x when : ℕ) → when ≤ v .elapsed → v .lists expired ≡ []
     → (placed x when v .elapsed ≡ v .elapsed) × (placed x when v .lists expired ≡ x ∷ [])
-unfolding placed target put
+unfolding placed target
 placed-expired v x when h e =
     let w : max when (v .elapsed) ≡ v .elapsed = omega arith in (
       refl,
       rw (w, eq-eqb (v .elapsed) (v .elapsed) refl)
-          (change-same (v .lists) expired (put expired x (v .lists expired)) ∙ ap (λ l. x ∷ l) e),
+          (change-same (v .lists) expired (put expired x (v .lists expired)) ∙ ap (put expired x) e ∙ put-empty expired x),
     )
 
 -- one that is inserted with a deadline not past elapsed waits on the expired stack
@@ -122,13 +124,11 @@ record Came (s t : QueueWords) (x p : ℕ) (l : List ℕ) : Type 0 where
   sound : Sound t
   clock : elapsed t ≡ elapsed s
   left : view t .lists free ≡ l
-  after : List ℕ
-  here : view t .lists p ≡ x ∷ after
+  member : Mem x (view t .lists p)
   else : (q : ℕ) → q < free → q ≢ p → view t .lists q ≡ view s .lists q
 
 came : {s t : QueueWords} {a : Answer} {value when p x : ℕ} {l : List ℕ} → InsertClaim s value when a t → Sound s → view s .lists free ≡ x ∷ l
     → Takes (elapsed s) when → target (elapsed s) (max when (elapsed s)) ≡ p → p < free → Came s t x p l
-unfolding put
 came {s} {t} {value = value} {when = when} {p = p} {x = x} {l = l} I S f k e h =
     let A = I .good S .done x l f k in
     let v = withValue (upd (view s .value) x value) (taken l (view s)) in
@@ -138,10 +138,13 @@ came {s} {t} {value = value} {when = when} {p = p} {x = x} {l = l} I S f k e h =
       sound = A .sound;
       clock = ap (λ u. u .elapsed) (A .view) ∙ placed-clock x when v;
       left = ap (λ M. M free) is ∙ change-other L p (put p x (L p)) free (omega arith) ∙ change-same (view s .lists) free l;
-      after = L p;
-      here = ap (λ M. M p) is ∙ change-same L p (put p x (L p));
+      member = subst (λ M. Mem x (M p)) (sym is) (rw (change-same L p (put p x (L p))) (put-mem p x x (L p) (inl refl)));
       else = λ q g d. ap (λ M. M q) is ∙ change-other L p (put p x (L p)) q d ∙ change-other (view s .lists) free l q (omega arith);
     }
+
+some-first : (x : ℕ) (l : List ℕ) → Mem x l → (r : ℕ) × (k : List ℕ) × (l ≡ r ∷ k)
+some-first x [] m = absurd m
+some-first x (r ∷ k) m = (r, k, refl)
 
 -- two records, freshly formatted over words of 0
 two-made : (s : QueueWords) × Sound s × (elapsed s ≡ 0) × (view s .lists free ≡ 0 ∷ 1 ∷ [])
@@ -180,5 +183,5 @@ both-shown =
     let A = came (m .2) (two .1) (two .3) (λ h. rw (two .2)) (target-70 (elapsed (two .0)) (two .2)) (omega arith) in
     let n = insert-met (m .1) 0 0 in
     let B = came (n .2) (A .sound) (A .left) (λ h. absurd (omega arith)) (target-0 (elapsed (m .1))) (omega arith) in
-    let on : Mem 0 (view (n .1) .lists 65) = rw (B .else 65 (omega arith) (omega arith), A .here) (inl refl) in
-    (n .1, B .sound, (1, B .after, B .here), record { slot = omega arith; member = on })
+    let on : Mem 0 (view (n .1) .lists 65) = rw (B .else 65 (omega arith) (omega arith)) (A .member) in
+    (n .1, B .sound, some-first 1 (view (n .1) .lists expired) (B .member), record { slot = omega arith; member = on })

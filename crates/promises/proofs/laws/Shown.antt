@@ -13,7 +13,7 @@ use Rattle.stack.specs.Format.{over, formatted}
 use Rattle.stack.proofs.laws.Whole as stack-laws
 use Rattle.wheel.specs.Wheel.{placeFor}
 use Rattle.wheel.specs.Sums.{total}
-use Rattle.wheel.proofs.laws.Sums.{total-ext, total-more}
+use Rattle.wheel.proofs.laws.Sums.{total-ext, total-more, put-mem}
 use Rattle.wheel.specs.Drain.{heights}
 use Rattle.queue.specs.declared.Answer.{Answer}
 use Rattle.queue.specs.declared.Answer.the-variants as A
@@ -100,13 +100,12 @@ unfolding placed over
 waiting-turn = ap (λ v. v .turn 0) waiting-view
 
 waiting-at : At (view waiting) 0 65
-unfolding put
 waiting-at =
     record {
       timed = omega arith;
       member =
           let L = change (view one .lists) free [] in
-          let m : Mem 0 (change L 65 (put 65 0 (L 65)) 65) = rw (change-same L 65 (put 65 0 (L 65))) (inl refl) in
+          let m : Mem 0 (change L 65 (put 65 0 (L 65)) 65) = rw (change-same L 65 (put 65 0 (L 65))) (put-mem 65 0 0 (L 65) (inl refl)) in
           subst (λ M. Mem 0 (M 65)) (sym waiting-lists) m;
     }
 

@@ -15,6 +15,9 @@ abbrev μ-loop : tie.MeasureT-loop
 abbrev start : tie.After-loop Inv-loop μ-loop → tie.Start Inv-loop μ-loop
 start c = c .before .before .before .before
 
+sub-before : tie.Need-sub-before Inv-loop μ-loop
+sub-before c = search needs
+
 loop-holds : tie.Need-loop-holds Inv-loop μ-loop
 loop-holds c = fill-none _ _ _ _
 
@@ -75,6 +78,7 @@ format-spec =
     (tie.spec
     Inv-loop
     μ-loop
+    sub-before
     loop-holds
     cast-k
     mul-prevs

@@ -8,7 +8,7 @@ use native.Mathlib.Decide.{ℕ-discrete, decLt}
 use native.Mathlib.Numerals.{add-one}
 use lib.ListN.{length, set, length-set, getD-replicate}
 use lib.Seq.{getD-set-same, getD-set-other}
-use Rattle.links.specs.Lists.{nobody, Mem, firstD, change}
+use Rattle.links.specs.Lists.{nobody, Mem, firstD, lastD, change}
 use Rattle.links.proofs.laws.Lists.{change-same, change-other}
 use Rattle.links.specs.Segments.{Seg}
 use Rattle.links.specs.Family.{Net, Member, Fam}
@@ -59,6 +59,15 @@ unfolding range
 range-mem zero k i a b = absurd (omega arith)
 range-mem (suc m) k i a b = by-cases (ℕ-discrete i k) inl (λ d. inr (range-mem m (suc k) i (omega arith) (omega arith)))
 
+last-from : (m k d : ℕ) → 0 < m → lastD d (range m k) ≡ k + m - 1
+unfolding range
+last-from zero k d h = absurd (omega arith)
+last-from (suc zero) k d h = omega arith
+last-from (suc (suc m)) k d h = omega (arith, last-from (suc m) (suc k) k (omega arith))
+
+last-range : (n : ℕ) → 0 < n → lastD nobody (range n 0) ≡ n - 1
+last-range n h = omega (arith, last-from n 0 nobody h)
+
 -- ---- no heads
 
 no-shape : Shape noRows
@@ -91,9 +100,9 @@ module _ (n : ℕ) (ns ps ms : List ℕ) (some : 0 < n) (small : n ≤ nobody) (
       getD-set-other (over n (λ j. j + 1) ns) (n - 1) i nobody 0 (omega arith) ∙ over-at n (λ j. j + 1) ns (Z .nexts) i (omega arith)
       ∙ add-one i
 
-  prev : (i : ℕ) → i < n → s .pv i ≡ before i
+  prev : (i : ℕ) → i < n → s .pv i ≡ before n i
   unfolding formatted
-  prev i h = over-at n before ps (Z .prevs) i h
+  prev i h = over-at n (before n) ps (Z .prevs) i h
 
   mark : (i : ℕ) → i < n → s .mk i ≡ free
   unfolding formatted
@@ -117,16 +126,16 @@ module _ (n : ℕ) (ns ps ms : List ℕ) (some : 0 < n) (small : n ≤ nobody) (
           by-cases (ℕ-discrete p expired) (λ e. rw e) (λ k. head-past (record { n = n; expired = 65535; free = 0 }) noRows p (omega arith))
 
   -- the free list from k on
-  chain : (m k : ℕ) → k + m ≡ n → Seg (s .nx) (s .pv) (before k) (range m k) nobody
+  chain : (m k : ℕ) → k + m ≡ n → Seg (s .nx) (s .pv) (before n k) (range m k) nobody
   unfolding range
   chain zero k e = tt
   chain (suc zero) k e = let z : k ≡ n - 1 = omega arith in (prev k (omega arith), ap (s .nx) z ∙ last-next, tt)
   chain (suc (suc m)) k e = (prev k (omega arith), next k (omega arith), chain (suc m) (suc k) (omega arith))
 
-  segs : (p : ℕ) → Seg (s .nx) (s .pv) nobody (fresh p) nobody
+  segs : (p : ℕ) → Seg (s .nx) (s .pv) (lastD nobody (fresh p)) (fresh p) nobody
   segs p =
       by-cases (ℕ-discrete p free)
-      (λ e. rw (e, change-same) (chain n 0 (omega arith)))
+      (λ e. rw (e, change-same, last-range n some) (chain n 0 (omega arith)))
       (λ d. rw (change-other (λ q. []) free (range n 0) p d) tt)
 
   mems : (p i : ℕ) → Mem i (fresh p) → Member places n s p i
@@ -156,7 +165,7 @@ module _ (n : ℕ) (ns ps ms : List ℕ) (some : 0 < n) (small : n ≤ nobody) (
   format-kept =
       record {
         nexts = kept-trans (over-kept n n (λ i. i + 1) ns (omega arith)) (kept-set n (over n (λ i. i + 1) ns) (n - 1) nobody (omega arith));
-        prevs = over-kept n n before ps (omega arith);
+        prevs = over-kept n n (before n) ps (omega arith);
         marks = over-kept n n (λ i. free) ms (omega arith);
       }
 
@@ -173,16 +182,16 @@ module _ (n : ℕ) (ns ps ms : List ℕ) (some : 0 < n) (small : n ≤ nobody) (
 
 pub record Filling (n : ℕ) (ns ps ms : List ℕ) (i b : ℕ) (ns′ ps′ ms′ : List ℕ) : Type 0 where
   pub within : i ≤ n
-  pub last : b ≡ before i
+  pub last : b ≡ before n i
   pub nexts : ns′ ≡ over i (λ j. j + 1) ns
-  pub prevs : ps′ ≡ over i before ps
+  pub prevs : ps′ ≡ over i (before n) ps
   pub marks : ms′ ≡ over i (λ j. free) ms
   pub nexts-size : length ns′ ≡ length ns
   pub prevs-size : length ps′ ≡ length ps
   pub marks-size : length ms′ ≡ length ms
 
 module _ (n : ℕ) (ns ps ms : List ℕ) where
-  pub fill-none : Filling n ns ps ms 0 65535 ns ps ms
+  pub fill-none : Filling n ns ps ms 0 (n - 1) ns ps ms
   unfolding over
   fill-none =
       record {
@@ -201,9 +210,9 @@ module _ (n : ℕ) (ns ps ms : List ℕ) where
   fill-turn i b ns′ ps′ ms′ h F =
       record {
         within = omega arith;
-        last = sym (ap before (add-one i));
+        last = sym (ap (before n) (add-one i));
         nexts = rw (F .nexts) (sym (over-step i (λ j. j + 1) ns));
-        prevs = rw (F .last, F .prevs) (sym (over-step i before ps));
+        prevs = rw (F .last, F .prevs) (sym (over-step i (before n) ps));
         marks = rw (F .marks) (sym (over-step i (λ j. free) ms));
         nexts-size = length-set ns′ i (i + 1) ∙ F .nexts-size;
         prevs-size = length-set ps′ i b ∙ F .prevs-size;
@@ -216,9 +225,9 @@ module _ (n : ℕ) (ns ps ms : List ℕ) where
     all = omega arith
 
     pub fill-last : b ≡ n - 1
-    fill-last = F .last ∙ ap before all ∙ by n some
+    fill-last = F .last ∙ ap (before n) all ∙ by n some
       where
-        by : (m : ℕ) → 0 < m → before m ≡ m - 1
+        by : (m : ℕ) → 0 < m → before m m ≡ m - 1
         by zero h = absurd (omega arith)
         by (suc m) h = omega arith
 

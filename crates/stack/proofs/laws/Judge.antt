@@ -12,7 +12,7 @@ use Rattle.links.specs.Lists.{nobody}
 use Rattle.links.specs.declared.Walk.{Walk}
 use Rattle.links.specs.declared.Walk.the-variants.{Wrong, Left}
 use Rattle.links.specs.Links.{at, net}
-use Rattle.links.specs.Judge.{scan, looseOf, leaves}
+use Rattle.links.specs.Judge.{scanList, looseOf, leaves}
 use Rattle.links.proofs.laws.Judge.{judge, scan-end, wrong-left, left-inj, all-go, all-wrong, all-end}
 use Rattle.stack.specs.Places.{slotPlace, slots, places}
 use Rattle.stack.specs.Heads.{slotHead}
@@ -23,7 +23,7 @@ use Rattle.stack.specs.Judge.{from, held, WalksLevel, rest}
 
 -- the walk of one list
 abbrev pub walked : StackWords → ℕ → ℕ → ℕ → Walk
-walked t p left h = scan (at (t .links .nexts)) (at (t .links .prevs)) (at (t .links .marks)) (count t) p left 65535 h
+walked t p left h = scanList (at (t .links .nexts)) (at (t .links .prevs)) (at (t .links .marks)) (count t) p left h
 
 -- ---- place by place
 
@@ -42,7 +42,7 @@ module _ (t : StackWords) (p left : ℕ) where
 
   -- a place with no head
   pub judge-none : p < places → headAt t p ≡ nobody → from t p left ≡ from t (p + 1) left
-  judge-none hp z = judge-go (headAt t p) (Left left) hp refl (sym (scan-end _ _ _ (count t) p left nobody (headAt t p) z)) left refl
+  judge-none hp z = judge-go (headAt t p) (Left left) hp refl (sym (scan-end _ _ _ (count t) _ p left _ (headAt t p) z refl)) left refl
 
   pub judge-end : places ≤ p → from t p left ≡ Left left
   unfolding from

@@ -1,25 +1,28 @@
 -- What a client of this layer cites: words that hold the lists of the places (`Whole`), the lists that they hold (`lists`), and how each function
 -- changes them. One list changes, every other stays, the words stay whole, words past n records are kept.
 use mathlib.Core.Path.{_≡_, refl, sym, ap, _∙_, subst}
-use mathlib.Core.Logic.{_≢_, inl, ⊎-elim}
+use mathlib.Core.Logic.{_≢_, inl, ⊎-elim, by-cases}
 use mathlib.Core.List.{List, [], _∷_}
 use mathlib.Core.Bool.{true}
 use Prim.Native.Nat.{ℕ, _≤_, _<_}
 use native.Mathlib.Omega.{arith}
+use native.Mathlib.Decide.{ℕ-discrete}
 use borrow.Author.Tests.{eq-eqb, ne-eqb}
-use Rattle.links.specs.Lists.{nobody, Mem, firstD, without}
+use Rattle.links.specs.Lists.{nobody, Mem, firstD, lastD, without}
 use Rattle.links.proofs.laws.Lists.{Nodup, without-first}
-use Rattle.links.proofs.laws.Family.{fam-some, fam-nodup, fam-marked, fam-empty, fam-cons}
-use Rattle.links.specs.Links.{Links, net, Room, CanJoin, CanCut}
+use Rattle.links.proofs.laws.Family.{fam-some, fam-nodup, fam-marked, fam-empty, fam-cons, fam-tail}
+use Rattle.links.specs.Family.{tailOr}
+use Rattle.links.specs.Links.{Links, at, net, Room}
 use Rattle.links.proofs.laws.Judge.{cat, fam-length}
 use lib.ListN.{length}
 use Rattle.links.specs.Whole as links
 use Rattle.links.proofs.laws.Whole as links-laws
 use Rattle.links.proofs.laws.Fixed.{whole-fixed}
-use Rattle.stack.specs.Places.{slotPlace, places, put}
+use Rattle.stack.specs.Places.{slotPlace, free, places, put}
+use Rattle.stack.proofs.laws.Places.{put-free, put-tail}
 use Rattle.stack.specs.Heads.{Shape, slotHead}
 use Rattle.stack.proofs.laws.Heads.{slot-head, upd-head, count-with, shape-with, head-past, stacks-fixed, rows-fixed}
-use Rattle.stack.specs.Words.{StackWords, count, headAt, markOf, withHead, push, remove, pop, CanPop, CanPushSlot, CanPopSlot}
+use Rattle.stack.specs.Words.{StackWords, count, headAt, markOf, withHead, push, remove, pop, CanPush, CanRemove, CanPop, CanPushSlot, CanPopSlot}
 use Rattle.stack.proofs.laws.Words.{words-eq, judged}
 use Rattle.stack.specs.Whole.{Whole, lists, StackKept, Changes}
 
@@ -43,6 +46,11 @@ module _ {t : StackWords} (W : Whole t) where
   pub head-first : (p : ℕ) → headAt t p ≡ firstD nobody (lists t p)
   unfolding lists
   head-first p = W .held .fam .heads p
+
+  -- each list keeps a tail: the back link of its head, or nobody's where it is empty
+  pub tail-last : (p : ℕ) → tailOr nobody (at (t .links .prevs)) (headAt t p) ≡ lastD nobody (lists t p)
+  unfolding lists
+  tail-last p = fam-tail (W .held .fam) p nobody
 
   -- a member of the list of p is one of n records, p is a place and the member's mark
   pub member-below : (p i : ℕ) → Mem i (lists t p) → i < count t
@@ -82,10 +90,10 @@ module _ {t : StackWords} (W : Whole t) where
 
   -- ---- what the functions ask
 
-  pub can-push : (p i : ℕ) → p < places → i < count t → (p < places) × CanJoin (t .links) i (headAt t p)
+  pub can-push : (p i : ℕ) → p < places → i < count t → CanPush t p i
   can-push p i hp hi = (hp, links-laws.can-join (W .held) p i hi)
 
-  pub can-remove : (i : ℕ) → i < count t → markOf t i < places → (markOf t i < places) × CanCut (t .links) i
+  pub can-remove : (i : ℕ) → i < count t → markOf t i < places → CanRemove t i
   can-remove i hi hp = (hp, links-laws.can-cut (W .held) i hi hp)
 
   first-in : (p : ℕ) → headAt t p ≢ nobody → Mem (headAt t p) (lists t p)
@@ -115,7 +123,10 @@ module _ {t : StackWords} (W : Whole t) where
           level = hk;
           slot = hs;
           marked = λ d. rw here (member-mark (slotPlace k s) (headAt t (slotPlace k s)) (first-in (slotPlace k s) (λ z. d (here ∙ z))));
-          linked = λ d. rw here (C .linked (λ z. d (here ∙ z)));
+          linked = λ d.
+              let z : headAt t (slotPlace k s) ≢ nobody = λ z. d (here ∙ z) in
+              let m = member-mark (slotPlace k s) (headAt t (slotPlace k s)) (first-in (slotPlace k s) z) in
+              rw here (rw m at (C .linked z));
         }
 
   -- ---- how the functions change the lists
@@ -134,10 +145,16 @@ module _ {t : StackWords} (W : Whole t) where
 
   -- the loose record i comes into the list of p
   pub push-law : (p i : ℕ) → p < places → i < count t → markOf t i ≡ nobody → Changes t p (put p i (lists t p)) (push t p i)
-  unfolding push put lists
+  unfolding push lists
   push-law p i hp hi lo =
+      by-cases (ℕ-discrete p free)
+      (λ (e : p ≡ free).
       let C = links-laws.join-law (W .held) p i hp hi lo (upd-head (t .heads) (W .shape) (t .stacks) p i hp) in
-      changed p i (count-with (t .stacks) p i) C
+      let z : put p i (lists t p) ≡ i ∷ lists t p = rw e (put-free i (lists t free)) in
+      rw (z, eq-eqb p free e) (changed p i (count-with (t .stacks) p i) C))
+      (λ d.
+      let C = links-laws.add-law (W .held) p i hp hi lo (upd-head (t .heads) (W .shape) (t .stacks) p _ hp) in
+      rw (put-tail p i (lists t p) d, ne-eqb p free d) (changed p _ (count-with (t .stacks) p _) C))
 
   -- i leaves the list of its mark
   pub remove-law : (i : ℕ) → i < count t → markOf t i < places → Changes t (markOf t i) (without i (lists t (markOf t i))) (remove t i)
@@ -167,7 +184,7 @@ module _ {t : StackWords} (W : Whole t) where
 
   pub remove-mark : (i : ℕ) → i < count t → (markOf (remove t i) i ≡ nobody) × ((j : ℕ) → j ≢ i → markOf (remove t i) j ≡ markOf t j)
   unfolding remove
-  remove-mark i hi = let U = links-laws.mark-cut room i hi in (U .same, U .other)
+  remove-mark i hi = let U = links-laws.mark-cut room i (headAt t (markOf t i)) hi in (U .same, U .other)
 
   pub pop-mark : (p x : ℕ) (l : List ℕ) → lists t p ≡ x ∷ l → markOf (pop t p) x ≡ nobody
   unfolding pop

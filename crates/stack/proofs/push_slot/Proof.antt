@@ -10,8 +10,8 @@ start c =
     let a = c .before .before .before .before in
     a .before .before .before .before
 
-abbrev joined : tie.After-slice-known6 → tie.After-join
-joined c =
+abbrev added : tie.After-slice-known6 → tie.After-add
+added c =
     let a = c .before .before .before .before in
     a .before .before
 
@@ -30,8 +30,8 @@ index-2-head c = search needs
 slot-place-requires : tie.Need-slot-place-requires
 slot-place-requires c κs = search needs
 
-join-requires : tie.Need-join-requires
-join-requires c κs = search needs
+add-requires : tie.Need-add-requires
+add-requires c κs = search needs
 
 mul-heads : tie.Need-mul-heads
 mul-heads c = search needs
@@ -56,9 +56,9 @@ same-length-3 c = search needs
 
 returns : tie.Need-returns
 returns c =
-    let j = joined c in
+    let j = added c in
     let s = start (j .before) in
-    push-slot-is _ _ (s .pre .level) (s .pre .slot) _ _ _ _ (j .before .slot-place .ensures) refl (j .join .ensures)
+    push-slot-is _ _ (s .pre .level) (s .pre .slot) _ _ _ _ _ (j .before .slot-place .ensures) (j .add .ensures .0) refl (j .add .ensures .1)
 
 pub push-slot-spec : {M : Type 1} → statement M
 push-slot-spec =
@@ -69,7 +69,7 @@ push-slot-spec =
     index-1-head
     index-2-head
     slot-place-requires
-    join-requires
+    add-requires
     mul-heads
     mul-heads-2
     index-1-heads

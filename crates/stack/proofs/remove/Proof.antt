@@ -4,8 +4,13 @@ use Rattle.stack.proofs.laws.Words.{remove-is}
 use Rattle.stack.proofs.remove.Statement.{statement}
 use Rattle.stack.proofs.remove.Tie as tie
 
-abbrev looked : tie.After-cut → tie.After-head-of
-looked c = c .before .before .before .before
+abbrev start : tie.After-head-of → tie.Start
+start c =
+    let a = c .before .before .before .before in
+    a .before .before .before
+
+abbrev looked : tie.After-cut-arg3 → tie.After-head-of
+looked c = c .before .before .before
 
 abbrev cut : tie.After-set-head → tie.After-cut
 cut c =
@@ -23,7 +28,7 @@ head-of-requires : tie.Need-head-of-requires
 head-of-requires c κs = search needs
 
 cut-requires : tie.Need-cut-requires
-cut-requires c κs = search needs
+cut-requires c κs = rw (looked c .head-of .ensures) (start (looked c) .pre .1)
 
 set-head-requires : tie.Need-set-head-requires
 set-head-requires c κs = search needs
@@ -40,7 +45,7 @@ same-length-3 c = search needs
 returns : tie.Need-returns
 returns c =
     let k = cut c in
-    remove-is _ _ _ _ (looked k .head-of .ensures) (k .cut .ensures .0) (c .set-head .ensures .0) (c .set-head .ensures .1) (k .cut .ensures .1)
+    remove-is _ _ _ _ (looked (k .before) .head-of .ensures) (k .cut .ensures .0) (c .set-head .ensures .0) (c .set-head .ensures .1) (k .cut .ensures .1)
 
 pub remove-spec : {M : Type 1} → statement M
 remove-spec =

@@ -1,18 +1,19 @@
 -- Laws of sums of a weight over all that lie in the lists.
 use mathlib.Core.Path.{_≡_, refl, sym, ap, _∙_}
 use mathlib.Core.Logic.{_≢_, _⊎_, inl, inr, ⊎-elim, by-cases}
-use mathlib.Core.List.{List, [], _∷_}
+use mathlib.Core.List.{List, [], _∷_, _++_}
 use Prim.Native.Nat.{ℕ, zero, suc, _+_, _*_, _≤_, _<_}
 use native.Mathlib.Decide.{decLe, ℕ-discrete}
 use native.Mathlib.Omega.{arith}
 use lib.ListN.{length, length-append}
 use Rattle.links.specs.Lists.{Mem, change}
-use Rattle.links.proofs.laws.Lists.{change-same, change-other}
+use Rattle.links.proofs.laws.Lists.{mem-app, mem-left as mem-before, mem-right as mem-after, change-same, change-other}
 use Rattle.links.proofs.laws.Judge.{cat}
 use Rattle.links.specs.Count.{bit}
 use lib.Dec.{eqb}
 use borrow.Author.Tests.{eq-eqb, ne-eqb}
 use Rattle.stack.specs.Places.{put}
+use Rattle.stack.proofs.laws.Places.{put-either}
 use Rattle.wheel.specs.Wheel.{Lists}
 use Rattle.wheel.specs.Sums.{sumOf, total}
 
@@ -32,12 +33,12 @@ mem-kept L p l q x h m =
 
 -- one more, or one less
 pub mem-put : (p x y : ℕ) (l : List ℕ) → Mem y (put p x l) → (y ≡ x) ⊎ Mem y l
-unfolding put
-mem-put p x y l m = m
+mem-put p x y l m =
+    put-either p x l (λ k. Mem y k → (y ≡ x) ⊎ Mem y l) (λ k. k) (λ k. ⊎-elim inr (⊎-elim inl (λ z. absurd z)) (mem-app y l (x ∷ []) k)) m
 
 pub put-mem : (p x y : ℕ) (l : List ℕ) → (y ≡ x) ⊎ Mem y l → Mem y (put p x l)
-unfolding put
-put-mem p x y l m = m
+put-mem p x y l m =
+    put-either p x l (Mem y) m (⊎-elim (λ e. mem-after y l (x ∷ []) (inl e)) (mem-before y l (x ∷ [])) m)
 
 pub mem-joined : (L : Lists) (p x q y : ℕ) → Mem y (change L p (put p x (L p)) q) → ((q ≡ p) × (y ≡ x)) ⊎ Mem y (L q)
 mem-joined L p x q y m =
@@ -52,8 +53,11 @@ mem-left L p x l e q y m = ⊎-elim (λ a. rw (a .0, e) (inr (a .1))) (λ a. a .
 -- ---- sums
 
 pub sum-put : (u : ℕ → ℕ) (p x : ℕ) (l : List ℕ) → sumOf u (put p x l) ≡ u x + sumOf u l
-unfolding put
-sum-put u p x l = refl
+sum-put u p x l = put-either p x l (λ k. sumOf u k ≡ u x + sumOf u l) refl (end l)
+  where
+    end : (k : List ℕ) → sumOf u (k ++ x ∷ []) ≡ u x + sumOf u k
+    end [] = refl
+    end (y ∷ k) = omega (arith, end k)
 
 pub total-zero : (u : ℕ → ℕ → ℕ) (L : Lists) → total u 0 L ≡ 0
 unfolding total

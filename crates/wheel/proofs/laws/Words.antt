@@ -2,7 +2,7 @@
 use mathlib.Core.Path.{_≡_, refl, sym, ap, _∙_, subst}
 use mathlib.Core.Logic.{_≢_, inl, by-cases}
 use mathlib.Core.Bool.{true, false}
-use mathlib.Core.List.{List, [], _∷_, nil≢cons}
+use mathlib.Core.List.{List, [], _∷_, _++_, nil≢cons}
 use Prim.Native.Nat.{ℕ, _≤_, _<_}
 use native.Mathlib.Decide.{ℕ-discrete}
 use native.Mathlib.Omega.{arith}
@@ -12,9 +12,10 @@ use Rattle.times.proofs.laws.Quotients.{slot-lt}
 use Rattle.row.specs.Row.{flagAt}
 use Rattle.links.specs.Lists.{nobody, Mem, without, change}
 use Rattle.links.proofs.laws.Lists.{change-same}
-use Rattle.links.specs.Links.{at, CanJoin, CanCut}
+use Rattle.links.specs.Links.{at, CanJoin}
 use Rattle.stack.specs.Places.{slotPlace, slots, places, put}
-use Rattle.stack.specs.Words.{StackWords, push, pop, remove, headAt as headIn, CanPushSlot, CanPopSlot}
+use Rattle.stack.proofs.laws.Places.{put-either}
+use Rattle.stack.specs.Words.{StackWords, push, pop, remove, headAt as headIn, CanRemove, CanPushSlot, CanPopSlot}
 use Rattle.stack.specs.Heads.{slotHead}
 use Rattle.stack.proofs.laws.Heads.{slot-head}
 use Rattle.stack.specs.Whole as stack
@@ -43,8 +44,11 @@ module _ {t : WheelWords} {k i : ℕ} (C : CanAdd t k i) (w s : ℕ) (es : s ≡
   add-push = stack-laws.can-push-slot (C .whole .stack) k s (add-slot .0) (add-slot .1) i (C .item .below)
 
 put-filled : (p i : ℕ) (l : List ℕ) → true ≡ filled (put p i l)
-unfolding put
-put-filled p i l = refl
+put-filled p i l = put-either p i l (λ k. true ≡ filled k) refl (end l)
+  where
+    end : (k : List ℕ) → true ≡ filled (k ++ i ∷ [])
+    end [] = refl
+    end (x ∷ k) = refl
 
 pub add-law : {t : WheelWords} {k i : ℕ} → CanAdd t k i → (w s : ℕ) {x : ℕ} {u : StackWords} → s ≡ slotOf w k
     → u ≡ push (t .stack) (slotPlace k s) i → x ≡ flagRow (t .occupied) k s true
@@ -183,7 +187,7 @@ push-asks {t} {p} {i} C = stack-laws.can-push (C .whole .stack) p i (C .place) (
 
 -- ---- a record leaves whatever list it is in
 
-pub leave-asks : {t : WheelWords} {i : ℕ} → CanLeave t i → (markOf t i < places) × CanCut (t .stack .links) i
+pub leave-asks : {t : WheelWords} {i : ℕ} → CanLeave t i → CanRemove (t .stack) i
 leave-asks {t} {i} C = stack-laws.can-remove (C .whole .stack) i (C .below) (C .listed)
 
 module _ {t : WheelWords} {i : ℕ} (C : CanLeave t i) {u : StackWords} (eu : u ≡ remove (t .stack) i) where

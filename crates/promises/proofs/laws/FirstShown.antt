@@ -1,0 +1,258 @@
+-- What "First set, first out" asks can be met: in a store of two records two timers are set for one time and polled at it, and come out in turn.
+use mathlib.Core.Path.{_≡_, refl, sym, ap, _∙_}
+use mathlib.Core.Logic.{_≢_, inl, inr}
+use mathlib.Core.List.{List, [], _∷_}
+use Prim.Native.Nat.{ℕ, _≤_, _<_, max}
+use native.Mathlib.Omega.{arith}
+use Rattle.links.specs.Lists.{change}
+use Rattle.links.proofs.laws.Lists.{change-same, change-other}
+use Rattle.stack.specs.Places.{free, put}
+use Rattle.stack.specs.Format.{range}
+use Rattle.wheel.specs.Wheel.{Lists}
+use Rattle.queue.specs.declared.Answer.{Answer}
+use Rattle.queue.specs.Told.{told}
+use Rattle.queue.specs.Told as T
+use Rattle.records.specs.View.{withValue, upd}
+use Rattle.records.specs.Slices.{Fits}
+use Rattle.records.specs.Records.{keyOf, Takes, taken, target, placed}
+use Rattle.records.specs.Words.{QueueWords, words, elapsed, view, slices, Sound}
+use Rattle.queue.specs.Calls.{Answered}
+use Rattle.delay_queue.specs.declared.Call.the-variants as C
+use Rattle.delay_queue.specs.Claims.{CallClaim}
+use Rattle.promises.specs.Runs.{Asked, Runs, rest, next, All}
+use Rattle.promises.specs.Keys.{asked}
+use Rattle.promises.specs.KeysStay.{Out}
+use Rattle.promises.specs.KeysReach.{Reaches}
+use Rattle.promises.specs.Polling.{SaysOut, HandsLeast, PollLeast}
+use Rattle.promises.specs.First.{NotSet, storedOn, SetInTurn, SecondOut}
+use Rattle.promises.proofs.laws.Met.{format-met, insert-met, poll-met}
+use Rattle.promises.proofs.laws.OneCall.{call-sound}
+use Rattle.promises.proofs.laws.Polling.{key-of-names, poll-least, poll-clock}
+use Rattle.promises.proofs.laws.KeysOne.{target-timed}
+use Rattle.promises.proofs.laws.KeysStay.{key-is}
+use Rattle.promises.proofs.laws.KeysReach.{reaches-on, insert-reaches}
+use Rattle.promises.proofs.laws.First.{first-set-first-out, expired-first-out}
+
+-- ---- two records, freshly formatted
+
+abbrev pair : List ℕ
+pair = 0 ∷ 0 ∷ []
+
+abbrev blank : QueueWords
+blank = words (record { elapsed = 0; occupied = []; stacks = record { n = 0; expired = 0; free = 0 } }) [] pair pair pair pair pair pair
+
+fits : Fits (slices blank) 2
+fits =
+    record {
+      some = omega arith;
+      few = omega arith;
+      room = record {
+        values = omega arith;
+        deadlines = omega arith;
+        links = record { nexts = omega arith; prevs = omega arith; marks = omega arith };
+        turns = omega arith;
+      };
+    }
+
+-- a store at the time 0 with nothing but two records to take
+record Fresh (s : QueueWords) : Type 0 where
+  sound : Sound s
+  size : view s .n ≡ 2
+  clock : elapsed s ≡ 0
+  room : view s .lists free ≡ 0 ∷ 1 ∷ []
+
+fresh-two : (s : QueueWords) × Fresh s
+unfolding range
+fresh-two =
+    let m = format-met blank 2 1 in
+    let D = m .2 .done fits (record { some = omega arith; last = omega arith }) in (
+      m .1,
+      record {
+        sound = D .sound;
+        size = ap (λ v. v .n) (D .view);
+        clock = ap (λ v. v .elapsed) (D .view);
+        room = ap (λ v. v .lists free) (D .view) ∙ change-same (λ p. []) free (range 2 0);
+      },
+    )
+
+-- ---- two timers for one time
+
+module _ {s : QueueWords} (F : Fresh s) (when now : ℕ) (near : Takes 0 when) (due : when ≤ now) where
+  -- the first
+  m₁ : (a : Answer) × (t : QueueWords) × CallClaim (C.Insert 7 when) s a t
+  m₁ = insert-met s 7 when
+
+  D₁ : Answered s (m₁ .0) (T.key (keyOf (view s) 0)) (placed 0 when (withValue (upd (view s .value) 0 7) (taken (1 ∷ []) (view s)))) (m₁ .1)
+  D₁ = m₁ .2 .good (F .sound) .done 0 (1 ∷ []) (F .room) (rw (F .clock) near)
+
+  size₁ : view (m₁ .1) .n ≡ 2
+  unfolding placed
+  size₁ = ap (λ v. v .n) (D₁ .view) ∙ F .size
+
+  clock₁ : elapsed (m₁ .1) ≡ 0
+  unfolding placed
+  clock₁ = ap (λ v. v .elapsed) (D₁ .view) ∙ F .clock
+
+  room₁ : view (m₁ .1) .lists free ≡ 1 ∷ []
+  unfolding placed
+  room₁ =
+      let L : Lists = change (view s .lists) free (1 ∷ []) in
+      let p = target (elapsed s) (max when (elapsed s)) in
+      let timed : free ≢ p = omega (arith, target-timed (elapsed s) (max when (elapsed s))) in
+      ap (λ v. v .lists free) (D₁ .view) ∙ change-other L p (put p 0 (L p)) free timed ∙ change-same (view s .lists) free (1 ∷ [])
+
+  abbrev j : ℕ
+  j = keyOf (view s) 0
+
+  -- and the second
+  m₂ : (a : Answer) × (t : QueueWords) × CallClaim (C.Insert 8 when) (m₁ .1) a t
+  m₂ = insert-met (m₁ .1) 8 when
+
+  D₂ : Answered (m₁ .1) (m₂ .0) (T.key (keyOf (view (m₁ .1)) 1))
+      (placed 1 when (withValue (upd (view (m₁ .1) .value) 1 8) (taken [] (view (m₁ .1))))) (m₂ .1)
+  D₂ = m₂ .2 .good (D₁ .sound) .done 1 [] room₁ (rw clock₁ near)
+
+  size₂ : view (m₂ .1) .n ≡ 2
+  unfolding placed
+  size₂ = ap (λ v. v .n) (D₂ .view) ∙ size₁
+
+  clock₂ : elapsed (m₂ .1) ≡ 0
+  unfolding placed
+  clock₂ = ap (λ v. v .elapsed) (D₂ .view) ∙ clock₁
+
+  abbrev k : ℕ
+  k = keyOf (view (m₁ .1)) 1
+
+  apart : j ≢ k
+  apart = omega arith
+
+  J : Reaches (view (m₂ .1)) j 7 (max when (elapsed s))
+  J =
+      reaches-on (D₁ .sound) (insert-reaches (F .sound) (m₁ .2) (D₁ .told)) (next {x = asked (C.Insert 8 when) (m₂ .0)} (m₂ .2) rest) (
+        (
+          λ z. absurd z,
+          λ o. let y : T.key k ≡ T.out j (o .0) (o .1) (o .2) (o .3) = sym (D₂ .told) ∙ o .4 in
+              let z : _≡_ {A = ℕ} 0 1 = cc in omega arith,
+        ),
+        tt,
+      )
+
+  K : Reaches (view (m₂ .1)) k 8 (max when (elapsed (m₁ .1)))
+  K = insert-reaches (D₁ .sound) (m₂ .2) (D₂ .told)
+
+  -- a timer is set by an insert or a reset, and the second insert sets another
+  other : NotSet j (asked (C.Insert 8 when) (m₂ .0))
+  other w (inl z) = let e : T.key j ≡ T.key k = sym (z .2) ∙ D₂ .told in let q : j ≡ k = cc in apart q
+  other w (inr z) = let e = z .0 in let y : _≡_ {A = ℕ} 0 1 = cc in omega arith
+
+  unset : (i : ℕ) (a : Answer) → NotSet i (asked (C.Poll now) a)
+  unset i a w (inl z) = let e = z .1 in let y : _≡_ {A = ℕ} 0 1 = cc in omega arith
+  unset i a w (inr z) = let e = z .0 in let y : _≡_ {A = ℕ} 0 1 = cc in omega arith
+
+  abbrev in-turn : {t : QueueWords} (l : List Asked) → Runs (m₂ .1) l t → All (NotSet j) l → All (NotSet k) l → SetInTurn s j k t
+  in-turn l R f g =
+      record {
+        set = m₁ .1;
+        later = m₁ .1;
+        both = m₂ .1;
+        first = record { when = when; asked = asked (C.Insert 7 when) (m₁ .0); sets = inl (7, refl, D₁ .told); claim = m₁ .2 };
+        between = [];
+        then = rest;
+        second = record { when = when; asked = asked (C.Insert 8 when) (m₂ .0); sets = inl (8, refl, D₂ .told); claim = m₂ .2 };
+        after = l;
+        at-last = R;
+        first-last = (tt, other, f);
+        second-last = g;
+      }
+
+  -- a poll at the time hands out the first, since it may not hand out the second
+  module _ (never : (a : Answer) (u : QueueWords) → CallClaim (C.Poll now) (m₂ .1) a u → Out k (told a) → ⊥) where
+    m₃ : (a : Answer) × (t : QueueWords) × CallClaim (C.Poll now) (m₂ .1) a t
+    m₃ = poll-met (m₂ .1) now
+
+    S₃ : Sound (m₃ .1)
+    S₃ = call-sound (C.Poll now) (m₂ .1) (m₃ .0) (m₃ .1) (m₃ .2) (D₂ .sound)
+
+    fair : PollLeast (view (m₂ .1)) now (told (m₃ .0)) (view (m₃ .1))
+    fair = poll-least (D₂ .sound) (omega (arith, clock₂)) (m₃ .2)
+
+    says : SaysOut (told (m₃ .0))
+    says = fair .hands-out .1 (J .number, (J .place, J .names .pending), omega (arith, J .deadline, F .clock, due))
+
+    got : HandsLeast (view (m₂ .1)) now (says .0) (says .1) (says .2) (view (m₃ .1))
+    got = fair .out (says .0) (says .1) (says .2) (says .3) (says .4) (says .5)
+
+    K₃ : Reaches (view (m₃ .1)) k 8 (max when (elapsed (m₁ .1)))
+    K₃ =
+        reaches-on (D₂ .sound) K (next {x = asked (C.Poll now) (m₃ .0)} (m₃ .2) rest)
+        ((λ z. absurd z, λ o. never (m₃ .0) (m₃ .1) (m₃ .2) o), tt)
+
+    -- so the next one hands out the second
+    m₄ : (a : Answer) × (t : QueueWords) × CallClaim (C.Poll now) (m₃ .1) a t
+    m₄ = poll-met (m₃ .1) now
+
+    fair₄ : PollLeast (view (m₃ .1)) now (told (m₄ .0)) (view (m₄ .1))
+    fair₄ =
+        let c = poll-clock (D₂ .sound) (omega (arith, clock₂)) (m₃ .2) .out (says .0) (says .1) (says .2) (says .3) (says .4) (says .5) in
+        poll-least S₃ (omega (arith, c, clock₂, got .due)) (m₄ .2)
+
+    says₄ : SaysOut (told (m₄ .0))
+    says₄ = fair₄ .hands-out .1 (K₃ .number, (K₃ .place, K₃ .names .pending), omega (arith, K₃ .deadline, clock₁, due))
+
+    got₄ : HandsLeast (view (m₃ .1)) now (says₄ .0) (says₄ .1) (says₄ .2) (view (m₄ .1))
+    got₄ = fair₄ .out (says₄ .0) (says₄ .1) (says₄ .2) (says₄ .3) (says₄ .4) (says₄ .5)
+
+    -- the first handed out is record 0, and so the second is record 1
+    first-is : got .timer ≢ K .number
+    first-is e =
+        let q : k ≡ says .0 = key-is (K .names) ∙ ap (keyOf (view (m₂ .1))) (sym e) ∙ sym (key-is (got .names)) in
+        never (m₃ .0) (m₃ .1) (m₃ .2) (says .1, says .2, says .3, says .4, rw q (says .5))
+
+    second-is : got₄ .timer ≡ K₃ .number
+    second-is =
+        let o = got .only (got₄ .timer) (got₄ .place, got₄ .names .pending) in
+        let b = key-of-names (D₂ .sound) (o .0 .1) .below in
+        omega (arith, b, size₂, o .1, first-is, got .names .below, K .names .number, K₃ .names .number)
+
+    out₄ : Out k (told (m₄ .0))
+    out₄ =
+        let q : k ≡ says₄ .0 = key-is (K₃ .names) ∙ ap (keyOf (view (m₃ .1))) (sym second-is) ∙ sym (key-is (got₄ .names)) in
+        (says₄ .1, says₄ .2, says₄ .3, says₄ .4, rw q (says₄ .5))
+
+    abbrev second-out : SecondOut
+    second-out =
+        record {
+          start = s;
+          reached = m₃ .1;
+          left = m₄ .1;
+          one = j;
+          two = k;
+          now = now;
+          answer = m₄ .0;
+          sound = F .sound;
+          run = in-turn (asked (C.Poll now) (m₃ .0) ∷ []) (next (m₃ .2) rest) (unset j (m₃ .0), tt) (unset k (m₃ .0), tt);
+          poll = m₄ .2;
+          out = out₄;
+        }
+
+-- two for 70, polled at 70
+pub first-shown : (x : SecondOut) × (storedOn (x .run .first) ≡ storedOn (x .run .second)) × (elapsed (x .run .later) < storedOn (x .run .second))
+first-shown =
+    let F = fresh-two .1 in
+    let near : Takes 0 70 = λ h. refl in
+    let due : 70 ≤ 70 = omega arith in
+    let c = clock₁ F 70 70 near due in
+    let same : max 70 (elapsed (fresh-two .0)) ≡ max 70 (elapsed (m₁ F 70 70 near due .1)) = omega (arith, c, F .clock) in
+    let late : elapsed (m₁ F 70 70 near due .1) < max 70 (elapsed (m₁ F 70 70 near due .1)) = omega (arith, c) in
+    let I = in-turn F 70 70 near due [] rest tt tt in
+    (second-out F 70 70 near due (λ a u P o. first-set-first-out (F .sound) I P o (J F 70 70 near due .names) same late), same, late)
+
+-- and two for 0, which have expired when they are set, polled at 0
+pub expired-shown : (x : SecondOut) × (x .run .first .when ≤ elapsed (x .start)) × (x .run .second .when ≤ elapsed (x .run .later))
+expired-shown =
+    let F = fresh-two .1 in
+    let near : Takes 0 0 = λ h. absurd (omega arith) in
+    let due : 0 ≤ 0 = omega arith in
+    let I = in-turn F 0 0 near due [] rest tt tt in
+    let N = J F 0 0 near due .names in
+    (second-out F 0 0 near due (λ a u P o. expired-first-out (F .sound) I P o N (omega arith) (omega arith)), omega arith, omega arith)

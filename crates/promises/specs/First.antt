@@ -1,0 +1,63 @@
+-- Words of the promise "First set, first out", in calls and answers: two timers are set one after the other, and neither again.
+use mathlib.Core.Path.{_≡_}
+use mathlib.Core.Logic.{_⊎_}
+use mathlib.Core.List.{List}
+use Prim.Native.Nat.{ℕ, max}
+use Rattle.queue.specs.declared.Answer.{Answer}
+use Rattle.queue.specs.Told.{told}
+use Rattle.queue.specs.Told as T
+use Rattle.records.specs.Words.{QueueWords, elapsed, Sound}
+use Rattle.delay_queue.specs.declared.Call.the-variants as C
+use Rattle.delay_queue.specs.Claims.{CallClaim}
+use Rattle.promises.specs.Runs.{Asked, Runs, All}
+use Rattle.promises.specs.KeysStay.{Out}
+
+-- the call, accepted, sets the timer of k for `when`: it inserts it, or resets it, "a reset counting as a new placing"
+abbrev pub Sets : ℕ → ℕ → Asked → Type 0
+Sets k when x =
+    ((value : ℕ) × (x .call ≡ C.Insert value when) × (told (x .answer) ≡ T.key k)) ⊎ ((x .call ≡ C.Reset k when) × (told (x .answer) ≡ T.ok))
+
+-- the call does not set it
+abbrev pub NotSet : ℕ → Asked → Type 0
+NotSet k x = (when : ℕ) → Sets k when x → ⊥
+
+-- a call on s sets the timer of k, and leaves t
+pub record SetOn (s : QueueWords) (k : ℕ) (t : QueueWords) : Type 0 where
+  pub when : ℕ
+  pub asked : Asked
+  pub sets : Sets k when asked
+  pub claim : CallClaim (asked .call) s (asked .answer) t
+
+-- the deadline as it is then stored: "Insert and reset first raise the deadline to elapsed if it is smaller"
+abbrev pub storedOn : {s t : QueueWords} {k : ℕ} → SetOn s k t → ℕ
+storedOn {s} x = max (x .when) (elapsed s)
+
+-- from s on the timer of j is set, then that of k, with any calls after each; neither is set again, and t is what is left
+pub record SetInTurn (s : QueueWords) (j k : ℕ) (t : QueueWords) : Type 0 where
+  pub set : QueueWords
+  pub later : QueueWords
+  pub both : QueueWords
+  pub first : SetOn s j set
+  pub between : List Asked
+  pub then : Runs set between later
+  pub second : SetOn later k both
+  pub after : List Asked
+  pub at-last : Runs both after t
+  pub first-last : All (NotSet j) between × NotSet j (second .asked) × All (NotSet j) after
+  pub second-last : All (NotSet k) after
+
+-- ---- such runs there are
+
+-- two timers set in turn, and a poll that hands out the second
+pub record SecondOut : Type 0 where
+  pub start : QueueWords
+  pub reached : QueueWords
+  pub left : QueueWords
+  pub one : ℕ
+  pub two : ℕ
+  pub now : ℕ
+  pub answer : Answer
+  pub sound : Sound start
+  pub run : SetInTurn start one two reached
+  pub poll : CallClaim (C.Poll now) reached answer left
+  pub out : Out two (told answer)
