@@ -28,5 +28,6 @@ pub mod Refused
 pub mod Runs
 pub mod Shown
 pub mod OneCall
+pub mod TakesOut
 pub mod Views
 pub mod Waiting

@@ -3,25 +3,20 @@
 use mathlib.Core.Path.{_≡_, refl, sym, ap, _∙_}
 use mathlib.Core.Logic.{_≢_, inl, ⊎-elim, by-cases}
 use mathlib.Core.List.{List, [], _∷_}
-use mathlib.Core.Option.{some}
 use Prim.Native.Nat.{ℕ, _+_, _≤_}
-use native.Mathlib.Decide.{ℕ-discrete, decLt}
+use native.Mathlib.Decide.{ℕ-discrete}
 use native.Mathlib.Omega.{arith}
 use borrow.Author.Tests.{eq-eqb, ne-eqb}
-use Rattle.links.specs.Lists.{Mem, without, change}
+use Rattle.links.specs.Lists.{Mem, without}
 use Rattle.links.proofs.laws.Lists.{Nodup}
-use Rattle.stack.specs.Places.{slots, expired, free}
+use Rattle.stack.specs.Places.{free}
 use Rattle.stack.proofs.laws.Whole as stack-laws
-use Rattle.wheel.specs.Wheel.{Lists}
-use Rattle.wheel.proofs.laws.Sums.{mem-change, hits, lies-times}
-use Rattle.wheel.proofs.laws.Drain.{amount}
-use Rattle.wheel.proofs.laws.Poll.{Promise}
 use Rattle.queue.specs.declared.Answer.{Answer}
 use Rattle.queue.specs.Told.{Told, Hands}
 use Rattle.queue.specs.Told as T
-use Rattle.records.specs.View.{View, withElapsed, withLists}
+use Rattle.records.specs.View.{View}
 use Rattle.records.specs.Records.{lastTurn, keyOf, At, Names, left, freed, numberIn, turnIn}
-use Rattle.queue.specs.Steps.{QueuePolls, polled, popped, handed, nothing}
+use Rattle.queue.specs.Steps.{QueuePolls, handed, nothing}
 use Rattle.records.specs.Words.{QueueWords, count, view, Sound}
 use Rattle.records.proofs.laws.Words.{upd-same}
 use Rattle.queue.proofs.laws.Polls.{clear-done}
@@ -32,8 +27,9 @@ use Rattle.delay_queue.proofs.laws.Back.{taken-up}
 use Rattle.promises.proofs.laws.Met.{clear-first}
 use Rattle.promises.proofs.laws.Once.{clear-once}
 use Rattle.promises.proofs.laws.Views.{ViewGoes, refuses, inserts, call-goes, key-inserts, out-polls}
-use Rattle.promises.proofs.laws.Polling.{one-list, lies-once, key-of-names}
-use Rattle.promises.proofs.laws.KeysOne.{Onward, freed-last, freed-more, wheel-promise, does-onward}
+use Rattle.promises.proofs.laws.Polling.{one-list, key-of-names}
+use Rattle.promises.proofs.laws.TakesOut.{moved-out, taken-out}
+use Rattle.promises.proofs.laws.KeysOne.{Onward, freed-last, freed-more, does-onward}
 
 -- the record r was given under the turn c: that turn is past, or r is no longer free
 pub record GivenAt (v : View) (c r : ℕ) : Type 0 where
@@ -88,25 +84,12 @@ module _ {s : QueueWords} (S : Sound s) where
       rw (← N .number, ← N .turn)
       (record { turn = omega arith; taken = λ e m. omega (arith, one-list S r free p m (N .pending .member)) })
 
-  -- a record that leaves a list is in none
-  pub moved-out : (i p : ℕ) → Mem i (view s .lists p) → (l : List ℕ) → (Mem i l → ⊥) → (q : ℕ) → Mem i (change (view s .lists) p l q) → ⊥
-  moved-out i p m l out q k = ⊎-elim (λ a. out (a .1)) (λ a. a .0 (one-list S i q p (a .1) m)) (mem-change (view s .lists) p l q i k)
-
+  -- a record that leaves its list is in none
   pub left-out : {i p : ℕ} → At (view s) i p → (q : ℕ) → Mem i (left p i (view s) .lists q) → ⊥
   unfolding left
   left-out {i} {p} a q m =
-      moved-out i p (a .member) (without i (view s .lists p))
+      moved-out S i p (a .member) (without i (view s .lists p))
       (without-out i (view s .lists p) (stack-laws.list-nodup (S .standing .whole .stack) p)) q m
-
-  pub handed-out : {now i m n e : ℕ} {N : Lists} → Promise (view s .deadline) now (view s .elapsed) (view s .lists) (some i) m n e N
-      → (q : ℕ) → Mem i (N q) → ⊥
-  unfolding amount
-  handed-out {i = i} {N = N} P q m =
-      let w = P .fair .0 in
-      let one : hits i i ≡ 1 = rw (eq-eqb i i refl) in
-      by-cases (decLt q slots)
-      (λ h. omega (arith, lies-times slots N i q h m, P .kept (hits i), lies-once S i slots))
-      (λ h. omega (arith, one-list S i (w .0) q (w .2) (rw (P .aside q (omega arith)) at m)))
 
 -- ---- the key of a record that is freed is spent
 
@@ -142,18 +125,13 @@ module _ {s : QueueWords} (S : Sound s) where
 
   poll-spent : {now : ℕ} {x : Told} {w : View} → view s .elapsed ≤ now → QueuePolls (view s) now x w → {k v d m n : ℕ} → Hands x k v d m n
       → HandsOut k w
-  poll-spent h (handed (popped {r = i} {l = l} e)) {k} z =
-      let m : Mem i (view s .lists expired) = rw e (inl refl) in
-      let d : Nodup (i ∷ l) = rw e at (stack-laws.list-nodup (S .standing .whole .stack) expired) in
+  poll-spent h (handed {r = i} {u = u} T) {k} z =
+      let O = taken-out S h T in
       let q : k ≡ keyOf (view s) i = cc in
-      let u = withLists (change (view s .lists) expired l) (view s) in
-      hands-out (record { timed = omega arith; member = m }) q (freed-spent i u (moved-out S i expired m l (d .0)))
-  poll-spent h (handed {r = i} (polled {e = c} {L = L} e P)) {k} z =
-      let R = wheel-promise S e h P in
-      let w = R .fair .0 in
-      let q : k ≡ keyOf (view s) i = cc in
-      hands-out (record { timed = omega arith; member = w .2 }) q (freed-spent i (withElapsed c (withLists L (view s))) (handed-out S R))
-  poll-spent h (nothing (polled e P)) z = let y : _≡_ {A = ℕ} 0 1 = cc in absurd (omega arith)
+      let t : u .turn i ≡ view s .turn i = ap (λ f. f i) (O .turn) in
+      let a = O .out i refl in
+      hands-out (a .1) q (rw (← t) (freed-spent i u (O .gone i refl)))
+  poll-spent h (nothing T) z = let y : _≡_ {A = ℕ} 0 1 = cc in absurd (omega arith)
 
   -- ---- clear
 

@@ -1,35 +1,32 @@
 -- One call at a time, one record at a time: its turn never falls, and under one turn it goes from free to pending to nowhere, never back (`does-onward`).
-use mathlib.Core.Path.{_≡_, refl}
+use mathlib.Core.Path.{_≡_, refl, ap}
 use mathlib.Core.Logic.{_≢_, _⊎_, inl, inr, ⊎-elim, by-cases}
 use mathlib.Core.Bool.{false, not, _&&_, true≢false}
-use mathlib.Core.List.{[]}
 use mathlib.Core.Option.{Option}
 use Prim.Native.Nat.{ℕ, _+_, _≤_, _<_, max}
-use native.Mathlib.Decide.{ℕ-discrete, decLt}
+use native.Mathlib.Decide.{ℕ-discrete}
 use native.Mathlib.Omega.{arith}
 use borrow.Author.Tests.{eq-eqb, ne-eqb}
 use Rattle.times.specs.Times.{levelOf}
 use Rattle.times.proofs.laws.Quotients.{slot-lt}
 use Rattle.times.proofs.laws.Levels.{level-is}
-use Rattle.links.specs.Lists.{Mem, change}
+use Rattle.links.specs.Lists.{Mem}
 use Rattle.links.proofs.laws.Lists.{change-other}
-use Rattle.stack.specs.Places.{slots, expired, free, put}
-use Rattle.wheel.specs.Wheel.{Lists, placeFor, Polls}
-use Rattle.wheel.proofs.laws.Sums.{mem-joined, mem-left, hits, lies-times, times-lies}
-use Rattle.wheel.proofs.laws.Drain.{amount}
-use Rattle.wheel.proofs.laws.Between.{rule-between}
-use Rattle.wheel.proofs.laws.Poll.{Promise, poll-law}
+use Rattle.stack.specs.Places.{free, put}
+use Rattle.wheel.specs.Wheel.{placeFor}
+use Rattle.wheel.proofs.laws.Sums.{mem-joined, mem-left}
 use Rattle.queue.specs.Told.{Told}
-use Rattle.records.specs.View.{View, withElapsed, withLists, withValue, upd}
+use Rattle.records.specs.View.{View, withElapsed, withValue, upd}
 use Rattle.records.specs.Records.{lastTurn, At, taken, left, target, placed, freed}
 use Rattle.queue.proofs.laws.Polls.{left-less}
-use Rattle.queue.specs.Steps.{QueuePolls, polled, popped, handed, nothing, Clears, begun, kept, gave}
+use Rattle.queue.specs.Steps.{QueuePolls, handed, nothing, Clears, begun, kept, gave}
 use Rattle.records.specs.Words.{QueueWords, view, Sound}
 use Rattle.records.proofs.laws.Words.{upd-same, upd-other}
 use Rattle.delay_queue.specs.declared.Call.{Call}
 use Rattle.promises.specs.OneCall.{isNo}
 use Rattle.promises.specs.Runs.{isFormat}
 use Rattle.promises.proofs.laws.Views.{ViewGoes, refuses, formats, inserts, resets, removes, polls, wakes, counts, clears}
+use Rattle.promises.proofs.laws.TakesOut.{TakenOut, taken-out}
 use Rattle.promises.specs.KeysOne.{raised}
 
 -- from v to w the turn of r does not fall; and if it stays, r is free only if it was, and pending only if it was free or pending
@@ -114,39 +111,19 @@ placed-onward i when v u was r O =
 
 -- ---- poll
 
-pub wheel-promise : {s : QueueWords} → Sound s → {now m n e : ℕ} {o : Option ℕ} {L : Lists} → view s .lists expired ≡ []
-    → view s .elapsed ≤ now
-    → Polls (view s .deadline) now (view s .elapsed) (view s .lists) o m n e L
-    → Promise (view s .deadline) now (view s .elapsed) (view s .lists) o m n e L
-wheel-promise S x h P = poll-law (rule-between (S .rule)) x h P
-
-pub waits-before : {d : ℕ → ℕ} {now e : ℕ} {L : Lists} {o : Option ℕ} {m n e′ : ℕ} {N : Lists} → Promise d now e L o m n e′ N → (y p : ℕ)
-    → p < free
-    → Mem y (N p) → (q : ℕ) × (q < free) × Mem y (L q)
-unfolding amount
-waits-before {L = L} {o = o} {N = N} P y p h m =
-    by-cases (decLt p slots)
-    (λ g.
-    let r = times-lies slots L y (omega (arith, P .kept (hits y), lies-times slots N y p g m)) in
-    (r .0, omega arith, r .2))
-    (λ g. (p, h, rw (P .aside p (omega arith)) at m))
-
-wheel-onward : {v : View} {now m n e : ℕ} {o : Option ℕ} {L : Lists} → Promise (v .deadline) now (v .elapsed) (v .lists) o m n e L → (r : ℕ)
-    → Onward v (withElapsed e (withLists L v)) r
-wheel-onward P r =
+taken-onward : {v u : View} {o : Option ℕ} → TakenOut v o u → (r : ℕ) → Onward v u r
+taken-onward {v} {u} T r =
+    let t : u .turn r ≡ v .turn r = ap (λ f. f r) (T .turn) in
     record {
       turn = omega arith;
-      idle = λ z m. rw (P .aside free (omega arith)) at m;
-      waits = λ z p a. let b = waits-before P r p (a .timed) (a .member) in inr (b .0, record { timed = b .1; member = b .2 });
+      idle = λ z m. rw (T .free) at m;
+      waits = λ z p a. inr (T .was r p a);
     }
 
 module _ {s : QueueWords} (S : Sound s) where
   poll-onward : {now : ℕ} {x : Told} {w : View} → view s .elapsed ≤ now → QueuePolls (view s) now x w → (r : ℕ) → Onward (view s) w r
-  poll-onward h (handed (popped {r = i} {l = l} e)) r =
-      let u = withLists (change (view s .lists) expired l) (view s) in
-      onward-then (less-onward (view s) u r refl (λ q m. mem-left (view s .lists) expired i l e q r m)) (freed-onward i u r)
-  poll-onward h (handed {r = i} (polled e P)) r = onward-then (wheel-onward (wheel-promise S e h P) r) (freed-onward i _ r)
-  poll-onward h (nothing (polled e P)) r = wheel-onward (wheel-promise S e h P) r
+  poll-onward h (handed {r = i} {u = u} T) r = onward-then (taken-onward (taken-out S h T) r) (freed-onward i u r)
+  poll-onward h (nothing T) r = taken-onward (taken-out S h T) r
 
 clears-onward : {v : View} {k : ℕ} {w : View} → Clears v k w → (r : ℕ) → Onward v w r
 clears-onward {v} begun r = onward-same v r

@@ -1,32 +1,28 @@
 -- One call at a time: a pending record stays as it is under every call that does not aim at it (`does-stays`).
 use mathlib.Core.Path.{_≡_, refl, sym, ap, _∙_}
-use mathlib.Core.Logic.{_≢_, inl, inr, ⊎-elim, by-cases}
+use mathlib.Core.Logic.{_≢_, inl, inr, ⊎-elim}
 use mathlib.Core.Bool.{false, not, true≢false}
-use mathlib.Core.List.{List, [], _∷_}
+use mathlib.Core.List.{List, _∷_}
 use mathlib.Core.Option.{Option}
 use Prim.Native.Nat.{ℕ, _≤_, max}
-use native.Mathlib.Decide.{ℕ-discrete}
 use native.Mathlib.Omega.{arith}
-use borrow.Author.Tests.{ne-eqb}
 use Rattle.links.specs.Lists.{Mem, without, change}
 use Rattle.links.proofs.laws.Lists.{change-other}
 use Rattle.stack.specs.Places.{expired, free}
-use Rattle.wheel.specs.Wheel.{Lists}
-use Rattle.wheel.proofs.laws.Sums.{mem-kept, put-mem, hits}
-use Rattle.wheel.proofs.laws.Poll.{Promise, given, waits-on}
+use Rattle.wheel.proofs.laws.Sums.{mem-kept, put-mem}
 use Rattle.queue.specs.Told.{Told}
 use Rattle.queue.specs.Told as T
-use Rattle.records.specs.View.{View, withElapsed, withLists, withValue, upd}
+use Rattle.records.specs.View.{View, withLists, withValue, upd}
 use Rattle.records.specs.Records.{keyOf, At, Names, taken, left, target, placed, freed}
-use Rattle.queue.specs.Steps.{QueuePolls, polled, popped, handed, nothing}
+use Rattle.queue.specs.Steps.{QueuePolls, handed, nothing}
 use Rattle.records.specs.Words.{QueueWords, view, Sound}
 use Rattle.records.proofs.laws.Words.{upd-other}
 use Rattle.records.proofs.laws.Inner.{mem-other}
 use Rattle.delay_queue.specs.declared.Call.{Call}
 use Rattle.promises.specs.OneCall.{isNo}
 use Rattle.promises.proofs.laws.Views.{ViewGoes, refuses, formats, inserts, resets, removes, polls, wakes, counts, clears}
-use Rattle.promises.proofs.laws.KeysOne.{wheel-promise}
-use Rattle.promises.proofs.laws.Polling.{one-list, freed-beside}
+use Rattle.promises.proofs.laws.Polling.{Other, one-list, freed-beside}
+use Rattle.promises.proofs.laws.TakesOut.{TakenOut, taken-out}
 use Rattle.promises.specs.KeysStay.{Aims, Out}
 
 -- a key is its record's number and turn
@@ -126,20 +122,15 @@ stays-taken v {i} {l} value e r d =
       expired = λ m. rw (change-other (v .lists) free l expired (omega arith)) m;
     }
 
-stays-wheel : {v : View} {now m n e : ℕ} {o : Option ℕ} {L : Lists} → v .lists expired ≡ []
-    → Promise (v .deadline) now (v .elapsed) (v .lists) o m n e L
-    → (r : ℕ) → given (hits r) o ≡ 0 → Stays v (withElapsed e (withLists L v)) r
-stays-wheel {v} x P r z =
+stays-taken-out : {v u : View} {o : Option ℕ} → TakenOut v o u → (r : ℕ) → Other o r → Stays v u r
+stays-taken-out T r d =
     record {
-      n = refl;
-      turn = refl;
-      value = refl;
-      deadline = refl;
-      waits = λ p a.
-          by-cases (ℕ-discrete p expired)
-          (λ e. absurd (rw (e, x) at (a .member)))
-          (λ d. let b = waits-on P r z (p, omega arith, a .member) in (b .0, record { timed = omega arith; member = b .2 }));
-      expired = λ m. absurd (rw x at m);
+      n = T .size;
+      turn = ap (λ f. f r) (T .turn);
+      value = ap (λ f. f r) (T .value);
+      deadline = ap (λ f. f r) (T .deadline);
+      waits = T .stays r d;
+      expired = T .expired r d;
     }
 
 -- ---- one call
@@ -154,17 +145,10 @@ module _ {s : QueueWords} (S : Sound s) {k r p : ℕ} (N : Names (view s) k r p)
 
   poll-stays : {now : ℕ} {x : Told} {w : View} → view s .elapsed ≤ now → QueuePolls (view s) now x w → (Out k x → ⊥)
       → Stays (view s) w r
-  poll-stays h (handed (popped {r = i} {l = l} e)) out =
+  poll-stays h (handed {r = i} {u = u} T) out =
       let d : r ≢ i = not-handed i out in
-      stays-then
-      (stays-lists (view s) expired l r (λ m. ⊎-elim (λ z. absurd (d z)) (λ y. y) (rw e at m)))
-      (stays-freed i (withLists (change (view s .lists) expired l) (view s)) r d)
-  poll-stays h (handed {r = i} (polled {e = c} {L = L} e P)) out =
-      let d : r ≢ i = not-handed i out in
-      stays-then
-      (stays-wheel e (wheel-promise S e h P) r (rw (ne-eqb i r (λ z. d (sym z)))))
-      (stays-freed i (withElapsed c (withLists L (view s))) r d)
-  poll-stays h (nothing (polled e P)) out = stays-wheel e (wheel-promise S e h P) r refl
+      stays-then (stays-taken-out (taken-out S h T) r d) (stays-freed i u r d)
+  poll-stays h (nothing T) out = stays-taken-out (taken-out S h T) r tt
 
   pub does-stays : {c : Call} {x : Told} {w : View} → ViewGoes (view s) c x w → (Aims k c → not (isNo x) ≡ false) → (Out k x → ⊥)
       → Stays (view s) w r

@@ -7,21 +7,19 @@ use Prim.Native.Nat.{ℕ, _+_, _≤_, max}
 use native.Mathlib.Decide.{ℕ-discrete}
 use native.Mathlib.Omega.{arith}
 use borrow.Author.Tests.{eq-eqb, ne-eqb}
-use Rattle.links.specs.Lists.{Mem, change}
-use Rattle.links.proofs.laws.Lists.{Nodup, change-other}
-use Rattle.stack.specs.Places.{expired, free}
+use Rattle.links.specs.Lists.{Mem}
+use Rattle.links.proofs.laws.Lists.{change-other}
+use Rattle.stack.specs.Places.{free}
 use Rattle.stack.proofs.laws.Whole as stack-laws
 use Rattle.stack.specs.Format.{range}
-use Rattle.wheel.specs.Wheel.{Lists}
-use Rattle.wheel.proofs.laws.Poll.{Promise}
 use Rattle.wheel.proofs.laws.Sums.{mem-joined, mem-left}
 use Rattle.queue.specs.declared.Answer.{Answer}
 use Rattle.queue.specs.Told.{Told, told}
 use Rattle.queue.specs.Told as T
-use Rattle.records.specs.View.{View, withElapsed, withLists, withValue, upd}
+use Rattle.records.specs.View.{View, withValue, upd}
 use Rattle.records.specs.Records.{keyOf, At, Names, taken, left, target, placed, freed, packed}
 use Rattle.queue.proofs.laws.Polls.{left-less}
-use Rattle.queue.specs.Steps.{QueuePolls, polled, popped, handed, nothing}
+use Rattle.queue.specs.Steps.{QueuePolls, handed, nothing}
 use Rattle.records.specs.Words.{QueueWords, view, Sound, slices}
 use Rattle.delay_queue.specs.declared.Call.{Call}
 use Rattle.delay_queue.specs.declared.Call.the-variants as C
@@ -31,8 +29,8 @@ use Rattle.promises.proofs.laws.OneCall.{call-sound}
 use Rattle.promises.specs.Runs.{Asked, Runs, rest, next, All, NoFormat}
 use Rattle.promises.proofs.laws.Views.{ViewGoes, refuses, formats, inserts, resets, removes, polls, wakes, counts, clears, call-goes, key-inserts}
 use Rattle.promises.proofs.laws.Polling.{freed-beside}
-use Rattle.promises.proofs.laws.KeysOne.{wheel-promise, waits-before}
-use Rattle.promises.proofs.laws.KeysGone.{moved-out, left-out, handed-out, clear-empty, spent-unnamed, out-spent}
+use Rattle.promises.proofs.laws.TakesOut.{TakenOut, taken-out}
+use Rattle.promises.proofs.laws.KeysGone.{left-out, clear-empty, spent-unnamed, out-spent}
 use Rattle.promises.specs.KeysStay.{Out}
 use Rattle.promises.proofs.laws.KeysStay.{key-is}
 use Rattle.promises.proofs.laws.Keys.{no-key-twice}
@@ -80,23 +78,14 @@ was-placed i when v r p a =
     (refl, ⊎-elim (λ b. inl (b .1)) (λ m. inr (record { timed = a .timed; member = m })) (mem-joined (v .lists) q i p r (a .member)))
 
 module _ {s : QueueWords} (S : Sound s) where
-  was-wheel : {now m n e : ℕ} {o : Option ℕ} {L : Lists} → Promise (view s .deadline) now (view s .elapsed) (view s .lists) o m n e L
-      → (r : ℕ)
-      → Was (view s) (withElapsed e (withLists L (view s))) r
-  was-wheel P r =
-      record { was = λ p a. let b = waits-before P r p (a .timed) (a .member) in (refl, (b .0, record { timed = b .1; member = b .2 })) }
+  was-taken : {o : Option ℕ} {u : View} → TakenOut (view s) o u → (r : ℕ) → Was (view s) u r
+  was-taken T r = record { was = λ p a. (ap (λ f. f r) (T .turn), T .was r p a) }
 
   poll-was : {now : ℕ} {x : Told} {w : View} → view s .elapsed ≤ now → QueuePolls (view s) now x w → (r : ℕ) → Was (view s) w r
-  poll-was h (handed (popped {r = i} {l = l} e)) r =
-      let m : Mem i (view s .lists expired) = rw e (inl refl) in
-      let d : Nodup (i ∷ l) = rw e at (stack-laws.list-nodup (S .standing .whole .stack) expired) in
-      let u = withLists (change (view s .lists) expired l) (view s) in
-      was-then (was-less (view s) u r refl (λ q k. mem-left (view s .lists) expired i l e q r k))
-      (was-freed i u (moved-out S i expired m l (d .0)) r)
-  poll-was h (handed {r = i} (polled {e = c} {L = L} e P)) r =
-      let R = wheel-promise S e h P in
-      was-then (was-wheel R r) (was-freed i (withElapsed c (withLists L (view s))) (handed-out S R) r)
-  poll-was h (nothing (polled e P)) r = was-wheel (wheel-promise S e h P) r
+  poll-was h (handed {r = i} {u = u} T) r =
+      let O = taken-out S h T in
+      was-then (was-taken O r) (was-freed i u (O .gone i refl) r)
+  poll-was h (nothing T) r = was-taken (taken-out S h T) r
 
   named-so : {w : View} {k r p q : ℕ} → Names w k r p → w .turn r ≡ view s .turn r → At (view s) r q → Names (view s) k r q
   named-so {r = r} {q = q} N t a =

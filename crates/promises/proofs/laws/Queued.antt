@@ -4,7 +4,7 @@ use mathlib.Core.Path.{_≡_, refl, sym, ap, _∙_}
 use mathlib.Core.Logic.{_≢_, _⊎_, inl, inr, ⊎-elim, by-cases}
 use mathlib.Core.Bool.{false, not, true≢false}
 use mathlib.Core.List.{List, [], _∷_}
-use mathlib.Core.Option.{some, Option·some-injective}
+use mathlib.Core.Option.{Option, some, Option·some-injective, Option·some-ne-none}
 use Prim.Native.Nat.{ℕ, _≤_, _<_, max}
 use native.Mathlib.Decide.{ℕ-discrete}
 use native.Mathlib.Omega.{arith}
@@ -17,8 +17,8 @@ use Rattle.wheel.specs.Wheel.{Lists}
 use Rattle.wheel.proofs.laws.Between.{rule-between}
 use Rattle.queue.specs.Told.{Told}
 use Rattle.queue.specs.Told as T
-use Rattle.queue.specs.Steps.{QueuePolls, polled, popped, handed, nothing}
-use Rattle.records.specs.View.{View, withElapsed, withLists, withValue, upd}
+use Rattle.queue.specs.Steps.{TakesOut, QueuePolls, polled, popped, handed, nothing}
+use Rattle.records.specs.View.{View, withValue, upd}
 use Rattle.records.specs.Records.{keyOf, At, Names, taken, left, target, placed, freed, numberIn, turnIn}
 use Rattle.records.specs.Words.{QueueWords, elapsed, view, Sound}
 use Rattle.records.proofs.laws.Words.{upd-same, upd-other}
@@ -29,7 +29,8 @@ use Rattle.promises.specs.OneCall.{isNo}
 use Rattle.promises.specs.KeysStay.{Aims, Out}
 use Rattle.promises.proofs.laws.Views.{ViewGoes, refuses, formats, inserts, resets, removes, polls, wakes, counts, clears, out-polls}
 use Rattle.promises.proofs.laws.Polling.{freed-beside, one-list, lies-once, none-out}
-use Rattle.promises.proofs.laws.KeysOne.{wheel-promise, target-timed}
+use Rattle.promises.proofs.laws.TakesOut.{taken-out}
+use Rattle.promises.proofs.laws.KeysOne.{target-timed}
 use Rattle.promises.proofs.laws.KeysStay.{key-is}
 use Rattle.promises.proofs.laws.Order.{names-it}
 use Rattle.promises.proofs.laws.Precedes.{Precedes, Leads, prec-mem, prec-left, prec-end, prec-without, gone-then, leave-first, polls-first}
@@ -177,24 +178,33 @@ module _ {st : QueueWords} (S : Sound st) {j k : ℕ} (Q : Queued (view st) j k)
   off-wheel : {L : Lists} → Leads slots (v .deadline) L (Q .front) (Q .back) → Leads free (v .deadline) L (Q .front) (Q .back)
   off-wheel O = record { place = O .place; within = omega (arith, O .within); order = O .order; equal = O .equal }
 
-  poll-ends : {now : ℕ} {x : Told} {u : View} → elapsed st ≤ now → QueuePolls v now x u → Ends x u
-  poll-ends h (handed (popped {r = i} {l = l} e)) =
-      let a : At v i expired = record { timed = omega arith; member = rw e (inl refl) } in
-      let A = leave-first {b = free} expired i l (omega arith) e now-first in
-      let back : Q .back ≢ i
-      = λ z.
-      gone-then (Q .back) free (v .lists) (lies-once S (Q .back) free) expired l (omega arith) (rw (← z) at e) (A .0 .0) (A .0 .1) (A .0 .2) in
-      out-ends i expired 0 0 (withLists (change (v .lists) expired l) v) a refl refl back (A .1)
-  poll-ends h (handed {r = i} {m = m} {n = n} (polled {e = e} {L = L} empty P)) =
+  -- it is not that of k that is taken out; it is that of j, or both wait on in their order
+  takes-ends : {now m n : ℕ} {got : Option ℕ} {u : View} → elapsed st ≤ now → TakesOut v now got m n u
+      → (got ≡ some (Q .back) → ⊥) × ((got ≡ some (Q .front)) ⊎ First u (Q .front) (Q .back))
+  takes-ends h (popped {r = i} {l = l} e) =
+      let A = leave-first {b = free} expired i l (omega arith) e now-first in (
+        λ z.
+            let y : i ≡ Q .back = Option·some-injective i (Q .back) z in
+            gone-then (Q .back) free (v .lists) (lies-once S (Q .back) free) expired l (omega arith) (rw y at e) (A .0 .0) (A .0 .1) (A .0 .2),
+        ⊎-elim (λ y. inl (ap some (sym y))) inr (A .1),
+      )
+  takes-ends h (polled empty P) =
       let O = polls-first (rule-between (S .rule)) (lies-once S (Q .back) slots) P (on-wheel empty) in
-      let w = wheel-promise S empty h P .fair .0 in
-      let a : At v i (w .0) = record { timed = omega (arith, w .1); member = w .2 } in
-      out-ends i (w .0) m n (withElapsed e (withLists L v)) a refl refl (λ z. O .0 (ap some (sym z)))
-      (⊎-elim (λ y. inl (sym (Option·some-injective i (Q .front) y))) (λ y. inr (off-wheel y)) (O .1))
-  poll-ends h (nothing (polled empty P)) =
-      let O = polls-first (rule-between (S .rule)) (lies-once S (Q .back) slots) P (on-wheel empty) in (
+      (O .0, ⊎-elim inl (λ y. inr (off-wheel y)) (O .1))
+
+  poll-ends : {now : ℕ} {x : Told} {u : View} → elapsed st ≤ now → QueuePolls v now x u → Ends x u
+  poll-ends h (handed {r = i} {m = m} {n = n} {u = u} T) =
+      let E = takes-ends h T in
+      let O = taken-out S h T in
+      let a = O .out i refl in
+      out-ends i (a .0) m n u (a .1) (O .size) (O .turn) (λ z. E .0 (ap some (sym z)))
+      (⊎-elim (λ y. inl (sym (Option·some-injective i (Q .front) y))) inr (E .1))
+  poll-ends h (nothing T) =
+      let E = takes-ends h T in
+      let O = taken-out S h T in (
         λ z. none-out (z .4),
-        inr (requeued Q refl refl refl (⊎-elim (λ z. let y : _≡_ {A = ℕ} 0 1 = cc in absurd (omega arith)) off-wheel (O .1))),
+        inr (requeued Q (O .size) (ap (λ f. f (Q .front)) (O .turn)) (ap (λ f. f (Q .back)) (O .turn))
+            (⊎-elim (λ z. absurd (Option·some-ne-none _ (sym z))) (λ y. y) (E .1))),
       )
 
   left-same : (p i : ℕ) → (left p i v .n ≡ v .n) × (left p i v .turn ≡ v .turn)

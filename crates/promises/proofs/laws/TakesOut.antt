@@ -1,0 +1,121 @@
+-- What a poll takes out, by its lists: who was pending stays pending but the one taken out, which is in no list, and nobody comes (`taken-out`). It does not
+-- matter whether it came from the expired stack or from the wheel.
+use mathlib.Core.Path.{_≡_, refl, sym}
+use mathlib.Core.Logic.{_≢_, inl, ⊎-elim, by-cases}
+use mathlib.Core.List.{List, []}
+use mathlib.Core.Option.{Option, none, some, Option·some-injective, Option·some-ne-none}
+use Prim.Native.Nat.{ℕ, _≤_, _<_}
+use native.Mathlib.Decide.{ℕ-discrete, decLt}
+use native.Mathlib.Omega.{arith}
+use borrow.Author.Tests.{eq-eqb, ne-eqb}
+use Rattle.links.specs.Lists.{Mem, change}
+use Rattle.links.proofs.laws.Lists.{change-same, change-other}
+use Rattle.stack.specs.Places.{slots, expired, free}
+use Rattle.stack.proofs.laws.Whole as stack-laws
+use Rattle.wheel.specs.Wheel.{Lists, Polls}
+use Rattle.wheel.proofs.laws.Sums.{mem-change, mem-kept, mem-left, hits, lies-times, times-lies}
+use Rattle.wheel.proofs.laws.Between.{rule-between}
+use Rattle.wheel.proofs.laws.Drain.{amount}
+use Rattle.wheel.proofs.laws.Poll.{Promise, given, waits-on, poll-law}
+use Rattle.records.specs.View.{View}
+use Rattle.records.specs.Records.{At}
+use Rattle.queue.specs.Steps.{TakesOut, polled, popped}
+use Rattle.records.specs.Words.{QueueWords, view, Sound}
+use Rattle.promises.proofs.laws.Polling.{Other, one-list, lies-once}
+
+-- from v to u nobody comes, and nobody leaves but who is taken out
+pub record TakenOut (v : View) (got : Option ℕ) (u : View) : Type 0 where
+  pub size : u .n ≡ v .n
+  pub value : u .value ≡ v .value
+  pub deadline : u .deadline ≡ v .deadline
+  pub turn : u .turn ≡ v .turn
+  pub free : u .lists free ≡ v .lists free
+  pub was : (y p : ℕ) → At u y p → (q : ℕ) × At v y q
+  pub stays : (y : ℕ) → Other got y → (p : ℕ) → At v y p → (q : ℕ) × At u y q
+  pub expired : (y : ℕ) → Other got y → Mem y (v .lists expired) → Mem y (u .lists expired)
+  pub out : (r : ℕ) → got ≡ some r → (p : ℕ) × At v r p
+  pub gone : (r : ℕ) → got ≡ some r → (q : ℕ) → Mem r (u .lists q) → ⊥
+
+module _ {s : QueueWords} (S : Sound s) where
+  abbrev v : View
+  v = view s
+
+  -- a record that leaves a list is in none
+  pub moved-out : (i p : ℕ) → Mem i (v .lists p) → (l : List ℕ) → (Mem i l → ⊥) → (q : ℕ) → Mem i (change (v .lists) p l q) → ⊥
+  moved-out i p m l out q k = ⊎-elim (λ a. out (a .1)) (λ a. a .0 (one-list S i q p (a .1) m)) (mem-change (v .lists) p l q i k)
+
+  pub wheel-promise : {now m n e : ℕ} {o : Option ℕ} {L : Lists} → v .lists expired ≡ [] → v .elapsed ≤ now
+      → Polls (v .deadline) now (v .elapsed) (v .lists) o m n e L → Promise (v .deadline) now (v .elapsed) (v .lists) o m n e L
+  wheel-promise x h P = poll-law (rule-between (S .rule)) x h P
+
+  module _ {now m n e : ℕ} {o : Option ℕ} {N : Lists} (P : Promise (v .deadline) now (v .elapsed) (v .lists) o m n e N)
+      (empty : v .lists expired ≡ []) where
+    wheel-was : (y p : ℕ) → p < free → Mem y (N p) → (q : ℕ) × At v y q
+    unfolding amount
+    wheel-was y p h k =
+        by-cases (decLt p slots)
+        (λ g.
+        let r = times-lies slots (v .lists) y (omega (arith, P .kept (hits y), lies-times slots N y p g k)) in
+        (r .0, record { timed = omega arith; member = r .2 }))
+        (λ g. (p, record { timed = h; member = rw (P .aside p (omega arith)) at k }))
+
+    wheel-stays : (y : ℕ) → given (hits y) o ≡ 0 → (p : ℕ) → At v y p → (q : ℕ) × (q < free) × Mem y (N q)
+    wheel-stays y z p a =
+        by-cases (ℕ-discrete p expired)
+        (λ e. absurd (rw (e, empty) at (a .member)))
+        (λ d. let b = waits-on P y z (p, omega (arith, a .timed), a .member) in (b .0, omega (arith, b .1), b .2))
+
+  wheel-gone : {now i m n e : ℕ} {N : Lists} → Promise (v .deadline) now (v .elapsed) (v .lists) (some i) m n e N → (q : ℕ) → Mem i (N q) → ⊥
+  unfolding amount
+  wheel-gone {i = i} {N = N} P q k =
+      let w = P .fair .0 in
+      let one : hits i i ≡ 1 = rw (eq-eqb i i refl) in
+      by-cases (decLt q slots)
+      (λ h. omega (arith, lies-times slots N i q h k, P .kept (hits i), lies-once S i slots))
+      (λ h. omega (arith, one-list S i (w .0) q (w .2) (rw (P .aside q (omega arith)) at k)))
+
+  not-given : (o : Option ℕ) (y : ℕ) → Other o y → given (hits y) o ≡ 0
+  not-given none y h = refl
+  not-given (some r) y h = rw (ne-eqb r y (λ z. h (sym z)))
+
+  wheel-out : {now m n e : ℕ} {N : Lists} (o : Option ℕ) → Promise (v .deadline) now (v .elapsed) (v .lists) o m n e N
+      → ((r : ℕ) → o ≡ some r → (p : ℕ) × At v r p) × ((r : ℕ) → o ≡ some r → (q : ℕ) → Mem r (N q) → ⊥)
+  wheel-out none P = (λ r z. absurd (Option·some-ne-none r (sym z)), λ r z. absurd (Option·some-ne-none r (sym z)))
+  wheel-out (some i) P =
+      let w = P .fair .0 in (
+        λ r z. (w .0, record { timed = omega (arith, w .1); member = rw (sym (Option·some-injective i r z)) (w .2) }),
+        λ r z q k. wheel-gone P q (rw (Option·some-injective i r z) k),
+      )
+
+  pub taken-out : {now m n : ℕ} {got : Option ℕ} {u : View} → v .elapsed ≤ now → TakesOut v now got m n u → TakenOut v got u
+  taken-out h (popped {r} {l} e) =
+      let m : Mem r (v .lists expired) = rw e (inl refl) in
+      let d = rw e at (stack-laws.list-nodup (S .standing .whole .stack) expired) in
+      let rest : (y : ℕ) → y ≢ r → Mem y (v .lists expired) → Mem y l = λ y d₁ k. ⊎-elim (λ z. absurd (d₁ z)) (λ x. x) (rw e at k) in
+      record {
+        size = refl;
+        value = refl;
+        deadline = refl;
+        turn = refl;
+        free = change-other (v .lists) expired l free (omega arith);
+        was = λ y p a. (p, record { timed = a .timed; member = mem-left (v .lists) expired r l e p y (a .member) });
+        stays = λ y d₁ p a. (p, record { timed = a .timed; member = mem-kept (v .lists) expired l p y (rest y d₁) (a .member) });
+        expired = λ y d₁ k. rw (change-same (v .lists) expired l) (rest y d₁ k);
+        out = λ i z. (expired, record { timed = omega arith; member = rw (sym (Option·some-injective r i z)) m });
+        gone = λ i z q k. moved-out r expired m l (d .0) q (rw (Option·some-injective r i z) k);
+      }
+  taken-out h (polled {got} {m} {n} {e} {L} empty P) =
+      let W = wheel-promise empty h P in
+      let O = wheel-out got W in
+      record {
+        size = refl;
+        value = refl;
+        deadline = refl;
+        turn = refl;
+        free = W .aside free (omega arith);
+        was = λ y p a. wheel-was W empty y p (a .timed) (a .member);
+        stays = λ y d p a. let b = wheel-stays W empty y (not-given got y d) p a in (b .0, record { timed = b .1; member = b .2 });
+        expired = λ y d k. absurd (rw empty at k);
+        out = O .0;
+        gone = O .1;
+      }
