@@ -65,7 +65,11 @@ impl Bench {
         };
         match command {
             Command::Format { .. } => unreachable!("answered above"),
-            Command::Insert { value, when } => store.insert(value, when),
+            Command::Insert {
+                value,
+                when,
+                period,
+            } => store.insert(value, when, period),
             Command::Reset { key, when } => store.reset(key, when),
             Command::Remove { key } => store.remove(key),
             Command::Poll { now } => store.poll(now),

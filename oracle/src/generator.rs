@@ -87,6 +87,7 @@ pub fn give(seed: u64, most_records: u64, taker: &mut impl Taker) {
         most_records,
         given: vec![],
         reach: REACHES[0],
+        repeats: true,
         mix: MIXES[5],
     };
     generator.run();
@@ -99,6 +100,8 @@ struct Generator<'a, T> {
     /// Keys that were given out, many of them dead by now.
     given: Vec<u64>,
     reach: u64,
+    /// Timers of this stretch may repeat.
+    repeats: bool,
     mix: [u64; 8],
 }
 
@@ -157,6 +160,7 @@ impl<T: Taker> Generator<'_, T> {
             self.format();
         }
         self.reach = self.rng.pick(&REACHES);
+        self.repeats = self.rng.chance(3, 4);
         self.mix = self.rng.pick(&MIXES);
         let seldom = if self.is_large() { 3 } else { 12 };
         if self.rng.chance(1, seldom) {
@@ -221,7 +225,42 @@ impl<T: Taker> Generator<'_, T> {
             _ => self.rng.below(1000),
         };
         let when = self.when();
-        Command::Insert { value, when }
+        let period = self.period(when);
+        Command::Insert {
+            value,
+            when,
+            period,
+        }
+    }
+
+    /// None half of the time; else short, about a slot's width, within reach, a few times up to the block's
+    /// end, or so long that the next time is the last.
+    fn period(&mut self, when: u64) -> u64 {
+        if !self.repeats || self.rng.chance(1, 2) {
+            return 0;
+        }
+        let first = when.max(self.elapsed());
+        let left = FARTHEST - (first & FARTHEST);
+        match self.rng.below(14) {
+            0 => 1,
+            1 => 1 + self.rng.below(70),
+            2..=4 => {
+                let width = self.rng.pick(&WIDTHS);
+                self.near(width)
+            }
+            5..=7 => 1 + self.ahead(),
+            8 => self.near(FARTHEST),
+            9 | 10 => self.near(left),
+            11 | 12 => {
+                let times = 2 + self.rng.below(4);
+                self.near(left / times)
+            }
+            _ => match self.rng.below(4) {
+                0 => self.near(u64::MAX),
+                1 => self.rng.next(),
+                _ => self.near(u64::MAX - first),
+            },
+        }
     }
 
     fn reset(&mut self) -> Command {
@@ -235,18 +274,33 @@ impl<T: Taker> Generator<'_, T> {
         Command::Reset { key, when }
     }
 
+    /// Timers that repeat may go on for ever: after some polls each that comes out is taken away.
     fn poll_until_none(&mut self, now: u64) {
-        let poll = Command::Poll { now };
-        while let Some(Answer::Out { .. }) = self.command(poll) {}
+        let pending = self.store().map_or(0, |store| store.pending().len());
+        let mut left = self.rng.below(pending as u64 + 20);
+        while let Some(Answer::Out { key, .. }) = self.command(Command::Poll { now }) {
+            if left > 0 {
+                left -= 1;
+            } else if self.store().is_some_and(|store| store.holds(key)) {
+                self.command(Command::Remove { key });
+            }
+        }
     }
 
     /// Fills the store, then empties it by polls.
     fn rush(&mut self) {
         let same = self.rng.chance(1, 3).then(|| self.when());
+        let same_period = same.map(|when| self.period(when));
         loop {
             let value = self.rng.below(1000);
             let when = same.unwrap_or_else(|| self.when());
-            match self.command(Command::Insert { value, when }) {
+            let period = same_period.unwrap_or_else(|| self.period(when));
+            let insert = Command::Insert {
+                value,
+                when,
+                period,
+            };
+            match self.command(insert) {
                 Some(Answer::Key(_)) => (),
                 Some(Answer::No(4 | 5)) if same.is_none() => (),
                 _ => break,
@@ -353,9 +407,13 @@ impl<T: Taker> Generator<'_, T> {
     }
 
     fn within_reach(&mut self) -> u64 {
-        let bits = self.rng.below(self.reach + 1);
-        let ahead = self.rng.next() & ((1 << bits) - 1);
+        let ahead = self.ahead();
         self.elapsed().wrapping_add(ahead)
+    }
+
+    fn ahead(&mut self) -> u64 {
+        let bits = self.rng.below(self.reach + 1);
+        self.rng.next() & ((1 << bits) - 1)
     }
 
     /// A deadline.

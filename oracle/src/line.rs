@@ -4,7 +4,8 @@ use std::fmt;
 #[derive(Clone, Copy, PartialEq, Eq, Debug)]
 pub enum Command {
     Format { records: u64, turn: u64 },
-    Insert { value: u64, when: u64 },
+    /// A period of 0 is none: the timer does not repeat (02 [7]).
+    Insert { value: u64, when: u64, period: u64 },
     Reset { key: u64, when: u64 },
     Remove { key: u64 },
     Poll { now: u64 },
@@ -27,6 +28,8 @@ pub enum Answer {
         deadline: u64,
         moves: u64,
         drains: u64,
+        /// The timer repeats, and this was its last time: only of one with a period.
+        last: bool,
     },
     Nothing {
         moves: u64,
@@ -59,9 +62,10 @@ pub fn parse(line: &[u8]) -> Option<Command> {
             records: number(1)?,
             turn: number(2)?,
         },
-        (b"i", 3) => Command::Insert {
+        (b"i", 4) => Command::Insert {
             value: number(1)?,
             when: number(2)?,
+            period: number(3)?,
         },
         (b"s", 3) => Command::Reset {
             key: number(1)?,
@@ -91,7 +95,11 @@ impl fmt::Display for Command {
     fn fmt(&self, f: &mut fmt::Formatter<'_>) -> fmt::Result {
         match *self {
             Command::Format { records, turn } => write!(f, "f {records} {turn}"),
-            Command::Insert { value, when } => write!(f, "i {value} {when}"),
+            Command::Insert {
+                value,
+                when,
+                period,
+            } => write!(f, "i {value} {when} {period}"),
             Command::Reset { key, when } => write!(f, "s {key} {when}"),
             Command::Remove { key } => write!(f, "r {key}"),
             Command::Poll { now } => write!(f, "p {now}"),
@@ -114,7 +122,11 @@ impl fmt::Display for Answer {
                 deadline,
                 moves,
                 drains,
-            } => write!(f, "out {key} {value} {deadline} {moves} {drains}"),
+                last,
+            } => {
+                let end = if last { " last" } else { "" };
+                write!(f, "out {key} {value} {deadline} {moves} {drains}{end}")
+            }
             Answer::Nothing { moves, drains } => write!(f, "none {moves} {drains}"),
             Answer::Wake(Some(time)) => write!(f, "wake {time}"),
             Answer::Wake(None) => write!(f, "wake -"),

@@ -15,6 +15,8 @@ const TOO_LARGE: [&str; 8] = [
 const NO_NUMBERS: [&str; 11] = [
     "", "-1", "+1", "-0", "00", "01", "0x1", "1.0", "1e3", "1_000", "\u{661}",
 ];
+/// What may not follow value and deadline: an insert has three fields, no fewer and no more.
+const NO_PERIODS: [&str; 7] = ["", " ", " 0 0", " 5 5", " -5", " +5", " 05"];
 const NO_SPACES: [&str; 8] = ["", "  ", "\t", ",", "\u{b}", "\u{a0}", "\0", " \t"];
 const NO_LETTERS: [&str; 6] = ["", "q", "ii", "#", "0", " "];
 const LENGTHS: [usize; 8] = [79, 80, 80, 81, 81, 82, 160, 1000];
@@ -34,7 +36,7 @@ pub fn malformed(rng: &mut Rng, command: &str) -> Vec<u8> {
         8 => with_last_field(command, rng.pick(&NO_NUMBERS)),
         9 => without_last_field(command),
         10 => format!("{command} {}", rng.below(3)),
-        11 => format!("i {} {} {}", rng.below(9), rng.below(99), rng.below(9)),
+        11 => format!("i {} {}{}", rng.below(9), rng.below(99), rng.pick(&NO_PERIODS)),
         12 => format!("{}{}", rng.pick(&NO_LETTERS), &command[1..]),
         13 => return with_odd_byte(command, rng),
         14 => return long(command, rng),

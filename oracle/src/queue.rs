@@ -99,8 +99,10 @@ impl Queue {
         self.wheel.elapsed()
     }
 
-    pub fn deadline(&self, number: usize) -> u64 {
-        self.slab[Key::new(number)].when
+    /// Value and deadline.
+    pub fn held(&self, number: usize) -> (u64, u64) {
+        let data = &self.slab[Key::new(number)];
+        (data.inner, data.when)
     }
 
     /// What the last poll did to the wheel's lists.

@@ -1,7 +1,7 @@
 //! Every sequence of a few commands over a small alphabet, each on a store of two records that can
 //! leave once before their last turn.
 use crate::line::Command;
-use crate::rules::{key, LAST_TURN};
+use crate::rules::{key, BLOCK_BITS, LAST_TURN};
 use crate::script::Script;
 use std::ops::Range;
 
@@ -10,7 +10,11 @@ const TURN: u64 = LAST_TURN - 1;
 pub fn alphabet() -> Vec<Command> {
     let [first, second] = [key(TURN, 0), key(TURN, 1)];
     let first_again = key(TURN + 1, 0);
-    let inserts = [0, 1, 63, 64, 65, 4096, 4160].map(|when| Command::Insert { value: 1, when });
+    let once = [0, 1, 63, 64, 65, 4096, 4160].map(|when| (when, 0));
+    // The first goes on from slot to slot, the second comes out for the last time: its block ends.
+    let repeating = [(63, 1), (64, (1 << BLOCK_BITS) - 64)];
+    let inserts = [&once[..], &repeating].concat();
+    let inserts: Vec<Command> = inserts.into_iter().map(insert).collect();
     let polls = [0, 1, 63, 64, 65, 4095, 4096, 4161].map(|now| Command::Poll { now });
     let resets = [first, second]
         .map(|key| [0, 64, 65, 4097].map(|when| Command::Reset { key, when }))
@@ -18,6 +22,14 @@ pub fn alphabet() -> Vec<Command> {
     let removes = [first, first_again].map(|key| Command::Remove { key });
     let others = [Command::Wake, Command::Clear];
     [&inserts[..], &polls, &resets, &removes, &others].concat()
+}
+
+fn insert((when, period): (u64, u64)) -> Command {
+    Command::Insert {
+        value: 1,
+        when,
+        period,
+    }
 }
 
 /// How many sequences of this depth there are.

@@ -22,6 +22,8 @@ enum Place {
 struct Record {
     turn: u64,
     value: u64,
+    /// 0 for none. Leaving keeps it.
+    period: u64,
     deadline: u64,
     place: Place,
     /// The original's number for this timer.
@@ -38,6 +40,7 @@ pub struct Entry {
     pub record: usize,
     pub turn: u64,
     pub value: u64,
+    pub period: u64,
     pub deadline: u64,
 }
 
@@ -62,6 +65,7 @@ impl Store {
         let free = Record {
             turn,
             value: 0,
+            period: 0,
             deadline: 0,
             place: Place::Free,
             number: 0,
@@ -79,7 +83,7 @@ impl Store {
         }
     }
 
-    pub fn insert(&mut self, value: u64, when: u64) -> Answer {
+    pub fn insert(&mut self, value: u64, when: u64, period: u64) -> Answer {
         if self.freed.is_empty() && self.fresh == self.records.len() {
             return Answer::No(3);
         }
@@ -87,11 +91,12 @@ impl Store {
             return Answer::No(number);
         }
         let record = self.take();
-        let number = self.original.insert(value, when);
-        self.record_of[number] = record;
         self.records[record].value = value;
-        self.records[record].number = number;
-        self.place(record, when);
+        self.records[record].period = period;
+        if let Some(model) = &mut self.model {
+            model.insert(record, when, period);
+        }
+        self.put(record, when);
         Answer::Key(self.key(record))
     }
 
@@ -104,7 +109,7 @@ impl Store {
         }
         self.original.reset(self.records[record].number, when);
         if let Some(model) = &mut self.model {
-            model.remove(record);
+            model.reset(record, when);
         }
         self.place(record, when);
         Answer::Ok
@@ -141,24 +146,33 @@ impl Store {
             record
         });
         let (moves, drains) = self.counted();
-        if let Some(before) = before {
-            self.check_poll(&before, out);
+        if let Some(before) = &before {
+            self.check_poll(before, out);
         }
         let Some(record) = out else {
             return Answer::Nothing { moves, drains };
         };
         let key = self.key(record);
-        let Record {
-            value, deadline, ..
-        } = self.records[record];
-        self.unpend(record);
-        self.leave(record);
+        let handed = self.records[record].clone();
+        let again = self.again(record);
+        match again {
+            Some(when) => self.put(record, when),
+            None => {
+                self.unpend(record);
+                self.leave(record);
+            }
+        }
+        let last = handed.period > 0 && again.is_none();
+        if before.is_some() {
+            self.check_again(record, &handed, last);
+        }
         Answer::Out {
             key,
-            value,
-            deadline,
+            value: handed.value,
+            deadline: handed.deadline,
             moves,
             drains,
+            last,
         }
     }
 
@@ -173,7 +187,7 @@ impl Store {
     pub fn clear(&mut self) -> Answer {
         self.original.clear();
         if let Some(model) = &mut self.model {
-            *model = Model::new(self.records.len());
+            model.clear();
         }
         for record in mem::take(&mut self.pending) {
             self.leave(record);
@@ -224,6 +238,7 @@ impl Store {
                 record,
                 turn: self.records[record].turn,
                 value,
+                period: self.records[record].period,
                 deadline,
             });
         });
@@ -240,6 +255,17 @@ impl Store {
 
     pub fn turn(&self, record: usize) -> u64 {
         self.records[record].turn
+    }
+
+    /// Value and period of every record, also of those that have left.
+    pub fn values(&self) -> impl Iterator<Item = [u64; 2]> + '_ {
+        let records = self.records.iter();
+        records.map(|record| [record.value, record.period])
+    }
+
+    /// The key names a pending timer.
+    pub fn holds(&self, key: u64) -> bool {
+        self.find(key).is_some()
     }
 
     /// Elapsed and all lists, head first: `# e=ELAPSED x=[..] LEVEL.SLOT=[..] ..`.
@@ -299,10 +325,25 @@ impl Store {
         })
     }
 
+    /// Where a timer that was handed out is placed again. "If refusals 4 or 5 would meet that deadline
+    /// at the elapsed time after the hand-out, or it passes 2^64-1", nowhere (02 [7]).
+    fn again(&self, record: usize) -> Option<u64> {
+        let Record {
+            period, deadline, ..
+        } = self.records[record];
+        let next = deadline.checked_add(period)?;
+        (period > 0 && self.too_far(next).is_none()).then_some(next)
+    }
+
+    /// Goes into the original, which numbers it anew. A timer that is placed again keeps its record and turn.
+    fn put(&mut self, record: usize, when: u64) {
+        let number = self.original.insert(self.records[record].value, when);
+        self.record_of[number] = record;
+        self.records[record].number = number;
+        self.place(record, when);
+    }
+
     fn place(&mut self, record: usize, when: u64) {
-        if let Some(model) = &mut self.model {
-            model.insert(record, when);
-        }
         if let Err(at) = self.pending.binary_search(&record) {
             self.pending.insert(at, record);
         }

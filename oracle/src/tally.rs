@@ -3,10 +3,11 @@ use crate::line::lines;
 use std::collections::BTreeMap;
 use std::fmt;
 
-/// Every kind there is. `drains 5` counts polls with five drains, answered `out` or `none`.
-const KINDS: [&str; 23] = [
-    "ok", "key", "gone", "out", "none", "wake", "wake -", "len", "bad", "no 1", "no 2", "no 3",
-    "no 4", "no 5", "no 6", "no 7", "no 8", "drains 0", "drains 1", "drains 2", "drains 3",
+/// Every kind there is. `last` counts those of `out` that end so, `drains 5` polls with five drains,
+/// answered `out` or `none`.
+const KINDS: [&str; 24] = [
+    "ok", "key", "gone", "out", "last", "none", "wake", "wake -", "len", "bad", "no 1", "no 2",
+    "no 3", "no 4", "no 5", "no 6", "no 7", "no 8", "drains 0", "drains 1", "drains 2", "drains 3",
     "drains 4", "drains 5",
 ];
 
@@ -23,7 +24,11 @@ impl Tally {
                 "no" => self.count(&line),
                 "wake" if rest == "-" => self.count(&line),
                 "out" | "none" => {
-                    let drains = rest.rsplit(' ').next().unwrap_or("");
+                    let last = rest.strip_suffix(" last");
+                    if last.is_some() {
+                        self.count("last");
+                    }
+                    let drains = last.unwrap_or(rest).rsplit(' ').next().unwrap_or("");
                     self.count(&format!("drains {drains}"));
                     self.count(word);
                 }

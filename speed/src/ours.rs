@@ -6,8 +6,9 @@ type Heads = [[u16; 64]; 6];
 
 /// A command of the benchmark.
 type Command = [u64; 2];
-/// A call: its number, in the order of `Call` in crates/delay_queue, and two arguments. A poll's time is the second.
-pub type Call = [u64; 3];
+/// A call: its number, in the order of `Call` in crates/delay_queue, and three arguments. A poll's time is the second, an insert's
+/// period the third.
+pub type Call = [u64; 4];
 /// An answer: its number, in the order of `Answer` in crates/queue, and its parts.
 pub type Answer = [u64; 6];
 
@@ -16,7 +17,7 @@ pub const FORMAT: u64 = 0;
 #[rustfmt::skip]
 extern "C" {
     fn harness_call(state: &mut State, heads: &mut Heads, values: *mut u64, v: usize, deadlines: *mut u64, d: usize, nexts: *mut u16, x: usize,
-        prevs: *mut u16, p: usize, turns: *mut u64, t: usize, marks: *mut u16, m: usize, op: u64, a: u64, b: u64, answer: &mut Answer);
+        prevs: *mut u16, p: usize, turns: *mut u64, t: usize, marks: *mut u16, m: usize, op: u64, a: u64, b: u64, c: u64, answer: &mut Answer);
     fn harness_answers(state: &mut State, heads: &mut Heads, values: *mut u64, v: usize, deadlines: *mut u64, d: usize, nexts: *mut u16, x: usize,
         prevs: *mut u16, p: usize, turns: *mut u64, t: usize, marks: *mut u16, m: usize, script: *const u64, words: usize,
         answers: *mut u64, room: usize) -> bool;
@@ -33,6 +34,7 @@ pub struct Store {
     /// Elapsed, six rows, n, the heads of the expired stack and of the free list.
     pub state: State,
     pub heads: Heads,
+    /// Two words a record: the value of record i is word 2 i, its period the next.
     pub values: Vec<u64>,
     pub deadlines: Vec<u64>,
     pub nexts: Vec<u16>,
@@ -58,7 +60,7 @@ macro_rules! lend {
 impl Store {
     pub fn new(n: usize) -> Store {
         let mut store = Store::room(n);
-        assert_eq!(store.call([FORMAT, n as u64, 1]), [0; 6], "formatted");
+        assert_eq!(store.call([FORMAT, n as u64, 1, 0]), [0; 6], "formatted");
         assert!(store.judge(), "a fresh store must be sound");
         store
     }
@@ -68,7 +70,7 @@ impl Store {
         Store {
             state: [0; 10],
             heads: [[0; 64]; 6],
-            values: vec![0; n],
+            values: vec![0; 2 * n],
             deadlines: vec![0; n],
             nexts: vec![0; n],
             prevs: vec![0; n],
@@ -82,15 +84,15 @@ impl Store {
     }
 
     /// One call, which judges first.
-    pub fn call(&mut self, [op, a, b]: Call) -> Answer {
+    pub fn call(&mut self, [op, a, b, c]: Call) -> Answer {
         let mut answer = [u64::MAX; 6];
-        lend!(harness_call, self, op, a, b, &mut answer);
+        lend!(harness_call, self, op, a, b, c, &mut answer);
         answer
     }
 
     /// Calls that judge nothing, with their answers. Says whether the store was sound before the first.
     pub fn answers(&mut self, calls: &[Call], answers: &mut [Answer]) -> bool {
-        let (script, words) = (calls.as_ptr().cast(), 3 * calls.len());
+        let (script, words) = (calls.as_ptr().cast(), 4 * calls.len());
         let (to, room) = (answers.as_mut_ptr().cast(), 6 * answers.len());
         lend!(harness_answers, self, script, words, to, room)
     }

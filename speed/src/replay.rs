@@ -12,7 +12,7 @@ pub fn lines(mix: &Mix, many: usize) -> String {
     for (i, &[first, second]) in mix.script[..many - 1].iter().enumerate() {
         let key = first & ((1 << 60) - 1);
         match first >> 60 {
-            INSERT => writeln!(text, "i {i} {second}"),
+            INSERT => writeln!(text, "i {i} {second} 0"),
             RESET => writeln!(text, "s {key} {second}"),
             REMOVE => writeln!(text, "r {key}"),
             POLL => writeln!(text, "p {second}"),

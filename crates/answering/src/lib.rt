@@ -9,12 +9,12 @@ ghost use Rattle.decimals.specs.Text.{Decimal, Spaced};
 ghost use Rattle.answering.specs.Text.{put, PutClaim, WriteClaim, BadClaim};
 ghost use Rattle.answering.specs.Parts.{Before};
 
-// Room for a line: a word of six letters, five numbers of twenty digits with a space each, and the newline, which is there
-// already.
-fn blank() -> [u8; 112]
-    ensures { λ r. ⌜ (length r ≡ 112) × (drop 111 r ≡ 10 ∷ []) ⌝ }
+// Room for a line: a word of six letters, five numbers of twenty digits with a space each, an ending of five letters, and
+// the newline, which is there already.
+fn blank() -> [u8; 117]
+    ensures { λ r. ⌜ (length r ≡ 117) × (drop 116 r ≡ 10 ∷ []) ⌝ }
 {
-    [b'\n'; 112]
+    [b'\n'; 117]
 }
 
 // Copies src into dst from at on.
@@ -62,25 +62,35 @@ fn numbers_before(buf: &mut [u8], end: usize, numbers: &[u64]) -> usize
     e
 }
 
-// Writes the line of a word and numbers into out from at on, and says where it ends. Whether out has room for it is known
-// only once it is made, so it is made in a buffer of its own.
-fn write_line(out: &mut [u8], at: usize, word: &[u8], numbers: &[u64]) -> usize
-    requires { ⌜ (length (now word) ≤ 6) × (length (now numbers) ≤ 5) ⌝ }
-    ensures { λ r. ⌜ PutClaim (old word) (old numbers) (old out) at r (new out) ⌝ }
+// Writes the line of a word, numbers and an ending into out from at on, and says where it ends. Whether out has room for it
+// is known only once it is made, so it is made in a buffer of its own.
+fn write_ended(out: &mut [u8], at: usize, word: &[u8], numbers: &[u64], ending: &[u8]) -> usize
+    requires { ⌜ (length (now word) ≤ 6) × (length (now numbers) ≤ 5) × (length (now ending) ≤ 5) ⌝ }
+    ensures { λ r. ⌜ PutClaim (old word) (old numbers) (old ending) (old out) at r (new out) ⌝ }
 {
     let mut buf = blank();
-    let e = numbers_before(&mut buf, 111, numbers);
+    let stop = 116 - ending.len();
+    copy(&mut buf, stop, ending);
+    let e = numbers_before(&mut buf, stop, numbers);
     let start = e - word.len();
     copy(&mut buf, start, word);
     if out.len() < at {
         return at;
     }
-    let size = 112 - start;
+    let size = 117 - start;
     if out.len() - at < size {
         return at;
     }
     copy(out, at, &buf[start..]);
     at + size
+}
+
+// The line of a word and numbers alone.
+fn write_line(out: &mut [u8], at: usize, word: &[u8], numbers: &[u64]) -> usize
+    requires { ⌜ (length (now word) ≤ 6) × (length (now numbers) ≤ 5) ⌝ }
+    ensures { λ r. ⌜ PutClaim (old word) (old numbers) [] (old out) at r (new out) ⌝ }
+{
+    write_ended(out, at, word, numbers, &[])
 }
 
 // Writes the line of an answer into out from at on, and says where it ends: at at, with out unchanged, where there is no room.
@@ -92,6 +102,7 @@ pub fn write_answer(out: &mut [u8], at: usize, a: Answer) -> usize
         Answer::Key(k) => write_line(out, at, b"key", &[k]),
         Answer::Gone(v, d) => write_line(out, at, b"gone", &[v, d]),
         Answer::Out(k, v, d, m, n) => write_line(out, at, b"out", &[k, v, d, m, n]),
+        Answer::Last(k, v, d, m, n) => write_ended(out, at, b"out", &[k, v, d, m, n], b" last"),
         Answer::Nothing(m, n) => write_line(out, at, b"none", &[m, n]),
         Answer::Wake(t) => write_line(out, at, b"wake", &[t]),
         Answer::NoWake => write_line(out, at, b"wake -", &[]),

@@ -36,7 +36,7 @@ pub fn ask(
             n,
             turn,
         ),
-        Call::Insert(value, when) => delay_queue::insert(
+        Call::Insert(value, when, period) => delay_queue::insert(
             state,
             heads,
             values,
@@ -47,6 +47,7 @@ pub fn ask(
             marks,
             value,
             when,
+            period,
         ),
         Call::Reset(key, when) => delay_queue::reset(
             state,

@@ -11,11 +11,12 @@ use Rattle.decimals.specs.Text.{Spaced}
 use Rattle.asking.specs.declared.Line.{Line}
 use Rattle.asking.specs.declared.Line.the-variants as L
 
--- ---- "`f N turn`, `i value when`, `s key when` (reset), `r key`, `p now`, `w`, `l`, `c`"
+-- ---- "`f N turn`, `i value when`, `s key when` (reset), `r key`, `p now`, `w`, `l`, `c`"; 02 [7]: "the `i` line always has a third field,
+-- the period"
 
 abbrev pub letter : Call → ℕ
 letter (C.Format n turn) = code "f"
-letter (C.Insert value when) = code "i"
+letter (C.Insert value when period) = code "i"
 letter (C.Reset key when) = code "s"
 letter (C.Remove key) = code "r"
 letter (C.Poll now) = code "p"
@@ -25,7 +26,7 @@ letter C.Clear = code "c"
 
 abbrev pub numbers : Call → List ℕ
 numbers (C.Format n turn) = n ∷ turn ∷ []
-numbers (C.Insert value when) = value ∷ when ∷ []
+numbers (C.Insert value when period) = value ∷ when ∷ period ∷ []
 numbers (C.Reset key when) = key ∷ when ∷ []
 numbers (C.Remove key) = key ∷ []
 numbers (C.Poll now) = now ∷ []

@@ -5,7 +5,7 @@ ghost use mathlib.Core.Path.{_≡_};
 ghost use mathlib.Core.List.{_∷_};
 ghost use Rattle.contracts.specs.Lent.{old};
 ghost use Rattle.asking.specs.Text.{ReadClaim};
-ghost use Rattle.asking.specs.Parts.{EndsAt, Holds, callOf};
+ghost use Rattle.asking.specs.Parts.{EndsAt, Begins, Holds, inFront, callOf};
 
 // What a line asks: one call, or nothing that the bench knows.
 pub enum Line {
@@ -13,11 +13,19 @@ pub enum Line {
     Bad,
 }
 
-// The numbers behind a line's letter, of which no call has more than two.
+// The numbers behind a line's letter, of which no call has more than three.
 enum Fields {
     None,
     One(u64),
     Two(u64, u64),
+    Three(u64, u64, u64),
+    Bad,
+}
+
+// What numbers begin with: no number, one that is all of them, or one behind which the next begins at that place.
+enum First {
+    Only(u64),
+    Then(u64, usize),
     Bad,
 }
 
@@ -35,30 +43,78 @@ fn field_end(s: &[u8]) -> usize
     i
 }
 
-// The one or two numbers that begin behind a space. What stands behind the second space belongs to the second number, so
-// that a third number or another space makes it no decimal.
-fn one_or_two(s: &[u8]) -> Fields
-    ensures { λ r. ⌜ Holds (32 ∷ old s) r ⌝ }
+// The first of the numbers that begin behind a space.
+fn first_of(s: &[u8]) -> First
+    ensures { λ r. ⌜ Begins (old s) r ⌝ }
 {
     let e = field_end(s);
     let x = decimals::number(&s[..e]);
     let Num::Is(a) = x else {
-        return Fields::Bad;
+        return First::Bad;
     };
     if s.len() <= e {
-        return Fields::One(a);
+        return First::Only(a);
     }
-    let f = e + 1;
-    let y = decimals::number(&s[f..]);
-    let Num::Is(b) = y else {
-        return Fields::Bad;
-    };
-    Fields::Two(a, b)
+    First::Then(a, e + 1)
+}
+
+// A number more, in front of one or two.
+fn in_front(a: u64, rest: Fields) -> Fields
+    ensures { λ r. ⌜ r ≡ inFront a rest ⌝ }
+{
+    match rest {
+        Fields::One(b) => Fields::Two(a, b),
+        Fields::Two(b, c) => Fields::Three(a, b, c),
+        Fields::Three(_, _, _) => Fields::Bad,
+        Fields::None => Fields::Bad,
+        Fields::Bad => Fields::Bad,
+    }
+}
+
+// The one number behind a space. What stands behind another space belongs to it, so that it is no decimal then.
+fn one(s: &[u8]) -> Fields
+    ensures { λ r. ⌜ Holds 1 (32 ∷ old s) r ⌝ }
+{
+    let x = decimals::number(s);
+    match x {
+        Num::Is(a) => Fields::One(a),
+        Num::Bad => Fields::Bad,
+    }
+}
+
+// The one or two numbers that begin behind a space.
+fn one_or_two(s: &[u8]) -> Fields
+    ensures { λ r. ⌜ Holds 2 (32 ∷ old s) r ⌝ }
+{
+    let x = first_of(s);
+    match x {
+        First::Only(a) => Fields::One(a),
+        First::Then(a, f) => {
+            let rest = one(&s[f..]);
+            in_front(a, rest)
+        }
+        First::Bad => Fields::Bad,
+    }
+}
+
+// The one to three numbers that begin behind a space.
+fn one_to_three(s: &[u8]) -> Fields
+    ensures { λ r. ⌜ Holds 3 (32 ∷ old s) r ⌝ }
+{
+    let x = first_of(s);
+    match x {
+        First::Only(a) => Fields::One(a),
+        First::Then(a, f) => {
+            let rest = one_or_two(&s[f..]);
+            in_front(a, rest)
+        }
+        First::Bad => Fields::Bad,
+    }
 }
 
 // The numbers that s is, each with one space in front.
 fn fields_in(s: &[u8]) -> Fields
-    ensures { λ r. ⌜ Holds (old s) r ⌝ }
+    ensures { λ r. ⌜ Holds 3 (old s) r ⌝ }
 {
     if s.len() == 0 {
         return Fields::None;
@@ -66,7 +122,7 @@ fn fields_in(s: &[u8]) -> Fields
     if s[0] != b' ' {
         return Fields::Bad;
     }
-    one_or_two(&s[1..])
+    one_to_three(&s[1..])
 }
 
 // The call with that letter and those numbers, if there is one.
@@ -87,8 +143,11 @@ fn call_of(letter: u8, numbers: Fields) -> Line
         },
         Fields::Two(x, y) => match letter {
             b'f' => Line::Asks(Call::Format(x, y)),
-            b'i' => Line::Asks(Call::Insert(x, y)),
             b's' => Line::Asks(Call::Reset(x, y)),
+            _ => Line::Bad,
+        },
+        Fields::Three(x, y, z) => match letter {
+            b'i' => Line::Asks(Call::Insert(x, y, z)),
             _ => Line::Bad,
         },
         Fields::Bad => Line::Bad,

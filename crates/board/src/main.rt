@@ -10,7 +10,9 @@ use queue::Answer;
 use tick::Front;
 use tick::Polled;
 
-// Room for four records: each of their six fields is an array.
+// Room for four records: an array for the values and periods, and one for each other field.
+type Pairs = [u64; 8];
+
 type Words = [u64; 4];
 
 type Numbers = [u16; 4];
@@ -53,7 +55,7 @@ fn ahead(time: u64, by: u32) -> u64 {
 // Sets the cut-off, so many milliseconds from now.
 fn cut_in(
     board: Polled,
-    values: &mut Words,
+    values: &mut Pairs,
     deadlines: &mut Words,
     nexts: &mut Numbers,
     prevs: &mut Numbers,
@@ -66,7 +68,19 @@ fn cut_in(
     let s = store.state;
     let h = heads_in(store);
     let at = ahead(front.time, by);
-    let reply = insert(s, h, values, deadlines, nexts, prevs, turns, marks, CUT, at);
+    let reply = insert(
+        s,
+        h,
+        values,
+        deadlines,
+        nexts,
+        prevs,
+        turns,
+        marks,
+        CUT,
+        at,
+        0,
+    );
     let answer = reply.answer;
     act(answer);
     Polled { reply, front }
@@ -75,7 +89,7 @@ fn cut_in(
 // Takes out a timer that is due at the tick.
 fn look(
     board: Polled,
-    values: &mut Words,
+    values: &mut Pairs,
     deadlines: &mut Words,
     nexts: &mut Numbers,
     prevs: &mut Numbers,
@@ -111,7 +125,7 @@ fn look(
 // The first cow comes in a minute before the tick starts again at 0, the second after it. What a call hands back goes
 // into the next.
 fn milk(
-    values: &mut Words,
+    values: &mut Pairs,
     deadlines: &mut Words,
     nexts: &mut Numbers,
     prevs: &mut Numbers,
@@ -184,7 +198,7 @@ fn edges() {
 }
 
 fn main() {
-    let mut values = [0u64; 4];
+    let mut values = [0u64; 8];
     let mut deadlines = [0u64; 4];
     let mut nexts = [0u16; 4];
     let mut prevs = [0u16; 4];

@@ -5,41 +5,42 @@ use queue::Answer;
 use stack::Stacks;
 use wheel::Wheel;
 ghost use mathlib.Core.Path.{_≡_};
-ghost use Prim.Native.Nat.{_-_, _≤_, _<_};
+ghost use Prim.Native.Nat.{_+_, _-_, _≤_, _<_};
 ghost use lib.ListN.{length};
 ghost use Rattle.stack.specs.Places.{slots};
 
-// Where each part begins in the row. Of the 1,025 words of a slice the row has the first 12; the store's 9 records need 9.
+// Where each part begins in the row. Each slice has the words of 1,025 records, and the row those of the first 12; the store
+// has 9. Of values a record has two words, its value and its period, and of each other slice one.
 pub const VALUES: usize = 0;
 
-pub const DEADLINES: usize = 12;
+pub const DEADLINES: usize = 24;
 
-pub const NEXTS: usize = 24;
+pub const NEXTS: usize = 36;
 
-pub const PREVS: usize = 36;
+pub const PREVS: usize = 48;
 
-pub const TURNS: usize = 48;
+pub const TURNS: usize = 60;
 
-pub const MARKS: usize = 60;
+pub const MARKS: usize = 72;
 
-pub const N: usize = 72;
+pub const N: usize = 84;
 
-pub const ELAPSED: usize = 73;
+pub const ELAPSED: usize = 85;
 
-pub const EXPIRED: usize = 74;
+pub const EXPIRED: usize = 86;
 
-pub const FREE: usize = 75;
+pub const FREE: usize = 87;
 
-pub const OCCUPIED: usize = 76;
+pub const OCCUPIED: usize = 88;
 
-pub const HEADS: usize = 82;
+pub const HEADS: usize = 94;
 
 pub const SLOTS: usize = stack::SLOTS as usize;
 
 // One number for the words of the slices that the row does not have: 0 while they are as they were made.
-const REST: usize = 466;
+const REST: usize = 478;
 
-pub type Image = [u64; 467];
+pub type Image = [u64; 479];
 
 // How many calls answered no 2, and how many left every word as it was.
 struct Seen {
@@ -49,13 +50,19 @@ struct Seen {
 
 // Words that no call has written yet.
 fn blank(x: u64) -> Image
-    ensures { λ r. ⌜ length r ≡ 467 ⌝ }
+    ensures { λ r. ⌜ length r ≡ 479 ⌝ }
 {
-    [x; 467]
+    [x; 479]
 }
 
 // The contracts give the lengths alone, so that no proof meets the words. A record of such words is a retired one: its turn is the
 // last, its links and its mark are nobody.
+fn pairs() -> [u64; 2050]
+    ensures { λ r. ⌜ length r ≡ 2050 ⌝ }
+{
+    [records::LAST_TURN; 2050]
+}
+
 fn words() -> [u64; 1025]
     ensures { λ r. ⌜ length r ≡ 1025 ⌝ }
 {
@@ -68,12 +75,12 @@ fn numbers() -> [u16; 1025]
     [links::NOBODY; 1025]
 }
 
-// 0 where all words but the first 12 are as `words` made them.
-fn words_rest(words: &[u64; 1025]) -> u64
+// 0 where all words but the first are as `pairs` and `words` made them.
+fn words_rest(words: &[u64], first: usize) -> u64
     ensures { λ r. ⌜ r ≤ 1 ⌝ }
 {
-    let mut i: usize = 12;
-    while i < 1025 {
+    let mut i = first;
+    while i < words.len() {
         if words[i] != records::LAST_TURN {
             return 1;
         }
@@ -103,21 +110,36 @@ fn narrow(x: u64) -> u16 {
     (x % 65536) as u16
 }
 
-fn words_in(image: &Image, from: usize) -> [u64; 1025]
-    requires { ⌜ from ≤ 454 ⌝ }
-    ensures { λ r. ⌜ length r ≡ 1025 ⌝ }
+// The first `count` words of a slice, out of the row.
+fn take_words(words: &mut [u64], image: &Image, from: usize, count: usize)
+    requires { ⌜ (count ≤ length (now words)) × (from + count ≤ 478) ⌝ }
 {
-    let mut words = words();
     let mut i: usize = 0;
-    while i < 12 {
+    while i < count {
         words[i] = image[from + i];
         i += 1;
     }
+}
+
+fn pairs_in(image: &Image) -> [u64; 2050]
+    ensures { λ r. ⌜ length r ≡ 2050 ⌝ }
+{
+    let mut pairs = pairs();
+    take_words(&mut pairs, image, VALUES, 24);
+    pairs
+}
+
+fn words_in(image: &Image, from: usize) -> [u64; 1025]
+    requires { ⌜ from ≤ 466 ⌝ }
+    ensures { λ r. ⌜ length r ≡ 1025 ⌝ }
+{
+    let mut words = words();
+    take_words(&mut words, image, from, 12);
     words
 }
 
 fn numbers_in(image: &Image, from: usize) -> [u16; 1025]
-    requires { ⌜ from ≤ 454 ⌝ }
+    requires { ⌜ from ≤ 466 ⌝ }
     ensures { λ r. ⌜ length r ≡ 1025 ⌝ }
 {
     let mut numbers = numbers();
@@ -167,19 +189,30 @@ fn put_head(heads: &mut [[u16; 64]; 6], i: usize, x: u16)
     heads[k][s] = x;
 }
 
-fn note_words(image: &mut Image, from: usize, words: &[u64; 1025])
-    requires { ⌜ from ≤ 454 ⌝ }
+// The first `count` words of a slice, into the row.
+fn note_slice(image: &mut Image, from: usize, words: &[u64], count: usize)
+    requires { ⌜ (count ≤ length (now words)) × (from + count ≤ 478) ⌝ }
 {
     let mut i: usize = 0;
-    while i < 12 {
+    while i < count {
         image[from + i] = words[i];
         i += 1;
     }
-    image[REST] = image[REST] | words_rest(words);
+    image[REST] = image[REST] | words_rest(words, count);
+}
+
+fn note_pairs(image: &mut Image, pairs: &[u64; 2050]) {
+    note_slice(image, VALUES, pairs, 24);
+}
+
+fn note_words(image: &mut Image, from: usize, words: &[u64; 1025])
+    requires { ⌜ from ≤ 466 ⌝ }
+{
+    note_slice(image, from, words, 12);
 }
 
 fn note_numbers(image: &mut Image, from: usize, numbers: &[u16; 1025])
-    requires { ⌜ from ≤ 454 ⌝ }
+    requires { ⌜ from ≤ 466 ⌝ }
 {
     let mut i: usize = 0;
     while i < 12 {
@@ -228,15 +261,15 @@ fn whole() -> Part {
     }
 }
 
-// How many words of a slice are lent.
-fn lent(slice: usize, part: Part) -> usize
-    ensures { λ r. ⌜ r ≤ 1025 ⌝ }
+// How many words of a slice are lent, which has so many.
+fn lent(slice: usize, part: Part, all: usize) -> usize
+    ensures { λ r. ⌜ r ≤ all ⌝ }
 {
     if slice != part.slice {
-        return 1025;
+        return all;
     }
-    if 1025 < part.size {
-        return 1025;
+    if all < part.size {
+        return all;
     }
     part.size
 }
@@ -250,7 +283,7 @@ fn is_no_2(answer: Answer) -> bool {
 
 // Asks the call of the store in the row, which becomes the store after the call, and says whether it answered no 2.
 fn ask(image: &mut Image, part: Part, call: Call) -> bool {
-    let mut values = words_in(image, VALUES);
+    let mut values = pairs_in(image);
     let mut deadlines = words_in(image, DEADLINES);
     let mut nexts = numbers_in(image, NEXTS);
     let mut prevs = numbers_in(image, PREVS);
@@ -259,15 +292,15 @@ fn ask(image: &mut Image, part: Part, call: Call) -> bool {
     let reply = any_call::ask(
         state_in(image),
         heads_in(image),
-        &mut values[0..lent(VALUES, part)],
-        &mut deadlines[0..lent(DEADLINES, part)],
-        &mut nexts[0..lent(NEXTS, part)],
-        &mut prevs[0..lent(PREVS, part)],
-        &mut turns[0..lent(TURNS, part)],
-        &mut marks[0..lent(MARKS, part)],
+        &mut values[0..lent(VALUES, part, 2050)],
+        &mut deadlines[0..lent(DEADLINES, part, 1025)],
+        &mut nexts[0..lent(NEXTS, part, 1025)],
+        &mut prevs[0..lent(PREVS, part, 1025)],
+        &mut turns[0..lent(TURNS, part, 1025)],
+        &mut marks[0..lent(MARKS, part, 1025)],
         call,
     );
-    note_words(image, VALUES, &values);
+    note_pairs(image, &values);
     note_words(image, DEADLINES, &deadlines);
     note_numbers(image, NEXTS, &nexts);
     note_numbers(image, PREVS, &prevs);
@@ -284,7 +317,7 @@ fn ask(image: &mut Image, part: Part, call: Call) -> bool {
 
 fn same(a: &Image, b: &Image) -> bool {
     let mut i: usize = 0;
-    while i < 467 {
+    while i < 479 {
         if a[i] != b[i] {
             return false;
         }
@@ -305,7 +338,7 @@ pub fn begun(n: u64, x: u64) -> Image {
     let mut image = blank(x);
     image[REST] = 0;
     ask(&mut image, whole(), Call::Format(n, records::LAST_TURN));
-    ask(&mut image, whole(), Call::Insert(10, 50));
+    ask(&mut image, whole(), Call::Insert(10, 50, 0));
     ask(&mut image, whole(), Call::Remove(key(0)));
     ask(&mut image, whole(), Call::Poll(100));
     image
@@ -315,12 +348,12 @@ pub fn begun(n: u64, x: u64) -> Image {
 // stack; 7 and then 8 are free.
 pub fn store(x: u64) -> Image {
     let mut image = begun(9, x);
-    ask(&mut image, whole(), Call::Insert(11, 105));
-    ask(&mut image, whole(), Call::Insert(12, 200));
-    ask(&mut image, whole(), Call::Insert(13, 210));
-    ask(&mut image, whole(), Call::Insert(14, 5000));
-    ask(&mut image, whole(), Call::Insert(15, 2000000000));
-    ask(&mut image, whole(), Call::Insert(16, 60));
+    ask(&mut image, whole(), Call::Insert(11, 105, 0));
+    ask(&mut image, whole(), Call::Insert(12, 200, 0));
+    ask(&mut image, whole(), Call::Insert(13, 210, 0));
+    ask(&mut image, whole(), Call::Insert(14, 5000, 0));
+    ask(&mut image, whole(), Call::Insert(15, 2000000000, 0));
+    ask(&mut image, whole(), Call::Insert(16, 60, 0));
     image
 }
 
@@ -336,9 +369,9 @@ fn three() -> Image {
     let mut image = blank(77);
     image[REST] = 0;
     ask(&mut image, whole(), Call::Format(3, 1));
-    ask(&mut image, whole(), Call::Insert(10, 70));
-    ask(&mut image, whole(), Call::Insert(11, 70));
-    ask(&mut image, whole(), Call::Insert(12, 70));
+    ask(&mut image, whole(), Call::Insert(10, 70, 0));
+    ask(&mut image, whole(), Call::Insert(11, 70, 0));
+    ask(&mut image, whole(), Call::Insert(12, 70, 0));
     image
 }
 
@@ -356,7 +389,7 @@ pub fn cut() -> Image {
 // The seven calls but format. None is refused by the store of nine, and all but next wake and length change words there.
 fn call_of(i: u64) -> Call {
     match i {
-        0 => Call::Insert(17, 300),
+        0 => Call::Insert(17, 300, 0),
         1 => Call::Reset(key(2), 400),
         2 => Call::Remove(key(3)),
         3 => Call::Poll(100),
@@ -432,6 +465,10 @@ fn say_slice(at: usize) {
 
 // The name of the word at `at`.
 fn say_word(at: usize) {
+    if at < DEADLINES {
+        say_entry(b"values", at);
+        return;
+    }
     if at < N {
         say_slice(at / 12 * 12);
         say_entry(b"", at % 12);
@@ -450,7 +487,7 @@ fn say_word(at: usize) {
 }
 
 fn say_row(at: usize)
-    requires { ⌜ 76 ≤ at ⌝ }
+    requires { ⌜ 88 ≤ at ⌝ }
 {
     if at < HEADS {
         say_entry(b"occupied", at - OCCUPIED);
@@ -477,7 +514,7 @@ pub fn show_whole(image: &Image) {
 
 // The store with the word at `at` changed to x.
 pub fn show(image: &Image, at: usize, x: u64)
-    requires { ⌜ at < 466 ⌝ }
+    requires { ⌜ at < 478 ⌝ }
 {
     let mut changed = *image;
     changed[at] = x;
@@ -508,7 +545,7 @@ fn one_more(x: u64) -> u64 {
 }
 
 fn ask_raised(image: &Image, at: usize) -> Seen
-    requires { ⌜ at < 466 ⌝ }
+    requires { ⌜ at < 478 ⌝ }
     ensures { λ r. ⌜ (r .refused ≤ 7) × (r .kept ≤ 7) ⌝ }
 {
     let mut changed = *image;
@@ -518,7 +555,7 @@ fn ask_raised(image: &Image, at: usize) -> Seen
 
 // The store with one word raised by one: each of the `count` words from `from` on in turn.
 pub fn show_each(image: &Image, from: usize, count: usize)
-    requires { ⌜ (from ≤ 466) × (count ≤ 466 - from) ⌝ }
+    requires { ⌜ (from ≤ 478) × (count ≤ 478 - from) ⌝ }
 {
     let mut refused = 0u64;
     let mut kept = 0u64;

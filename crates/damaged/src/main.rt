@@ -26,7 +26,7 @@ const LAST_TURN: u64 = records::LAST_TURN;
 
 // Slices one word too short.
 fn short(image: &Image) {
-    show_lent(image, VALUES, 8);
+    show_lent(image, VALUES, 17);
     show_lent(image, DEADLINES, 8);
     show_lent(image, NEXTS, 8);
     show_lent(image, PREVS, 8);
@@ -154,8 +154,15 @@ fn rows(image: &Image) {
 
 // Changes that leave the store sound.
 fn sound(image: &Image) {
-    show(image, VALUES + 3, 99);
-    show(image, VALUES + 8, u64::MAX);
+    // a value of a pending one, of a free one
+    show(image, VALUES + 6, 99);
+    show(image, VALUES + 16, u64::MAX);
+    // a period of a pending one, of the expired one, which the poll sets again or for the last time, of a free one, of a retired one
+    show(image, VALUES + 7, 1);
+    show(image, VALUES + 13, 40);
+    show(image, VALUES + 13, u64::MAX);
+    show(image, VALUES + 17, 1 << 63);
+    show(image, VALUES + 1, 5);
     // within its slot, its first and its last; of a free one, of a retired one
     show(image, DEADLINES + 2, 192);
     show(image, DEADLINES + 2, 255);
@@ -167,7 +174,8 @@ fn sound(image: &Image) {
     show(image, TURNS + 4, 1);
     show(image, TURNS + 7, 5);
     // past the last record
-    show(image, VALUES + 9, 0);
+    show(image, VALUES + 18, 0);
+    show(image, VALUES + 19, 0);
     show(image, DEADLINES + 9, 0);
     show(image, NEXTS + 9, 0);
     show(image, PREVS + 10, 0);
@@ -175,9 +183,9 @@ fn sound(image: &Image) {
     show(image, MARKS + 11, 0);
 }
 
-// Slices of just as many words as there are records.
+// Slices of just as many words as the records need.
 fn enough(image: &Image) {
-    show_lent(image, VALUES, 9);
+    show_lent(image, VALUES, 18);
     show_lent(image, DEADLINES, 9);
     show_lent(image, NEXTS, 9);
     show_lent(image, PREVS, 9);

@@ -29,9 +29,11 @@ unfoldable pub first : ℕ → ℕ → (ℕ → ℕ) → ℕ → ℕ
 first n x f i = cond (ltb i n) x (f i)
 
 -- "Format sets values, deadlines and elapsed to 0 and makes every record free", "a first turn .., given to every record", "Fresh records are taken as
--- 0, 1, 2 and so on"
+-- 0, 1, 2 and so on"; 02 [7]: "format sets it to 0", the period
 abbrev pub fresh : ℕ → ℕ → View → View
-fresh n turn v = viewOf n 0 (change (λ p. []) free (range n 0)) (first n 0 (v .value)) (first n 0 (v .deadline)) (first n turn (v .turn))
+fresh n turn v =
+    viewOf n 0 (change (λ p. []) free (range n 0))
+    (first n 0 (v .value)) (first n 0 (v .period)) (first n 0 (v .deadline)) (first n turn (v .turn))
 
 pub record Formatted (s : QueueWords) (n turn : ℕ) (a : Answer) (s′ : QueueWords) : Type 0 where
   pub told : told a ≡ ok
@@ -52,8 +54,8 @@ pub record Judging (s : QueueWords) (a : Answer) (s′ : QueueWords) (On : Type 
   pub bad : (Sound s → ⊥) → Refused 2 s a s′
   pub good : Sound s → On
 
-abbrev pub InsertClaim : QueueWords → ℕ → ℕ → Answer → QueueWords → Type 0
-InsertClaim s value when a s′ = Judging s a s′ (InsertOn s value when a s′)
+abbrev pub InsertClaim : QueueWords → ℕ → ℕ → ℕ → Answer → QueueWords → Type 0
+InsertClaim s value when period a s′ = Judging s a s′ (InsertOn s value when period a s′)
 
 abbrev pub ResetClaim : QueueWords → ℕ → ℕ → Answer → QueueWords → Type 0
 ResetClaim s key when a s′ = Judging s a s′ (ResetOn s key when a s′)
@@ -78,7 +80,7 @@ LengthClaim s a = Judging s a s (LengthOn s a)
 
 abbrev pub CallClaim : Call → QueueWords → Answer → QueueWords → Type 0
 CallClaim (C.Format n turn) s a s′ = FormatClaim s n turn a s′
-CallClaim (C.Insert value when) s a s′ = InsertClaim s value when a s′
+CallClaim (C.Insert value when period) s a s′ = InsertClaim s value when period a s′
 CallClaim (C.Reset key when) s a s′ = ResetClaim s key when a s′
 CallClaim (C.Remove key) s a s′ = RemoveClaim s key a s′
 CallClaim (C.Poll now) s a s′ = PollClaim s now a s′

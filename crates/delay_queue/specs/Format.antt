@@ -1,7 +1,7 @@
 -- Format: which number it answers, and the words that it makes.
 use mathlib.Core.Path.{_≡_}
 use mathlib.Core.List.{List}
-use Prim.Native.Nat.{ℕ}
+use Prim.Native.Nat.{ℕ, _*_}
 use lib.ListN.{replicate}
 use Rattle.contracts.specs.Lent.{Turned, new as left}
 use Rattle.stack.specs.Format.{over, range, formatted}
@@ -23,7 +23,7 @@ pub record FormatNo (fits range : Type 0) (r : ℕ) : Type 0 where
 -- the words that format makes
 pub record Makes (n turn : ℕ) (l : Slices) (s′ : QueueWords) : Type 0 where
   pub wheel : s′ .wheel ≡ wheelWords 0 (replicate 6 0) (formatted n (l .links .nexts) (l .links .prevs) (l .links .marks))
-  pub values : s′ .values ≡ over n (λ i. 0) (l .values)
+  pub values : s′ .values ≡ over (2 * n) (λ i. 0) (l .values)
   pub deadlines : s′ .deadlines ≡ over n (λ i. 0) (l .deadlines)
   pub turns : s′ .turns ≡ over n (λ i. turn) (l .turns)
 

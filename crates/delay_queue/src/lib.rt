@@ -14,12 +14,12 @@ ghost use Rattle.delay_queue.specs.Claims.{PollClaim, WakeClaim, LengthC
 ghost use Rattle.delay_queue.specs.Format.{FormatNo, MakesOf};
 ghost use Rattle.delay_queue.specs.NoStore.{NoStoreClaim};
 
-// A call, with its arguments in document 01's order.
+// A call, with its arguments in the papers' order.
 pub enum Call {
     // N, first turn
     Format(u64, u64),
-    // value, when
-    Insert(u64, u64),
+    // value, when, period
+    Insert(u64, u64, u64),
     // key, when
     Reset(u64, u64),
     // key
@@ -121,13 +121,13 @@ fn packed(
 }
 
 // The first n words become x.
-fn fill(words: &mut [u64], n: u16, x: u64)
+fn fill(words: &mut [u64], n: usize, x: u64)
     requires { ⌜ n ≤ length (now words) ⌝ }
     ensures { λ _. ⌜ new words ≡ over n (λ i. x) (old words) ⌝ }
 {
-    let mut i = 0u16;
+    let mut i = 0usize;
     while i < n {
-        words[i as usize] = x;
+        words[i] = x;
         i += 1;
     }
 }
@@ -164,7 +164,7 @@ fn format_no(
     0
 }
 
-// A fresh store of n records in what is lent. Elapsed and the occupied rows are 0.
+// A fresh store of n records in what is lent: values, periods and deadlines are 0, as elapsed and the occupied rows are.
 fn make(
     tops: &mut [u16; 3],
     heads: &mut [[u16; 64]; 6],
@@ -181,9 +181,10 @@ fn make(
     ensures { λ _. ⌜ MakesOf n turn tops heads values deadlines nexts prevs turns marks ⌝ }
 {
     stack::format(tops, heads, nexts, prevs, marks, n);
-    fill(values, n, 0);
-    fill(deadlines, n, 0);
-    fill(turns, n, turn);
+    let k = n as usize;
+    fill(values, 2 * k, 0);
+    fill(deadlines, k, 0);
+    fill(turns, k, turn);
 }
 
 // Every record of n is free, with the first turn `turn`. What the store was before does not matter.
@@ -225,7 +226,7 @@ pub fn format(
     packed(Answer::Done, 0, rows, tops, slots)
 }
 
-// A timer with the value, at the deadline `when`: its key.
+// A timer with the value, at the deadline `when` and then after each period, if it is not 0: its key.
 pub fn insert(
     state: Wheel,
     heads: [[u16; 64]; 6],
@@ -237,10 +238,11 @@ pub fn insert(
     marks: &mut [u16],
     value: u64,
     when: u64,
+    period: u64,
 ) -> Reply
     ensures { λ r. ⌜
         InsertClaim (before state heads values deadlines nexts prevs turns marks)
-        value when (r .answer) (after (r .state) (r .heads .rows) values deadlines nexts prevs turns marks) ⌝ }
+        value when period (r .answer) (after (r .state) (r .heads .rows) values deadlines nexts prevs turns marks) ⌝ }
 {
     if !judge::is_sound(state, heads, values, deadlines, nexts, prevs, turns, marks) {
         return refused(2, state, heads);
@@ -263,6 +265,7 @@ pub fn insert(
         marks,
         value,
         when,
+        period,
     );
     packed(answer, elapsed, rows, tops, slots)
 }
@@ -354,7 +357,7 @@ pub fn poll(
     state: Wheel,
     heads: [[u16; 64]; 6],
     values: &[u64],
-    deadlines: &[u64],
+    deadlines: &mut [u64],
     nexts: &mut [u16],
     prevs: &mut [u16],
     turns: &mut [u64],

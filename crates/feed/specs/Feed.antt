@@ -8,9 +8,9 @@ use Rattle.records.specs.Words.{QueueWords}
 use Rattle.bench.specs.Line.{LineClaim}
 use Rattle.lines.specs.Taking.{TakeClaim}
 
--- an answer has at most 109 bytes, so that one has room in these
+-- no answer has more bytes, so that one has room in these
 abbrev pub answerRoom : ℕ
-answerRoom = 110
+answerRoom = 114
 
 -- How it stands: how far the chunk is taken, the room of a line and how many bytes at its front are kept, the store, and the room of
 -- answers and how far they go.

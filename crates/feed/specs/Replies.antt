@@ -8,18 +8,18 @@ use Rattle.delay_queue.specs.declared.Call.{Call}
 use Rattle.delay_queue.specs.Claims.{CallClaim}
 use Rattle.decimals.specs.Text.{bytes}
 use Rattle.asking.specs.Text.{Says}
-use Rattle.answering.specs.Text.{word, shown, Written}
+use Rattle.answering.specs.Text.{word, shown, ending, Written}
 
 -- what was asked is done, and t is the line of its answer, with its newline
 pub record Told (c : Call) (s : QueueWords) (t : List ℕ) (s′ : QueueWords) : Type 0 where
   pub answer : Answer
   pub done : CallClaim c s answer s′
-  pub written : Written (word answer) (shown answer) t
+  pub written : Written (word answer) (shown answer) (ending answer) t
 
 -- the line l is answered with t, and makes s′ of the store s
 pub record Reply (l : List ℕ) (s : QueueWords) (t : List ℕ) (s′ : QueueWords) : Type 0 where
   pub asks : (c : Call) → Says l c → Told c s t s′
-  pub bad : ((c : Call) → Says l c → ⊥) → (s′ ≡ s) × Written (bytes "bad") [] t
+  pub bad : ((c : Call) → Says l c → ⊥) → (s′ ≡ s) × Written (bytes "bad") [] [] t
 
 -- "answers each with one": lines one after the other, an answer each, in their order, and the store runs along
 pub data Replies : List (List ℕ) → QueueWords → List ℕ → QueueWords → Type 0 where

@@ -8,8 +8,8 @@ ghost use Rattle.contracts.specs.Tells.{Tells};
 ghost use Rattle.records.specs.Store.{before, after};
 ghost use Rattle.feed.specs.Feed.{answerRoom, stand, Turn, FeedClaim, LastClaim};
 
-// An answer has at most 109 bytes, so that one has room in these.
-pub const ANSWER_ROOM: usize = 110;
+// No answer has more bytes, so that one has room in these.
+pub const ANSWER_ROOM: usize = 114;
 
 // Where to go on in the chunk, how many bytes of an unfinished line are kept, where the answers end, and the state and
 // the heads after them.

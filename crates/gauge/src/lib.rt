@@ -94,14 +94,16 @@ pub fn note(g: Gauge, late: f64) -> Gauge
     }
 }
 
-// The gauge after what a poll at `time` answered: one lateness more if a timer was handed out, and else as it was.
+// The gauge after what a poll at `time` answered: one lateness more if a timer was handed out,
+// for the last time too, and else as it was.
 pub fn note_answer(g: Gauge, time: u64, answer: Answer) -> Gauge
     ensures { λ r. ⌜ AnswerClaim g time (told answer) r ⌝ }
 {
-    if let Answer::Out(_key, _value, deadline, _moves, _drains) = answer {
-        return note(g, lateness_of(time, deadline));
+    match answer {
+        Answer::Out(_key, _value, d, _moves, _drains) => note(g, lateness_of(time, d)),
+        Answer::Last(_key, _value, d, _moves, _drains) => note(g, lateness_of(time, d)),
+        _ => g,
     }
-    g
 }
 
 // Neither below zero nor not a number: what is not a number fails every comparison.

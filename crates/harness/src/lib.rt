@@ -12,8 +12,9 @@ ghost use lib.ListN.{length};
 ghost use Rattle.records.specs.Words.{lent, after, Sound};
 ghost use Rattle.wheel.specs.Expiration.{NotPassed};
 
-// Calls by number, in the order of `Call`. A call is three words: its number, then a value, a key or N, then a deadline, a time or a first
-// turn. A command of the benchmark is two: its number in the top four bits and the key below, then the deadline or the time.
+// Calls by number, in the order of `Call`. A call is four words: its number, then a value, a key or N, then a deadline, a time or a first
+// turn, then a period. A command of the benchmark is two: its number in the top four bits and the key below, then the deadline or the
+// time; none of its timers repeats.
 const FORMAT: u64 = 0;
 
 const INSERT: u64 = 1;
@@ -46,6 +47,12 @@ fn told(sum: u64, answer: Answer) -> u64 {
         Answer::Key(key) => mix(sum, records::number_of(key) as u64),
         Answer::Gone(value, deadline) => mix(mix(sum, value), deadline),
         Answer::Out(key, value, deadline, moves, drains) => {
+            mix(
+                mix(mix(sum, records::number_of(key) as u64), value),
+                deadline,
+            )
+        }
+        Answer::Last(key, value, deadline, moves, drains) => {
             mix(
                 mix(mix(sum, records::number_of(key) as u64), value),
                 deadline,
@@ -104,6 +111,7 @@ fn turn(
             marks,
             value,
             second,
+            0,
         );
         let s = summed(op, sum, answer, elapsed);
         return Ran { elapsed, sum: s };
@@ -240,6 +248,7 @@ fn called(
     op: u64,
     a: u64,
     b: u64,
+    c: u64,
 ) -> Out
     requires { ⌜ Sound (lent elapsed rows tops heads values deadlines nexts prevs turns marks) ⌝ }
     ensures { λ r. ⌜ Sound (after (r .elapsed) rows tops heads values deadlines nexts prevs turns marks) ⌝ }
@@ -258,6 +267,7 @@ fn called(
             marks,
             a,
             b,
+            c,
         );
         return Out { answer, elapsed };
     }
@@ -342,11 +352,19 @@ fn words_of(answer: Answer) -> [u64; 6] {
             moves,
             drains,
         ],
-        Answer::Nothing(moves, drains) => [4, moves, drains, 0, 0, 0],
-        Answer::Wake(time) => [5, time, 0, 0, 0, 0],
-        Answer::NoWake => [6, 0, 0, 0, 0, 0],
-        Answer::Length(n) => [7, n, 0, 0, 0, 0],
-        Answer::No(number) => [8, number, 0, 0, 0, 0],
+        Answer::Last(key, value, deadline, moves, drains) => [
+            4,
+            key,
+            value,
+            deadline,
+            moves,
+            drains,
+        ],
+        Answer::Nothing(moves, drains) => [5, moves, drains, 0, 0, 0],
+        Answer::Wake(time) => [6, time, 0, 0, 0, 0],
+        Answer::NoWake => [7, 0, 0, 0, 0, 0],
+        Answer::Length(n) => [8, n, 0, 0, 0, 0],
+        Answer::No(number) => [9, number, 0, 0, 0, 0],
     }
 }
 
@@ -370,7 +388,7 @@ fn least(x: usize, y: usize) -> usize
     y
 }
 
-// As many calls of three words on a sound store as have room for their answers, six words each. Elapsed after them.
+// As many calls of four words on a sound store as have room for their answers, six words each. Elapsed after them.
 fn answers_on(
     elapsed: u64,
     rows: &mut [u64; 6],
@@ -388,12 +406,13 @@ fn answers_on(
     requires { ⌜ Sound (lent elapsed rows tops heads values deadlines nexts prevs turns marks) ⌝ }
 {
     let mut e = elapsed;
-    let commands = least(script.len() / 3, answers.len() / 6);
+    let commands = least(script.len() / 4, answers.len() / 6);
     let mut i: usize = 0;
     while i < commands {
-        let op = script[3 * i];
-        let a = script[3 * i + 1];
-        let b = script[3 * i + 2];
+        let op = script[4 * i];
+        let a = script[4 * i + 1];
+        let b = script[4 * i + 2];
+        let c = script[4 * i + 3];
         let at = 6 * i;
         i += 1;
         let out = called(
@@ -410,6 +429,7 @@ fn answers_on(
             op,
             a,
             b,
+            c,
         );
         let answer = out.answer;
         e = out.elapsed;
@@ -585,12 +605,12 @@ pub extern "C" fn harness_answers(
     true
 }
 
-fn call_of(op: u64, a: u64, b: u64) -> Call {
+fn call_of(op: u64, a: u64, b: u64, c: u64) -> Call {
     if op == FORMAT {
         return Call::Format(a, b);
     }
     if op == INSERT {
-        return Call::Insert(a, b);
+        return Call::Insert(a, b, c);
     }
     if op == RESET {
         return Call::Reset(a, b);
@@ -624,10 +644,11 @@ pub extern "C" fn harness_call(
     op: u64,
     a: u64,
     b: u64,
+    c: u64,
     answer: &mut [u64; 6],
 ) {
     let before = state_of(state);
-    let call = call_of(op, a, b);
+    let call = call_of(op, a, b, c);
     let reply = any_call::ask(
         before,
         *heads,
@@ -677,7 +698,7 @@ pub extern "C" fn harness_judged(
         let first = script[2 * i];
         let second = script[2 * i + 1];
         let op = first >> 60;
-        let call = call_of(op, first_of(first, i as u64), second);
+        let call = call_of(op, first_of(first, i as u64), second, 0);
         i += 1;
         let reply = any_call::ask(w, rows, values, deadlines, nexts, prevs, turns, marks, call);
         let after = reply.state;

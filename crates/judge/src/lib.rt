@@ -10,7 +10,7 @@ ghost use Rattle.records.specs.Store.{before};
 ghost use Rattle.wheel.specs.Wheel.{OnWheel};
 ghost use Rattle.judge.specs.Judge.{RecordAgrees, RecordsAgree};
 
-// Whether the slices are long enough for n records.
+// Whether the slices are long enough for n records, of which each has two words of `values`.
 pub fn has_room(
     n: u16,
     values: &[u64],
@@ -23,7 +23,7 @@ pub fn has_room(
     ensures { λ r. ⌜ Tells (Room n (slices values deadlines nexts prevs turns marks)) r ⌝ }
 {
     let k = n as usize;
-    if values.len() < k {
+    if values.len() < 2 * k {
         return false;
     }
     if deadlines.len() < k {

@@ -11,7 +11,9 @@ use delay_queue::remove;
 use libc::STDOUT_FILENO;
 use queue::Answer;
 
-// Room for four records: each of their six fields is an array.
+// Room for four records: an array for the values and periods, and one for each other field.
+type Pairs = [u64; 8];
+
 type Words = [u64; 4];
 
 type Numbers = [u16; 4];
@@ -59,10 +61,10 @@ fn key_in(reply: Reply) -> u64 {
     }
 }
 
-// Sets the cut-off, and asks when to look at the store. One that is due when it is set is told of too: look at once.
+// Sets the cut-off, once and not again, and asks when to look at the store. One that is due when it is set is told of too: look at once.
 fn cut_at(
     store: Reply,
-    values: &mut Words,
+    values: &mut Pairs,
     deadlines: &mut Words,
     nexts: &mut Numbers,
     prevs: &mut Numbers,
@@ -72,7 +74,19 @@ fn cut_at(
 ) -> Reply {
     let s = store.state;
     let h = heads_in(store);
-    let r = insert(s, h, values, deadlines, nexts, prevs, turns, marks, CUT, at);
+    let r = insert(
+        s,
+        h,
+        values,
+        deadlines,
+        nexts,
+        prevs,
+        turns,
+        marks,
+        CUT,
+        at,
+        0,
+    );
     let set = acted(r);
     let s = set.state;
     let h = heads_in(set);
@@ -84,7 +98,7 @@ fn cut_at(
 // Takes out a timer that is due.
 fn look(
     store: Reply,
-    values: &mut Words,
+    values: &mut Pairs,
     deadlines: &mut Words,
     nexts: &mut Numbers,
     prevs: &mut Numbers,
@@ -100,7 +114,7 @@ fn look(
 
 // Two cows, in milliseconds since the first came in. What a call hands back goes into the next.
 fn milk(
-    values: &mut Words,
+    values: &mut Pairs,
     deadlines: &mut Words,
     nexts: &mut Numbers,
     prevs: &mut Numbers,
@@ -130,7 +144,7 @@ fn milk(
 }
 
 fn main() {
-    let mut values = [0u64; 4];
+    let mut values = [0u64; 8];
     let mut deadlines = [0u64; 4];
     let mut nexts = [0u16; 4];
     let mut prevs = [0u16; 4];

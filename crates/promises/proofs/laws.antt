@@ -25,6 +25,7 @@ pub mod Precedes
 pub mod Queued
 pub mod Quiet
 pub mod Refused
+pub mod Repeats
 pub mod Runs
 pub mod Shown
 pub mod OneCall

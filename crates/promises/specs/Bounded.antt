@@ -7,17 +7,17 @@ use lib.Dec.{ltb}
 use Rattle.stack.specs.Places.{slots, levelAt}
 use Rattle.wheel.specs.Drain.{heights}
 use Rattle.queue.specs.declared.Answer.{Answer}
-use Rattle.queue.specs.Told.{told, Hands}
+use Rattle.queue.specs.Told.{Told, told, Hands}
 use Rattle.queue.specs.Told as T
 use Rattle.records.specs.View.{View}
-use Rattle.records.specs.Records.{At, Names}
+use Rattle.records.specs.Records.{At, Names, numberIn}
 use Rattle.queue.specs.Steps.{pending}
 use Rattle.records.specs.Words.{QueueWords, view}
 use Rattle.delay_queue.specs.declared.Call.the-variants as C
 use Rattle.delay_queue.specs.Claims.{CallClaim}
-use Rattle.promises.specs.Runs.{Asked, Runs, accepted, isPlacing, isPoll, All, tally, movesOf, moves, Each}
-use Rattle.promises.specs.Polling.{Dead}
-use Rattle.promises.specs.Waiting.{Undisturbed}
+use Rattle.promises.specs.Runs.{Asked, Runs, accepted, isPlacing, isPoll, All, tally, movesOf, moves, resettings, Each}
+use Rattle.promises.specs.Polling.{Dead, Finished}
+use Rattle.promises.specs.Waiting.{NoneRepeats, Undisturbed}
 
 -- ---- moves
 
@@ -34,20 +34,28 @@ pub record Fresh (t : QueueWords) : Type 0 where
 abbrev pub heightAt : ℕ → ℕ
 heightAt p = cond (ltb p slots) (levelAt p) 0
 
--- "the pending timers lost in levels": by m the heights are less, where a timer that is handed out lies in no slot and counts 0 after; and none rises, so
--- that no loss is made up for
-pub record LosesLevels (v : View) (m : ℕ) (u : View) : Type 0 where
-  pub lost : m + heights (u .lists) ≡ heights (v .lists)
-  pub none-rises : (y p q : ℕ) → At v y p → At u y q → heightAt q ≤ heightAt p
+-- 02 [7]: "that poll's moves are counted before re-placing": the timer y is handed out and set again by a poll that answers x
+abbrev pub IsSetAgain : View → Told → ℕ → Type 0
+IsSetAgain v x y = (k w d m n : ℕ) × Hands x k w d m n × (y ≡ numberIn k) × (Finished v y x → ⊥)
+
+-- "the pending timers lost in levels": by the moves of x the heights are less, where a timer that is handed out lies in no slot and counts 0 after, before
+-- it is set again, when its height is added; and no other rises, so that no loss is made up for
+pub record LosesLevels (v : View) (x : Told) (u : View) : Type 0 where
+  pub added : ℕ
+  pub lost : movesOf x + heights (u .lists) ≡ heights (v .lists) + added
+  pub nothing-added : ((y : ℕ) → IsSetAgain v x y → ⊥) → added ≡ 0
+  pub height-added : (y q : ℕ) → IsSetAgain v x y → At u y q → added ≡ heightAt q
+  pub none-rises : (y p q : ℕ) → (IsSetAgain v x y → ⊥) → At v y p → At u y q → heightAt q ≤ heightAt p
 
 -- "each poll reports as many moves as the pending timers lost in levels during it": one that is refused reports none
 abbrev pub ReportsLost : QueueWords → Asked → QueueWords → Type 0
-ReportsLost s x t = (now : ℕ) → x .call ≡ C.Poll now → LosesLevels (view s) (movesOf (told (x .answer))) (view t)
+ReportsLost s x t = (now : ℕ) → x .call ≡ C.Poll now → LosesLevels (view s) (told (x .answer)) (view t)
 
--- "each poll reports as many moves as the pending timers lost in levels during it, so all moves come to at most five for each accepted insert or reset"
+-- "each poll reports as many moves as the pending timers lost in levels during it, so all moves come to at most five for each accepted insert or reset",
+-- and "a re-placing counts as an insert" (02 [7])
 pub record MovesBounded {s u : QueueWords} {l : List Asked} (R : Runs s l u) : Type 0 where
   pub each : Each ReportsLost R
-  pub all : moves l ≤ 5 * tally isPlacing l
+  pub all : moves l ≤ 5 * (tally isPlacing l + resettings R)
 
 -- ---- waiting
 
@@ -56,9 +64,10 @@ abbrev pub AtOrPast : ℕ → Asked → Type 0
 AtOrPast deadline x = (now : ℕ) → x .call ≡ C.Poll now → accepted x ≡ true → deadline ≤ now
 
 -- "A timer that is due, with no insert, reset, clear or format after that and every poll's now at or past its deadline": the timer r is pending in s under the
--- key k, and the calls l are made on s. Refused calls change nothing, so none is excluded
+-- key k, and the calls l are made on s. Refused calls change nothing, so none is excluded. 02 [7]: "claimed for stores with no repeating timers"
 pub record DueAfter (s : QueueWords) (k r p : ℕ) (l : List Asked) (u : QueueWords) : Type 0 where
   pub names : Names (view s) k r p
+  pub once : NoneRepeats (view s)
   pub runs : Runs s l u
   pub undisturbed : All Undisturbed l
   pub past : All (AtOrPast (view s .deadline r)) l

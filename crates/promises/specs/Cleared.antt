@@ -31,4 +31,5 @@ pub record Cleared (s t : QueueWords) : Type 0 where
   pub same : (i : ℕ) → (i < count s → comesBack s i ≡ false) → view t .turn i ≡ view s .turn i
   pub retired : (i p : ℕ) → At (view s) i p → view s .turn i ≡ lastTurn → (q : ℕ) → Mem i (view t .lists q) → ⊥
   pub values : view t .value ≡ view s .value
+  pub periods : view t .period ≡ view s .period
   pub deadlines : view t .deadline ≡ view s .deadline

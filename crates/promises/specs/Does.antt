@@ -6,7 +6,7 @@ use Rattle.stack.specs.Places.{free}
 use Rattle.queue.specs.declared.Answer.{Answer}
 use Rattle.queue.specs.Told.{told}
 use Rattle.queue.specs.Told as T
-use Rattle.records.specs.View.{withValue, upd}
+use Rattle.records.specs.View.{withValue, withPeriod, upd}
 use Rattle.records.specs.Records.{keyOf, Names, Takes, taken, left, placed, freed}
 use Rattle.queue.specs.Steps.{NextWake, pending}
 use Rattle.records.specs.Words.{QueueWords, elapsed, view}
@@ -18,9 +18,10 @@ use Rattle.delay_queue.specs.Claims.{Formatted, PollClaim}
 pub data Does (s : QueueWords) (a : Answer) (t : QueueWords) : Call → Type 0 where
   refused : {c : Call} {k : ℕ} → Refused k s a t → Does s a t c
   formatted : {n turn : ℕ} → Formatted s n turn a t → Does s a t (C.Format n turn)
-  inserted : {value when r : ℕ} {l : List ℕ} → view s .lists free ≡ r ∷ l → Takes (elapsed s) when
-      → Answered s a (T.key (keyOf (view s) r)) (placed r when (withValue (upd (view s .value) r value) (taken l (view s)))) t
-      → Does s a t (C.Insert value when)
+  inserted : {value when period r : ℕ} {l : List ℕ} → view s .lists free ≡ r ∷ l → Takes (elapsed s) when
+      → Answered s a (T.key (keyOf (view s) r))
+      (placed r when (withPeriod (upd (view s .period) r period) (withValue (upd (view s .value) r value) (taken l (view s))))) t
+      → Does s a t (C.Insert value when period)
   replaced : {key when r p : ℕ} → Names (view s) key r p → Takes (elapsed s) when → Answered s a T.ok (placed r when (left p r (view s))) t
       → Does s a t (C.Reset key when)
   removed : {key r p : ℕ} → Names (view s) key r p

@@ -2,30 +2,35 @@
 use mathlib.Core.Path.{_≡_}
 use mathlib.Core.Logic.{_⊎_}
 use mathlib.Core.List.{List}
-use Prim.Native.Nat.{ℕ, max}
+use Prim.Native.Nat.{ℕ, _+_, _<_, max}
 use Rattle.queue.specs.declared.Answer.{Answer}
 use Rattle.queue.specs.Told.{told}
 use Rattle.queue.specs.Told as T
-use Rattle.records.specs.Words.{QueueWords, elapsed, Sound}
+use Rattle.records.specs.Records.{numberIn}
+use Rattle.records.specs.Words.{QueueWords, elapsed, view, Sound}
 use Rattle.delay_queue.specs.declared.Call.the-variants as C
 use Rattle.delay_queue.specs.Claims.{CallClaim}
-use Rattle.promises.specs.Runs.{Asked, Runs, All}
+use Rattle.promises.specs.Runs.{Asked, Runs, Each}
 use Rattle.promises.specs.KeysStay.{Out}
 
--- the call, accepted, sets the timer of k for `when`: it inserts it, or resets it, "a reset counting as a new placing"
-abbrev pub Sets : ℕ → ℕ → Asked → Type 0
-Sets k when x =
-    ((value : ℕ) × (x .call ≡ C.Insert value when) × (told (x .answer) ≡ T.key k)) ⊎ ((x .call ≡ C.Reset k when) × (told (x .answer) ≡ T.ok))
+-- the call on s, accepted, sets the timer of k for `when`: it inserts it, or resets it, "a reset counting as a new placing"; or it is a poll that hands it out
+-- and "places it at w plus period under the same key" (02 [7])
+abbrev pub Sets : QueueWords → ℕ → ℕ → Asked → Type 0
+Sets s k when x =
+    ((value : ℕ) × (period : ℕ) × (x .call ≡ C.Insert value when period) × (told (x .answer) ≡ T.key k))
+    ⊎ ((x .call ≡ C.Reset k when) × (told (x .answer) ≡ T.ok))
+    ⊎ ((now v d m n : ℕ) × (x .call ≡ C.Poll now) × (told (x .answer) ≡ T.out k v d m n) × (0 < view s .period (numberIn k))
+    × (when ≡ d + view s .period (numberIn k)))
 
 -- the call does not set it
-abbrev pub NotSet : ℕ → Asked → Type 0
-NotSet k x = (when : ℕ) → Sets k when x → ⊥
+abbrev pub NotSet : ℕ → QueueWords → Asked → QueueWords → Type 0
+NotSet k s x t = (when : ℕ) → Sets s k when x → ⊥
 
 -- a call on s sets the timer of k, and leaves t
 pub record SetOn (s : QueueWords) (k : ℕ) (t : QueueWords) : Type 0 where
   pub when : ℕ
   pub asked : Asked
-  pub sets : Sets k when asked
+  pub sets : Sets s k when asked
   pub claim : CallClaim (asked .call) s (asked .answer) t
 
 -- the deadline as it is then stored: "Insert and reset first raise the deadline to elapsed if it is smaller"
@@ -43,8 +48,8 @@ pub record SetInTurn (s : QueueWords) (j k : ℕ) (t : QueueWords) : Type 0 wher
   pub second : SetOn later k both
   pub after : List Asked
   pub at-last : Runs both after t
-  pub first-last : All (NotSet j) between × NotSet j (second .asked) × All (NotSet j) after
-  pub second-last : All (NotSet k) after
+  pub first-last : Each (NotSet j) then × NotSet j later (second .asked) both × Each (NotSet j) at-last
+  pub second-last : Each (NotSet k) at-last
 
 -- ---- such runs there are
 

@@ -13,6 +13,7 @@ use Rattle.delay_queue.specs.declared.Call.{Call}
 use Rattle.delay_queue.specs.declared.Call.the-variants as C
 use Rattle.delay_queue.specs.Claims.{CallClaim}
 use Rattle.promises.specs.Runs.{Asked}
+use Rattle.promises.specs.Polling.{Finished}
 
 -- ---- what is said
 
@@ -21,16 +22,17 @@ pub record Refuses (s : QueueWords) (k : ℕ) : Type 0 where
   pub reset : (when : ℕ) (a : Answer) (t : QueueWords) → CallClaim (C.Reset k when) s a t → Refused 6 s a t
   pub remove : (a : Answer) (t : QueueWords) → CallClaim (C.Remove k) s a t → Refused 6 s a t
 
--- "A record that leaves (polled, removed, cleared)": by this call, answered x, the record of the key k does. A clear of a sound store is never refused
+-- "A record that leaves (polled, removed, cleared)": by this call, answered x, the record of the key k does. A timer that is handed out and set again does
+-- not leave. A clear of a sound store is never refused
 pub data Leaves (s : QueueWords) (k : ℕ) (x : Told) : Call → Type 0 where
-  polled : {now v d m n : ℕ} → Hands x k v d m n → Leaves s k x (C.Poll now)
+  polled : {now v d m n r p : ℕ} → Hands x k v d m n → Names (view s) k r p → Finished (view s) r x → Leaves s k x (C.Poll now)
   removed : {v d : ℕ} → x ≡ T.gone v d → Leaves s k x (C.Remove k)
   cleared : {r p : ℕ} → Names (view s) k r p → Leaves s k x C.Clear
 
 -- the call is made with the key k
 abbrev pub Uses : ℕ → Call → Type 0
 Uses k (C.Format n turn) = ⊥
-Uses k (C.Insert value when) = ⊥
+Uses k (C.Insert value when period) = ⊥
 Uses k (C.Reset key when) = key ≡ k
 Uses k (C.Remove key) = key ≡ k
 Uses k (C.Poll now) = ⊥
@@ -46,5 +48,5 @@ asked c a = record { call = c; answer = a }
 -- one record, given under the key 65536 and removed, then given under the next key: the first key is refused
 abbrev pub morning : List Asked
 morning =
-    asked (C.Insert 7 70) (A.Key 65536) ∷ asked (C.Remove 65536) (A.Gone 7 70) ∷ asked (C.Insert 8 0) (A.Key 131072) ∷ asked
+    asked (C.Insert 7 70 0) (A.Key 65536) ∷ asked (C.Remove 65536) (A.Gone 7 70) ∷ asked (C.Insert 8 0 0) (A.Key 131072) ∷ asked
     (C.Remove 65536) (A.No 6) ∷ []

@@ -10,12 +10,13 @@ use Rattle.promises.specs.KeysStay.{Aims, Out}
 
 -- ---- what is said
 
--- the key k names a record that is pending with the value x and the deadline w
-pub record Reaches (v : View) (k x w : ℕ) : Type 0 where
+-- the key k names a record that is pending with the value x, the period q and the deadline w
+pub record Reaches (v : View) (k x q w : ℕ) : Type 0 where
   pub number : ℕ
   pub place : ℕ
   pub names : Names v k number place
   pub value : v .value number ≡ x
+  pub period : v .period number ≡ q
   pub deadline : v .deadline number ≡ w
 
 -- the call leaves the timer of k alone: it is no accepted reset or remove of k, no accepted format or clear, and does not hand it out

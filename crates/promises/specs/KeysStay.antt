@@ -8,7 +8,7 @@ use Rattle.delay_queue.specs.declared.Call.the-variants as C
 -- the call is a reset or a remove of k, or one that takes every timer, as format and clear do
 abbrev pub Aims : ℕ → Call → Type 0
 Aims k (C.Format n turn) = Unit {0}
-Aims k (C.Insert value when) = ⊥
+Aims k (C.Insert value when period) = ⊥
 Aims k (C.Reset key when) = key ≡ k
 Aims k (C.Remove key) = key ≡ k
 Aims k (C.Poll now) = ⊥

@@ -18,6 +18,7 @@ pub mod Past
 pub mod Polling
 pub mod Quiet
 pub mod Refused
+pub mod Repeats
 pub mod Runs
 pub mod Shown
 pub mod OneCall

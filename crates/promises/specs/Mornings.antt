@@ -26,14 +26,15 @@ Holds (level e w k) = levelOf e w ≡ k
 -- "e=0, w=68719476736: number 4.": an insert of w on any sound store with a record free, and a reset to w of any pending timer
 Holds (refused e w number) =
     (s t : QueueWords) (a : Answer) → Sound s → elapsed s ≡ e
-    → ((value r : ℕ) (l : List ℕ) → view s .lists free ≡ r ∷ l → InsertClaim s value w a t → (told a ≡ T.no number) × (t ≡ s))
+    → ((value period r : ℕ) (l : List ℕ) → view s .lists free ≡ r ∷ l → InsertClaim s value w period a t → (told a ≡ T.no number) × (t ≡ s))
     × ((key r p : ℕ) → Names (view s) key r p → ResetClaim s key w a t → (told a ≡ T.no number) × (t ≡ s))
 -- "4101 inserted at 0 wakes at 4096"
 Holds (wakes e w t) =
-    (s s′ : QueueWords) (a b : Answer) (value : ℕ) → Quiet s e → InsertClaim s value w a s′ → WakeClaim s′ b → told b ≡ T.wake t
+    (s s′ : QueueWords) (a b : Answer) (value period : ℕ) → Quiet s e → InsertClaim s value w period a s′ → WakeClaim s′ b
+    → told b ≡ T.wake t
 -- "poll(4096) gives none, 2 moves, 2 drains", after that insert; "elapsed becomes now"
 Holds (polls e w now m n) =
-    (s s′ s″ : QueueWords) (a b : Answer) (value : ℕ) → Quiet s e → InsertClaim s value w a s′ → PollClaim s′ now b s″
+    (s s′ s″ : QueueWords) (a b : Answer) (value period : ℕ) → Quiet s e → InsertClaim s value w period a s′ → PollClaim s′ now b s″
     → (told b ≡ T.none m n) × (elapsed s″ ≡ now)
 
 -- "- * Levels at e=0: 63 is 0; 64 is 1; 4095 is 1; 4096 is 2; 1073741824 is 5; 68719476735 is 5. At e=63, 64 is 1. At e=4095, 4096 is 2.

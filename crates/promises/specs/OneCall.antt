@@ -20,7 +20,7 @@ use Rattle.delay_queue.specs.declared.Call.the-variants as C
 -- how many records' words it may change
 abbrev pub reach : Call → QueueWords → ℕ
 reach (C.Format n turn) s = n
-reach (C.Insert value when) s = count s
+reach (C.Insert value when period) s = count s
 reach (C.Reset key when) s = count s
 reach (C.Remove key) s = count s
 reach (C.Poll now) s = count s
@@ -34,6 +34,7 @@ isNo T.ok = false
 isNo (T.key k) = false
 isNo (T.gone v d) = false
 isNo (T.out k v d m n) = false
+isNo (T.last k v d m n) = false
 isNo (T.none m n) = false
 isNo (T.wake t) = false
 isNo T.never = false
@@ -56,8 +57,9 @@ abbrev pub word : List ℕ
 word = 0 ∷ []
 
 abbrev pub blank : QueueWords
-blank = words (record { elapsed = 0; occupied = []; stacks = record { n = 0; expired = 0; free = 0 } }) [] word word word word word word
+blank = words (record { elapsed = 0; occupied = []; stacks = record { n = 0; expired = 0; free = 0 } }) []
+    (0 ∷ word) word word word word word
 
 abbrev pub one : QueueWords
-one = queueWords (wheelWords 0 (replicate 6 0) (formatted 1 word word word)) (over 1 (λ i. 0) word) (over 1 (λ i. 0) word)
+one = queueWords (wheelWords 0 (replicate 6 0) (formatted 1 word word word)) (over 2 (λ i. 0) (0 ∷ word)) (over 1 (λ i. 0) word)
     (over 1 (λ i. 1) word)

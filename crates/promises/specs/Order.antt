@@ -36,4 +36,4 @@ pub record PollOrder (v : View) (x : Told) (u : View) : Type 0 where
   pub head : (k w d m n r p : ℕ) → Hands x k w d m n → Names v k r p → p < 64 → (l : List ℕ) × (v .lists p ≡ r ∷ l) × (u .lists p ≡ l)
   -- what lay in any slot was the first of its equals there, and the others lie at level 0 now, in their order
   pub equals : (k w d m n r p : ℕ) → Hands x k w d m n → Names v k r p → p < slots
-      → (q : ℕ) × (q < 64) × (ofDeadline (v .deadline) d (v .lists p) ≡ r ∷ ofDeadline (v .deadline) d (u .lists q))
+      → (q : ℕ) × (q < 64) × (ofDeadline (v .deadline) d (v .lists p) ≡ r ∷ ofDeadline (u .deadline) d (u .lists q))

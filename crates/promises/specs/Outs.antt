@@ -1,11 +1,12 @@
 -- How often a key is given and handed out over a run.
 use mathlib.Core.Bool.{cond}
 use mathlib.Core.List.{List, [], _∷_}
-use Prim.Native.Nat.{ℕ, _+_}
+use Prim.Native.Nat.{ℕ, _+_, _*_}
 use lib.Dec.{eqb}
 use Rattle.queue.specs.Told.{Told, told}
 use Rattle.queue.specs.Told as T
-use Rattle.promises.specs.Runs.{Asked}
+use Rattle.records.specs.Words.{QueueWords}
+use Rattle.promises.specs.Runs.{Asked, Runs, rest, next, resetting}
 
 -- ---- what is said
 
@@ -15,6 +16,7 @@ keyed k T.ok = 0
 keyed k (T.key j) = cond (eqb j k) 1 0
 keyed k (T.gone v d) = 0
 keyed k (T.out j v d m n) = 0
+keyed k (T.last j v d m n) = 0
 keyed k (T.none m n) = 0
 keyed k (T.wake t) = 0
 keyed k T.never = 0
@@ -31,6 +33,7 @@ outed k T.ok = 0
 outed k (T.key j) = 0
 outed k (T.gone v d) = 0
 outed k (T.out j v d m n) = cond (eqb j k) 1 0
+outed k (T.last j v d m n) = cond (eqb j k) 1 0
 outed k (T.none m n) = 0
 outed k (T.wake t) = 0
 outed k T.never = 0
@@ -40,3 +43,8 @@ outed k (T.no n) = 0
 abbrev pub outs : ℕ → List Asked → ℕ
 outs k [] = 0
 outs k (x ∷ l) = outed k (told (x .answer)) + outs k l
+
+-- how often the timer of k is set again by the polls of a run that hand it out
+abbrev pub agains : ℕ → {s u : QueueWords} {l : List Asked} → Runs s l u → ℕ
+agains k rest = 0
+agains k (next {s} {t} {u} {x} {l} A R) = outed k (told (x .answer)) * resetting s (told (x .answer)) + agains k R

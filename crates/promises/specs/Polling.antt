@@ -1,6 +1,6 @@
 -- Words of the promises on one poll: what it hands out, what stays, the clock and the drains.
 use mathlib.Core.Path.{_≡_}
-use mathlib.Core.Logic.{_↔_, _≢_}
+use mathlib.Core.Logic.{_⊎_, _↔_, _≢_}
 use Prim.Native.Nat.{ℕ, _+_, _*_, _/_, _≤_, _<_, max}
 use Rattle.stack.specs.Places.{free}
 use Rattle.queue.specs.Told.{Told, Hands}
@@ -16,9 +16,10 @@ use Rattle.records.specs.Words.{elapsed}
 abbrev pub IsPending : View → ℕ → Type 0
 IsPending v r = (p : ℕ) × At v r p
 
--- y has in u the value, the deadline and the turn that it has in v, and so the key
+-- y has in u the value, the period, the deadline and the turn that it has in v, and so the key
 pub record SameRecord (v u : View) (y : ℕ) : Type 0 where
   pub value : u .value y ≡ v .value y
+  pub period : u .period y ≡ v .period y
   pub deadline : u .deadline y ≡ v .deadline y
   pub turn : u .turn y ≡ v .turn y
 
@@ -37,9 +38,32 @@ SaysNone x = (m n : ℕ) × (x ≡ T.none m n)
 abbrev pub Dead : View → ℕ → Type 0
 Dead v k = (r p : ℕ) → Names v k r p → ⊥
 
--- the key k, the value w and the deadline d are those of a timer that was pending, is due and is a least one; it is pending no more, and its key is dead;
--- the others stay, nothing else is pending, and one fewer is
-pub record HandsLeast (v : View) (now k w d : ℕ) (u : View) : Type 0 where
+-- 02 [7]: "the answer says it was the last time"
+abbrev pub SaysLast : Told → Type 0
+SaysLast x = (k w d m n : ℕ) × (x ≡ T.last k w d m n)
+
+-- the timer of the record r is done with: it does not repeat, or this was the last time
+abbrev pub Finished : View → ℕ → Told → Type 0
+Finished v r x = (v .period r ≡ 0) ⊎ SaysLast x
+
+-- then it is pending no more, its key is dead, and one fewer is pending
+pub record Gone (v : View) (k timer : ℕ) (u : View) : Type 0 where
+  pub gone : IsPending u timer → ⊥
+  pub dead : Dead u k
+  pub fewer : pending u + 1 ≡ pending v
+
+-- "the same poll places it at w plus period under the same key": it is pending again, with its value and period, and as many are as before
+pub record SetAgain (v : View) (k timer : ℕ) (u : View) : Type 0 where
+  pub place : ℕ
+  pub names : Names u k timer place
+  pub deadline : u .deadline timer ≡ v .deadline timer + v .period timer
+  pub value : u .value timer ≡ v .value timer
+  pub period : u .period timer ≡ v .period timer
+  pub same : pending u ≡ pending v
+
+-- the key k, the value w and the deadline d are those of a timer that was pending, is due and is a least one; it is pending no more, or again; the others
+-- stay, and nothing else is pending
+pub record HandsLeast (v : View) (now k w d : ℕ) (x : Told) (u : View) : Type 0 where
   pub timer : ℕ
   pub place : ℕ
   pub names : Names v k timer place
@@ -47,11 +71,10 @@ pub record HandsLeast (v : View) (now k w d : ℕ) (u : View) : Type 0 where
   pub deadline : d ≡ v .deadline timer
   pub due : d ≤ now
   pub least : (y : ℕ) → IsPending v y → d ≤ v .deadline y
-  pub gone : IsPending u timer → ⊥
-  pub dead : Dead u k
+  pub gone : Finished v timer x → Gone v k timer u
+  pub again : (Finished v timer x → ⊥) → SetAgain v k timer u
   pub others : (y : ℕ) → IsPending v y → y ≢ timer → IsPending u y × SameRecord v u y
-  pub only : (y : ℕ) → IsPending u y → IsPending v y × (y ≢ timer)
-  pub fewer : pending u + 1 ≡ pending v
+  pub only : (y : ℕ) → IsPending u y → IsPending v y
 
 -- all that was pending is pending, and nothing else
 pub record AllStay (v u : View) : Type 0 where
@@ -65,6 +88,7 @@ pub record Beside (r : ℕ) (v u : View) : Type 0 where
   pub size : u .n ≡ v .n
   pub elapsed : u .elapsed ≡ v .elapsed
   pub value : u .value ≡ v .value
+  pub period : u .period ≡ v .period
   pub deadline : u .deadline ≡ v .deadline
   pub turn : (y : ℕ) → y ≢ r → u .turn y ≡ v .turn y
   pub lists : (p : ℕ) → p < free → u .lists p ≡ v .lists p
@@ -75,7 +99,7 @@ pub record Beside (r : ℕ) (v u : View) : Type 0 where
 pub record PollLeast (v : View) (now : ℕ) (x : Told) (u : View) : Type 0 where
   pub hands-out : SaysOut x ↔ Due v now
   pub otherwise : (Due v now → ⊥) → SaysNone x
-  pub out : (k w d m n : ℕ) → Hands x k w d m n → HandsLeast v now k w d u
+  pub out : (k w d m n : ℕ) → Hands x k w d m n → HandsLeast v now k w d x u
   pub rest : (m n : ℕ) → x ≡ T.none m n → AllStay v u
 
 -- "So after a poll that hands out w, elapsed is the larger of e and 64 x floor(w/64)"; "nothing handed out, elapsed becomes now"
@@ -89,6 +113,7 @@ drainsOf T.ok = 0
 drainsOf (T.key k) = 0
 drainsOf (T.gone v d) = 0
 drainsOf (T.out k v d m n) = n
+drainsOf (T.last k v d m n) = n
 drainsOf (T.none m n) = n
 drainsOf (T.wake t) = 0
 drainsOf T.never = 0

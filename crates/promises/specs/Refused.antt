@@ -36,7 +36,7 @@ pub data Lines : Type 1 where
 -- 4: "deadline less elapsed is over 68,719,476,735"; 5: "as 4, but not over, and floor(w/2^36) differs from floor(e/2^36)"; 7: "now is below elapsed"
 abbrev pub linesOf : Call → QueueWords → Lines
 linesOf (C.Format n turn) s = line 1 (Fits (slices s) n → ⊥) (line 8 (InRange turn → ⊥) end)
-linesOf (C.Insert value when) s =
+linesOf (C.Insert value when period) s =
     line 2 (Sound s → ⊥) (line 3 (view s .lists free ≡ []) (line 4 (TooFar (elapsed s) when) (line 5 (OtherBlock (elapsed s) when) end)))
 linesOf (C.Reset key when) s =
     line 2 (Sound s → ⊥) (line 6 (NoSuchKey (view s) key) (line 4 (TooFar (elapsed s) when) (line 5 (OtherBlock (elapsed s) when) end)))
@@ -72,7 +72,7 @@ pub data Settled (n : ℕ) (s : QueueWords) (a : Answer) (t : QueueWords) (l : L
 -- the deadline that a call asks for; 0 where it asks for none
 abbrev pub whenOf : Call → ℕ
 whenOf (C.Format n turn) = 0
-whenOf (C.Insert value when) = when
+whenOf (C.Insert value when period) = when
 whenOf (C.Reset key when) = when
 whenOf (C.Remove key) = 0
 whenOf (C.Poll now) = 0

@@ -6,7 +6,9 @@ use Prim.Native.Nat.{ℕ, _+_}
 use Rattle.queue.specs.declared.Answer.{Answer}
 use Rattle.queue.specs.Told.{Told, told}
 use Rattle.queue.specs.Told as T
-use Rattle.records.specs.Words.{QueueWords}
+use lib.Dec.{ltb}
+use Rattle.records.specs.Records.{numberIn}
+use Rattle.records.specs.Words.{QueueWords, view}
 use Rattle.delay_queue.specs.declared.Call.{Call}
 use Rattle.delay_queue.specs.declared.Call.the-variants as C
 use Rattle.delay_queue.specs.Claims.{CallClaim}
@@ -28,7 +30,7 @@ accepted x = not (isNo (told (x .answer)))
 
 abbrev pub isFormat : Call → Bool
 isFormat (C.Format n turn) = true
-isFormat (C.Insert value when) = false
+isFormat (C.Insert value when period) = false
 isFormat (C.Reset key when) = false
 isFormat (C.Remove key) = false
 isFormat (C.Poll now) = false
@@ -39,7 +41,7 @@ isFormat C.Clear = false
 -- insert or reset
 abbrev pub isPlacing : Call → Bool
 isPlacing (C.Format n turn) = false
-isPlacing (C.Insert value when) = true
+isPlacing (C.Insert value when period) = true
 isPlacing (C.Reset key when) = true
 isPlacing (C.Remove key) = false
 isPlacing (C.Poll now) = false
@@ -49,7 +51,7 @@ isPlacing C.Clear = false
 
 abbrev pub isPoll : Call → Bool
 isPoll (C.Format n turn) = false
-isPoll (C.Insert value when) = false
+isPoll (C.Insert value when period) = false
 isPoll (C.Reset key when) = false
 isPoll (C.Remove key) = false
 isPoll (C.Poll now) = true
@@ -73,6 +75,7 @@ movesOf T.ok = 0
 movesOf (T.key k) = 0
 movesOf (T.gone v d) = 0
 movesOf (T.out k v d m n) = m
+movesOf (T.last k v d m n) = m
 movesOf (T.none m n) = m
 movesOf (T.wake t) = 0
 movesOf T.never = 0
@@ -82,6 +85,24 @@ movesOf (T.no n) = 0
 abbrev pub moves : List Asked → ℕ
 moves [] = 0
 moves (x ∷ l) = movesOf (told (x .answer)) + moves l
+
+-- 02 [7]: "the same poll places it at w plus period": 1 where a poll of s, answered x, sets again what it hands out, which repeats and not for the last time
+abbrev pub resetting : QueueWords → Told → ℕ
+resetting s T.ok = 0
+resetting s (T.key k) = 0
+resetting s (T.gone v d) = 0
+resetting s (T.out k v d m n) = cond (ltb 0 (view s .period (numberIn k))) 1 0
+resetting s (T.last k v d m n) = 0
+resetting s (T.none m n) = 0
+resetting s (T.wake t) = 0
+resetting s T.never = 0
+resetting s (T.len n) = 0
+resetting s (T.no n) = 0
+
+-- how many polls of a run do
+abbrev pub resettings : {s u : QueueWords} {l : List Asked} → Runs s l u → ℕ
+resettings rest = 0
+resettings (next {s} {t} {u} {x} {l} A R) = resetting s (told (x .answer)) + resettings R
 
 -- no format of the run is accepted: "until the next format"
 abbrev pub NoFormat : List Asked → Type 0

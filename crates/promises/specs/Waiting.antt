@@ -6,19 +6,21 @@ use mathlib.Core.List.{List, [], _∷_}
 use Prim.Native.Nat.{ℕ, _≤_}
 use lib.Dec.{leb}
 use Rattle.queue.specs.Told.{told, Hands}
+use Rattle.records.specs.View.{View}
 use Rattle.records.specs.Records.{Names}
 use Rattle.queue.specs.Steps.{pending}
 use Rattle.records.specs.Words.{QueueWords, view, Sound}
 use Rattle.delay_queue.specs.declared.Call.{Call}
 use Rattle.delay_queue.specs.declared.Call.the-variants as C
 use Rattle.promises.specs.Runs.{Asked, Runs, accepted, All, tally}
+use Rattle.promises.specs.Polling.{IsPending}
 
 -- ---- what is said
 
 -- "no insert, reset, clear or format"
 abbrev pub disturbs : Call → Bool
 disturbs (C.Format n turn) = true
-disturbs (C.Insert value when) = true
+disturbs (C.Insert value when period) = true
 disturbs (C.Reset key when) = true
 disturbs (C.Remove key) = false
 disturbs (C.Poll now) = false
@@ -33,7 +35,7 @@ Undisturbed x = (disturbs (x .call) && accepted x) ≡ false
 -- a poll at which the deadline w is due
 abbrev pub duePoll : ℕ → Call → Bool
 duePoll w (C.Format n turn) = false
-duePoll w (C.Insert value when) = false
+duePoll w (C.Insert value when period) = false
 duePoll w (C.Reset key when) = false
 duePoll w (C.Remove key) = false
 duePoll w (C.Poll now) = leb w now
@@ -54,10 +56,16 @@ ComesOut k v d x = (now m n : ℕ) × (x .call ≡ C.Poll now) × (Hands (told (
 abbrev pub NotRemoved : ℕ → Asked → Type 0
 NotRemoved k x = x .call ≡ C.Remove k → accepted x ≡ false
 
--- the timer r, with the key k, is pending; the run is undisturbed, and has as many accepted polls at which r is due as timers were pending
+-- 02 [7]: "stores with no repeating timers": nothing that is pending repeats
+abbrev pub NoneRepeats : View → Type 0
+NoneRepeats v = (y : ℕ) → IsPending v y → v .period y ≡ 0
+
+-- the timer r, with the key k, is pending, and nothing repeats; the run is undisturbed, and has as many accepted polls at which r is due as timers were
+-- pending
 pub record Waited (s : QueueWords) (l : List Asked) (u : QueueWords) (k r p : ℕ) : Type 0 where
   pub sound : Sound s
   pub names : Names (view s) k r p
+  pub once : NoneRepeats (view s)
   pub runs : Runs s l u
   pub undisturbed : All Undisturbed l
   pub enough : pending (view s) ≤ tally (duePoll (view s .deadline r)) l

@@ -9,18 +9,20 @@ use Rattle.links.specs.Count.{cnt}
 use Rattle.stack.specs.Places.{expired, free}
 use Rattle.wheel.specs.Rows.{Rows}
 use Rattle.queue.specs.declared.Answer.{Answer}
-use Rattle.queue.specs.Told.{told, Hands}
+use Rattle.queue.specs.Told.{told}
 use Rattle.records.specs.View.{View}
-use Rattle.records.specs.Records.{keyOf, At, left, freed}
-use Rattle.queue.specs.Steps.{kept}
-use Rattle.records.specs.Words.{QueueWords, count, view, Standing, PastKept}
-use Rattle.records.specs.Inner.{Stands, Goes}
+use Rattle.records.specs.Records.{At, left, freed}
+use Rattle.queue.specs.Steps.{GoesOn}
+use Rattle.records.specs.Words.{QueueWords, count, view, Standing, Sound, PastKept}
+use Rattle.records.specs.Inner.{Stands}
 
--- ---- a loose record is handed out and freed
+-- ---- a loose record is handed out, and freed or placed again
 
 pub record HandsOut (s : QueueWords) (i moves drains : ℕ) (a : Answer) (s′ : QueueWords) : Type 0 where
-  pub told : Hands (told a) (keyOf (view s) i) (view s .value i) (view s .deadline i) moves drains
-  pub goes : Goes s (freed i (view s)) s′
+  pub goes-on : GoesOn (view s) i moves drains (view s) (told a) (view s′)
+  pub sound : Sound s′
+  pub size : count s′ ≡ count s
+  pub kept : PastKept (count s) s s′
 
 -- ---- next wake
 

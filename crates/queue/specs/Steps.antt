@@ -2,15 +2,15 @@
 use mathlib.Core.Path.{_≡_}
 use mathlib.Core.List.{List, [], _∷_}
 use mathlib.Core.Option.{Option, none, some}
-use Prim.Native.Nat.{ℕ, suc}
+use Prim.Native.Nat.{ℕ, suc, _+_, _<_}
 use Rattle.times.specs.Times.{startAt}
 use Rattle.links.specs.Lists.{change}
 use Rattle.stack.specs.Places.{expired, free}
 use Rattle.wheel.specs.Wheel.{Lists, FirstSlot, EmptyWheel, Polls}
 use Rattle.wheel.specs.Sums.{total}
 use Rattle.records.specs.View.{View, withElapsed, withLists}
-use Rattle.records.specs.Records.{keyOf, At, left, freed}
-use Rattle.queue.specs.Told.{Told, out, wake, never}
+use Rattle.records.specs.Records.{keyOf, At, NoMore, left, placed, freed}
+use Rattle.queue.specs.Told.{Told, out, last, wake, never}
 use Rattle.queue.specs.Told as T
 
 -- "Poll pops the expired stack if it isn't empty: elapsed, moves and drains stay as they are, counted 0. Otherwise .." the wheel is polled: who is
@@ -20,10 +20,21 @@ pub data TakesOut (v : View) (now : ℕ) : Option ℕ → ℕ → ℕ → View �
   polled : {got : Option ℕ} {m n e : ℕ} {L : Lists} → v .lists expired ≡ [] → Polls (v .deadline) now (v .elapsed) (v .lists) got m n e L
       → TakesOut v now got m n (withElapsed e (withLists L v))
 
--- what becomes of it: a record that is handed out is freed
+-- what becomes of the record r of v that is handed out, u being the view with it in no list
+pub data GoesOn (v : View) (r m n : ℕ) (u : View) : Told → View → Type 0 where
+  -- a period of 0: it is freed
+  once : v .period r ≡ 0 → GoesOn v r m n u (out (keyOf v r) (v .value r) (v .deadline r) m n) (freed r u)
+  -- 02 [7]: "When a repeating timer is handed out at w, the same poll places it at w plus period under the same key."
+  again : 0 < v .period r → (NoMore (u .elapsed) (v .deadline r + v .period r) → ⊥)
+      → GoesOn v r m n u (out (keyOf v r) (v .value r) (v .deadline r) m n) (placed r (v .deadline r + v .period r) u)
+  -- "If refusals 4 or 5 would meet that deadline at the elapsed time after the hand-out, or it passes 2^64-1, the record is freed and the answer says it
+  -- was the last time."
+  ended : 0 < v .period r → NoMore (u .elapsed) (v .deadline r + v .period r)
+      → GoesOn v r m n u (last (keyOf v r) (v .value r) (v .deadline r) m n) (freed r u)
+
+-- a poll: who is taken out is handed out, or nobody is
 pub data QueuePolls (v : View) (now : ℕ) : Told → View → Type 0 where
-  handed : {r m n : ℕ} {u : View} → TakesOut v now (some r) m n u
-      → QueuePolls v now (out (keyOf v r) (v .value r) (v .deadline r) m n) (freed r u)
+  handed : {r m n : ℕ} {u : View} {x : Told} {w : View} → TakesOut v now (some r) m n u → GoesOn v r m n u x w → QueuePolls v now x w
   nothing : {m n : ℕ} {u : View} → TakesOut v now none m n u → QueuePolls v now (T.none m n) u
 
 -- "Next wake is `poll_at`: nothing for an empty wheel, else the start of the first slot as above."

@@ -23,6 +23,8 @@ pub enum Answer {
     Gone(u64, u64),
     // poll: key, value, deadline, moves, drains
     Out(u64, u64, u64, u64, u64),
+    // poll: key, value, deadline, moves, drains, of a repeating timer that is set no more
+    Last(u64, u64, u64, u64, u64),
     // poll: moves, drains
     Nothing(u64, u64),
     // next wake
@@ -40,7 +42,7 @@ pub struct Out {
     pub elapsed: u64,
 }
 
-// A record is taken for the value and placed at the deadline.
+// A record is taken for the value and the period, and placed at the deadline.
 pub fn insert(
     elapsed: u64,
     rows: &mut [u64; 6],
@@ -54,11 +56,12 @@ pub fn insert(
     marks: &mut [u16],
     value: u64,
     when: u64,
+    period: u64,
 ) -> Answer
     requires { ⌜ Sound (lent elapsed rows tops heads values deadlines nexts prevs turns marks) ⌝ }
     ensures { λ r. ⌜
         InsertOn (before elapsed rows tops heads values deadlines nexts prevs turns marks)
-        value when r (after elapsed rows tops heads values deadlines nexts prevs turns marks) ⌝ }
+        value when period r (after elapsed rows tops heads values deadlines nexts prevs turns marks) ⌝ }
 {
     if tops[2] == links::NOBODY {
         return Answer::No(3);
@@ -68,7 +71,9 @@ pub fn insert(
         return Answer::No(no);
     }
     let item = wheel::pop(elapsed, rows, tops, heads, nexts, prevs, marks, stack::FREE);
-    values[item as usize] = value;
+    let at = 2 * (item as usize);
+    values[at] = value;
+    values[at + 1] = period;
     let key = records::key_of(turns[item as usize], item);
     records::place(
         elapsed,
@@ -152,21 +157,22 @@ pub fn remove(
     let records::Found::At(item) = found else {
         return Answer::No(6);
     };
-    let value = values[item as usize];
-    let deadline = deadlines[item as usize];
+    let k = item as usize;
+    let value = values[2 * k];
+    let deadline = deadlines[k];
     wheel::remove(elapsed, rows, tops, heads, nexts, prevs, marks, item);
     records::leave(elapsed, rows, tops, heads, nexts, prevs, turns, marks, item);
     Answer::Gone(value, deadline)
 }
 
-// The loose record `item` is handed out, and freed.
+// The loose record `item` is handed out. With a period it is placed again, if it can be; else it is freed.
 fn hand_out(
     elapsed: u64,
-    rows: &[u64; 6],
+    rows: &mut [u64; 6],
     tops: &mut [u16; 3],
     heads: &mut [[u16; 64]; 6],
     values: &[u64],
-    deadlines: &[u64],
+    deadlines: &mut [u64],
     nexts: &mut [u16],
     prevs: &mut [u16],
     turns: &mut [u64],
@@ -183,9 +189,30 @@ fn hand_out(
 {
     let k = item as usize;
     let key = records::key_of(turns[k], item);
-    let value = values[k];
+    let value = values[2 * k];
+    let period = values[2 * k + 1];
     let deadline = deadlines[k];
-    records::leave(elapsed, rows, tops, heads, nexts, prevs, turns, marks, item);
+    if period == 0 {
+        records::leave(elapsed, rows, tops, heads, nexts, prevs, turns, marks, item);
+        return Answer::Out(key, value, deadline, moves, drains);
+    }
+    let next = records::next_time(elapsed, deadline, period);
+    let records::Again::At(when) = next else {
+        records::leave(elapsed, rows, tops, heads, nexts, prevs, turns, marks, item);
+        return Answer::Last(key, value, deadline, moves, drains);
+    };
+    records::place(
+        elapsed,
+        rows,
+        tops,
+        heads,
+        deadlines,
+        nexts,
+        prevs,
+        marks,
+        item,
+        when,
+    );
     Answer::Out(key, value, deadline, moves, drains)
 }
 
@@ -196,7 +223,7 @@ pub fn poll(
     tops: &mut [u16; 3],
     heads: &mut [[u16; 64]; 6],
     values: &[u64],
-    deadlines: &[u64],
+    deadlines: &mut [u64],
     nexts: &mut [u16],
     prevs: &mut [u16],
     turns: &mut [u64],

@@ -3,3 +3,4 @@ pub mod Words
 pub mod Inner
 pub mod Found
 pub mod Cases
+pub mod Again

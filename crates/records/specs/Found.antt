@@ -1,4 +1,4 @@
--- What `deadline_no` and `find` say.
+-- What `deadline_no`, `next_time` and `find` say.
 use mathlib.Core.Path.{_≡_}
 use mathlib.Core.List.{List}
 use Prim.Native.Nat.{ℕ, _<_}
@@ -6,7 +6,9 @@ use Rattle.links.specs.Links.{at}
 use Rattle.stack.specs.Places.{free}
 use Rattle.records.specs.declared.Found.{Found}
 use Rattle.records.specs.declared.Found.the-variants as F
-use Rattle.records.specs.Records.{turnIn, numberIn, TooFar, OtherBlock, Takes}
+use Rattle.records.specs.declared.Again.{Again}
+use Rattle.records.specs.declared.Again.the-variants as G
+use Rattle.records.specs.Records.{turnIn, numberIn, TooFar, OtherBlock, Takes, NoMore}
 
 -- ---- refusals 4 and 5
 
@@ -16,6 +18,13 @@ pub record DeadlineNo (e w r : ℕ) : Type 0 where
   pub other : OtherBlock e w → r ≡ 5
   pub near : Takes e w → r ≡ 0
   pub taken : r ≡ 0 → Takes e w
+
+-- ---- the next time
+
+-- a timer is set again to w, unless it is set no more
+abbrev pub AgainIs : ℕ → ℕ → Again → Type 0
+AgainIs e w G.Never = NoMore e w
+AgainIs e w (G.At when) = (when ≡ w) × (NoMore e w → ⊥)
 
 -- ---- a key
 

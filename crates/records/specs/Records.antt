@@ -1,6 +1,6 @@
 -- Records and their keys, and what happens to one record, in document 01's words. What stands between quotation marks is its text.
 use mathlib.Core.Path.{_≡_}
-use mathlib.Core.Logic.{_≢_}
+use mathlib.Core.Logic.{_≢_, _⊎_}
 use mathlib.Core.Bool.{cond}
 use mathlib.Core.List.{List}
 use Prim.Native.Nat.{ℕ, _+_, _-_, _*_, _/_, _%_, _^_, _≤_, _<_, max}
@@ -60,7 +60,12 @@ Near e w = e < w → block w ≡ block e
 abbrev pub Takes : ℕ → ℕ → Type 0
 Takes e w = Near e w
 
--- ---- one record moves
+-- 02 [7]: "If refusals 4 or 5 would meet that deadline at the elapsed time after the hand-out, or it passes 2^64-1": a timer is not set again to w, which
+-- is a number and no word
+abbrev pub NoMore : ℕ → ℕ → Type 0
+NoMore e w = (2 ^ 64 ≤ w) ⊎ TooFar e w ⊎ OtherBlock e w
+
+-- ---- one record moves. 02 [7]: "a reset or leaving keeps the period"
 
 -- the head of the free list is taken, and l is what is left of it
 abbrev pub taken : List ℕ → View → View

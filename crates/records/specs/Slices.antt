@@ -1,9 +1,9 @@
 -- The six slices of a store, and when they are long enough.
 use mathlib.Core.List.{List}
-use Prim.Native.Nat.{ℕ, _≤_, _<_}
+use Prim.Native.Nat.{ℕ, _+_, _*_, _≤_, _<_}
 use lib.ListN.{length}
 use Rattle.contracts.specs.Lent.{Lent, Turned, old}
-use Rattle.links.specs.Links.{Links, links}
+use Rattle.links.specs.Links.{Links, links, at}
 use Rattle.links.specs.Links as linked
 
 pub record Slices : Type 0 where
@@ -24,9 +24,16 @@ abbrev pub before : (values deadlines nexts prevs turns marks : Turned (List ℕ
 before values deadlines nexts prevs turns marks =
     slicesOf (old values) (old deadlines) (old nexts) (old prevs) (old turns) (old marks)
 
+-- a record has two words of `values`: its value and, behind it, its period
+abbrev pub valueAt : List ℕ → ℕ → ℕ
+valueAt vs i = at vs (2 * i)
+
+abbrev pub periodAt : List ℕ → ℕ → ℕ
+periodAt vs i = at vs (2 * i + 1)
+
 -- none of them is too short for n records
 pub record Room (n : ℕ) (l : Slices) : Type 0 where
-  pub values : n ≤ length (l .values)
+  pub values : 2 * n ≤ length (l .values)
   pub deadlines : n ≤ length (l .deadlines)
   pub links : linked.Room n (l .links)
   pub turns : n ≤ length (l .turns)

@@ -1,4 +1,4 @@
--- A store as document 01 speaks of it: elapsed, the list of each place, and each record's value, deadline and turn.
+-- A store as the papers speak of it: elapsed, the list of each place, and each record's value, period, deadline and turn.
 use mathlib.Core.Bool.{cond}
 use Prim.Native.Nat.{ℕ}
 use lib.Dec.{eqb}
@@ -9,27 +9,32 @@ pub record View : Type 0 where
   pub elapsed : ℕ
   pub lists : Lists
   pub value : ℕ → ℕ
+  -- 02 [7]: "A record gains a period, 0 for none."
+  pub period : ℕ → ℕ
   pub deadline : ℕ → ℕ
   pub turn : ℕ → ℕ
 
-abbrev pub viewOf : ℕ → ℕ → Lists → (ℕ → ℕ) → (ℕ → ℕ) → (ℕ → ℕ) → View
-viewOf n e L v d t = record { n = n; elapsed = e; lists = L; value = v; deadline = d; turn = t }
+abbrev pub viewOf : ℕ → ℕ → Lists → (ℕ → ℕ) → (ℕ → ℕ) → (ℕ → ℕ) → (ℕ → ℕ) → View
+viewOf n e L v p d t = record { n = n; elapsed = e; lists = L; value = v; period = p; deadline = d; turn = t }
 
 -- one thing changed, the rest kept
 abbrev pub withElapsed : ℕ → View → View
-withElapsed e v = viewOf (v .n) e (v .lists) (v .value) (v .deadline) (v .turn)
+withElapsed e v = viewOf (v .n) e (v .lists) (v .value) (v .period) (v .deadline) (v .turn)
 
 abbrev pub withLists : Lists → View → View
-withLists L v = viewOf (v .n) (v .elapsed) L (v .value) (v .deadline) (v .turn)
+withLists L v = viewOf (v .n) (v .elapsed) L (v .value) (v .period) (v .deadline) (v .turn)
 
 abbrev pub withValue : (ℕ → ℕ) → View → View
-withValue f v = viewOf (v .n) (v .elapsed) (v .lists) f (v .deadline) (v .turn)
+withValue f v = viewOf (v .n) (v .elapsed) (v .lists) f (v .period) (v .deadline) (v .turn)
+
+abbrev pub withPeriod : (ℕ → ℕ) → View → View
+withPeriod f v = viewOf (v .n) (v .elapsed) (v .lists) (v .value) f (v .deadline) (v .turn)
 
 abbrev pub withDeadline : (ℕ → ℕ) → View → View
-withDeadline f v = viewOf (v .n) (v .elapsed) (v .lists) (v .value) f (v .turn)
+withDeadline f v = viewOf (v .n) (v .elapsed) (v .lists) (v .value) (v .period) f (v .turn)
 
 abbrev pub withTurn : (ℕ → ℕ) → View → View
-withTurn f v = viewOf (v .n) (v .elapsed) (v .lists) (v .value) (v .deadline) f
+withTurn f v = viewOf (v .n) (v .elapsed) (v .lists) (v .value) (v .period) (v .deadline) f
 
 -- f with x at i
 unfoldable pub upd : (ℕ → ℕ) → ℕ → ℕ → ℕ → ℕ

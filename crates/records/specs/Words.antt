@@ -2,7 +2,7 @@
 use mathlib.Core.Path.{_≡_}
 use mathlib.Core.Logic.{_≢_}
 use mathlib.Core.List.{List}
-use Prim.Native.Nat.{ℕ, _^_, _<_}
+use Prim.Native.Nat.{ℕ, _*_, _^_, _<_}
 use Rattle.contracts.specs.Lent.{Lent, Turned, old, new}
 use Rattle.links.specs.Lists.{nobody}
 use Rattle.links.specs.Links.{links, at}
@@ -13,7 +13,7 @@ use Rattle.wheel.specs.declared.Wheel.{Wheel}
 use Rattle.wheel.specs.Words.{WheelWords, wheelWords, WheelWhole, words as wheeled, lists as listsIn, count as countIn, markOf as markIn}
 use Rattle.records.specs.View.{View, viewOf}
 use Rattle.records.specs.Records.{lastTurn}
-use Rattle.records.specs.Slices.{Slices, Fits}
+use Rattle.records.specs.Slices.{Slices, Fits, valueAt, periodAt}
 
 pub record QueueWords : Type 0 where
   pub wheel : WheelWords
@@ -57,7 +57,7 @@ abbrev pub markOf : QueueWords → ℕ → ℕ
 markOf s i = markIn (s .wheel) i
 
 abbrev pub view : QueueWords → View
-view s = viewOf (count s) (elapsed s) (listsIn (s .wheel)) (at (s .values)) (at (s .deadlines)) (at (s .turns))
+view s = viewOf (count s) (elapsed s) (listsIn (s .wheel)) (valueAt (s .values)) (periodAt (s .values)) (at (s .deadlines)) (at (s .turns))
 
 abbrev pub slices : QueueWords → Slices
 slices s = record { values = s .values; deadlines = s .deadlines; links = s .wheel .stack .links; turns = s .turns }
@@ -86,6 +86,6 @@ Sound s = SoundBut nobody s
 -- "Words of a slice past what N records need are never changed by any call": those, and all lengths
 pub record PastKept (n : ℕ) (s s′ : QueueWords) : Type 0 where
   pub links : LinksKept n (s .wheel .stack .links) (s′ .wheel .stack .links)
-  pub values : Kept n (s .values) (s′ .values)
+  pub values : Kept (2 * n) (s .values) (s′ .values)
   pub deadlines : Kept n (s .deadlines) (s′ .deadlines)
   pub turns : Kept n (s .turns) (s′ .turns)

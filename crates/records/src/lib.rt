@@ -1,12 +1,12 @@
 // Records in lent slices: their keys and turns, where a deadline may lie, and how one joins the wheel or leaves the store.
 ghost use mathlib.Core.Path.{_≡_};
-ghost use Prim.Native.Nat.{_^_, _≤_, _<_};
+ghost use Prim.Native.Nat.{_+_, _^_, _≤_, _<_};
 ghost use lib.ListN.{length};
 ghost use Rattle.contracts.specs.Lent.{old, new};
 ghost use Rattle.wheel.specs.Words.{lent, before, after};
 ghost use Rattle.records.specs.Records.{packed, turnIn, numberIn};
 ghost use Rattle.records.specs.Inner.{PlacesTo, CanPlace, LeavesTo, CanFree};
-ghost use Rattle.records.specs.Found.{DeadlineNo, FindIs};
+ghost use Rattle.records.specs.Found.{DeadlineNo, AgainIs, FindIs};
 
 // The last turn: a record that leaves at it is retired.
 pub const LAST_TURN: u64 = (1 << 48) - 1;
@@ -18,6 +18,12 @@ pub const LIMIT: u16 = 65535;
 pub enum Found {
     At(u16),
     Nowhere,
+}
+
+// When a repeating timer is set again.
+pub enum Again {
+    At(u64),
+    Never,
 }
 
 // 4 or 5 for a deadline that is refused, 0 for one that is taken.
@@ -34,6 +40,21 @@ pub fn deadline_no(elapsed: u64, when: u64) -> u64
         return 0;
     }
     5
+}
+
+// When a timer is due again, a period after the deadline that it was handed out at.
+pub fn next_time(elapsed: u64, deadline: u64, period: u64) -> Again
+    ensures { λ r. ⌜ AgainIs elapsed (deadline + period) r ⌝ }
+{
+    if u64::MAX - deadline < period {
+        return Again::Never;
+    }
+    let when = deadline + period;
+    let no = deadline_no(elapsed, when);
+    if no != 0 {
+        return Again::Never;
+    }
+    Again::At(when)
 }
 
 // The loose record `item` is placed: on the expired stack if its deadline is not over elapsed, else in its slot.

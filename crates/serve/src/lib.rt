@@ -314,6 +314,12 @@ fn serve(
 }
 
 // The contracts give the lengths alone, so that no proof meets the zeros.
+fn pairs() -> [u64; 2048]
+    ensures { λ r. ⌜ length r ≡ 2048 ⌝ }
+{
+    [0; 2048]
+}
+
 fn words() -> [u64; 1024]
     ensures { λ r. ⌜ length r ≡ 1024 ⌝ }
 {
@@ -346,9 +352,9 @@ pub fn replay_lists() {
     with_room(true);
 }
 
-// Room for 1,024 records.
+// Room for 1,024 records, with two words of values each.
 fn with_room(lists: bool) {
-    let mut values = words();
+    let mut values = pairs();
     let mut deadlines = words();
     let mut nexts = numbers();
     let mut prevs = numbers();

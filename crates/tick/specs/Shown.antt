@@ -13,4 +13,4 @@ round = reads 0 ∷ polls 4294967295 ∷ calls C.Clear ∷ polls 0 ∷ reads 5 �
 
 -- a timer past 2^32, a poll on either side of that, a clear, and a poll after it
 abbrev pub day : List Deed
-day = calls (C.Insert 7 4294967300) ∷ polls 4294967295 ∷ polls 4 ∷ calls C.Clear ∷ polls 3 ∷ []
+day = calls (C.Insert 7 4294967300 0) ∷ polls 4294967295 ∷ polls 4 ∷ calls C.Clear ∷ polls 3 ∷ []

@@ -64,7 +64,7 @@ pub fn poll(
     state: Wheel,
     heads: [[u16; 64]; 6],
     values: &[u64],
-    deadlines: &[u64],
+    deadlines: &mut [u64],
     nexts: &mut [u16],
     prevs: &mut [u16],
     turns: &mut [u64],

@@ -226,7 +226,8 @@ impl Taker for Compared {
         self.lines += 1;
         self.commands.push(command);
         let answer = self.bench.command(command);
-        self.tally.count(command, answer);
+        let again = matches!(answer, Answer::Out { key, .. } if self.bench.store().is_some_and(|store| store.holds(key)));
+        self.tally.count(command, answer, again);
         self.waiting.push(call(command));
         self.expected.push(answer);
         if alone || self.how != How::Inner || self.waiting.len() == self.at_once {
@@ -251,14 +252,18 @@ impl Drop for Compared {
 /// A command in the words of crates/harness.
 fn call(command: Command) -> ours::Call {
     match command {
-        Command::Format { records, turn } => [ours::FORMAT, records, turn],
-        Command::Insert { value, when } => [1, value, when],
-        Command::Reset { key, when } => [2, key, when],
-        Command::Remove { key } => [3, key, 0],
-        Command::Poll { now } => [4, 0, now],
-        Command::Wake => [5, 0, 0],
-        Command::Length => [6, 0, 0],
-        Command::Clear => [7, 0, 0],
+        Command::Format { records, turn } => [ours::FORMAT, records, turn, 0],
+        Command::Insert {
+            value,
+            when,
+            period,
+        } => [1, value, when, period],
+        Command::Reset { key, when } => [2, key, when, 0],
+        Command::Remove { key } => [3, key, 0, 0],
+        Command::Poll { now } => [4, 0, now, 0],
+        Command::Wake => [5, 0, 0, 0],
+        Command::Length => [6, 0, 0, 0],
+        Command::Clear => [7, 0, 0, 0],
     }
 }
 
@@ -274,12 +279,13 @@ fn words(answer: Answer) -> ours::Answer {
             deadline,
             moves,
             drains,
-        } => [3, key, value, deadline, moves, drains],
-        Answer::Nothing { moves, drains } => [4, moves, drains, 0, 0, 0],
-        Answer::Wake(Some(time)) => [5, time, 0, 0, 0, 0],
-        Answer::Wake(None) => [6, 0, 0, 0, 0, 0],
-        Answer::Length(length) => [7, length, 0, 0, 0, 0],
-        Answer::No(number) => [8, number.into(), 0, 0, 0, 0],
+            last,
+        } => [3 + u64::from(last), key, value, deadline, moves, drains],
+        Answer::Nothing { moves, drains } => [5, moves, drains, 0, 0, 0],
+        Answer::Wake(Some(time)) => [6, time, 0, 0, 0, 0],
+        Answer::Wake(None) => [7, 0, 0, 0, 0, 0],
+        Answer::Length(length) => [8, length, 0, 0, 0, 0],
+        Answer::No(number) => [9, number.into(), 0, 0, 0, 0],
         Answer::Bad => unreachable!("a command is no malformed line"),
     }
 }
@@ -287,7 +293,7 @@ fn words(answer: Answer) -> ours::Answer {
 /// Our words with the name of their kind, all of them, for a part that should be 0 may not be.
 fn show(words: &ours::Answer) -> String {
     let names = [
-        "ok", "key", "gone", "out", "none", "wake", "wake -", "len", "no",
+        "ok", "key", "gone", "out", "out last", "none", "wake", "wake -", "len", "no",
     ];
     let name = names.get(words[0] as usize).unwrap_or(&"no answer");
     format!("{name}, in words {words:?}")

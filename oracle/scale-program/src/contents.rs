@@ -16,7 +16,7 @@ pub struct Contents {
 }
 
 impl Contents {
-    /// Elapsed, the size, and every pending timer: its place, its turn there, key, value, deadline.
+    /// Elapsed, the size, and every pending timer: its place, its turn there, key, value, period, deadline.
     /// Answers how many timers there are, or what is expected and what is there.
     pub fn compare(&mut self, store: &Store, ours: &ours::Store) -> Result<u64, [String; 2]> {
         store.entries(&mut self.original);
@@ -36,11 +36,15 @@ impl Contents {
     }
 }
 
-/// All turns, and the free list, the next to be taken first.
+/// All turns, values and periods, also of records that have left, and the free list, the next to be taken first.
 pub fn compare_rest(store: &Store, ours: &ours::Store) -> Result<(), [String; 2]> {
     let turns: Vec<u64> = (0..store.size()).map(|record| store.turn(record)).collect();
     if turns != ours.turns[..store.size()] {
         return Err([turns, ours.turns.clone()].map(|turns| format!("turns {turns:?}")));
+    }
+    let values: Vec<u64> = store.values().flatten().collect();
+    if values != ours.values[..2 * store.size()] {
+        return Err([values, ours.values.clone()].map(|values| format!("values and periods {values:?}")));
     }
     let expected: Vec<u64> = store.free().map(|record| record as u64).collect();
     let mut free = vec![];
@@ -75,7 +79,7 @@ fn read(ours: &ours::Store, into: &mut Vec<Entry>) -> Result<(), String> {
 }
 
 fn walk(ours: &ours::Store, place: usize, head: u64, into: &mut Vec<Entry>) -> Result<(), String> {
-    let most = ours.values.len().min(ours.state[7] as usize);
+    let most = ours.deadlines.len().min(ours.state[7] as usize);
     // The head's back link is the tail.
     let tail = ours.prevs.get(head as usize).map_or(NOBODY, |&tail| tail.into());
     let (mut before, mut at) = (tail, head);
@@ -94,7 +98,8 @@ fn walk(ours: &ours::Store, place: usize, head: u64, into: &mut Vec<Entry>) -> R
             place,
             record,
             turn: ours.turns[record],
-            value: ours.values[record],
+            value: ours.values[2 * record],
+            period: ours.values[2 * record + 1],
             deadline: ours.deadlines[record],
         });
         (before, at) = (at, ours.nexts[record].into());
@@ -105,7 +110,7 @@ fn walk(ours: &ours::Store, place: usize, head: u64, into: &mut Vec<Entry>) -> R
     Ok(())
 }
 
-/// Size and elapsed, and each timer as LEVEL.SLOT:RECORD/TURN=VALUE@DEADLINE, x for the expired stack.
+/// Size and elapsed, and each timer as LEVEL.SLOT:RECORD/TURN=VALUE@DEADLINE+PERIOD, x for the expired stack.
 fn show(size: u64, elapsed: u64, entries: &[Entry]) -> String {
     let mut text = format!("n={size} e={elapsed}");
     for entry in entries {
@@ -115,8 +120,8 @@ fn show(size: u64, elapsed: u64, entries: &[Entry]) -> String {
         };
         write!(
             text,
-            " {place}:{}/{}={}@{}",
-            entry.record, entry.turn, entry.value, entry.deadline
+            " {place}:{}/{}={}@{}+{}",
+            entry.record, entry.turn, entry.value, entry.deadline, entry.period
         )
         .expect("memory");
     }

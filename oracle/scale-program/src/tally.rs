@@ -7,9 +7,9 @@ use std::ops::AddAssign;
 const COMMANDS: [&str; 8] = [
     "format", "insert", "reset", "remove", "poll", "wake", "length", "clear",
 ];
-const ANSWERS: [&str; 16] = [
-    "ok", "key", "gone", "out", "none", "wake", "wake -", "len", "no 1", "no 2", "no 3", "no 4",
-    "no 5", "no 6", "no 7", "no 8",
+const ANSWERS: [&str; 17] = [
+    "ok", "key", "gone", "out", "out last", "none", "wake", "wake -", "len", "no 1", "no 2",
+    "no 3", "no 4", "no 5", "no 6", "no 7", "no 8",
 ];
 const DRAINS: usize = 6;
 /// So many sizes are shown.
@@ -25,6 +25,9 @@ pub struct Tally {
     polls_by_drains: [u64; DRAINS],
     moves: u64,
     drains: u64,
+    /// Accepted inserts with a period, and how often such a timer was placed again.
+    repeating: u64,
+    again: u64,
     /// How often stores of each size were made.
     sizes: BTreeMap<u64, u64>,
     /// How often the lists were compared, and the timers that were then in them.
@@ -33,7 +36,8 @@ pub struct Tally {
 }
 
 impl Tally {
-    pub fn count(&mut self, command: Command, answer: Answer) {
+    /// `again`: the timer that came out was placed again.
+    pub fn count(&mut self, command: Command, answer: Answer, again: bool) {
         self.commands[match command {
             Command::Format { .. } => 0,
             Command::Insert { .. } => 1,
@@ -48,18 +52,22 @@ impl Tally {
             Answer::Ok => 0,
             Answer::Key(_) => 1,
             Answer::Gone { .. } => 2,
-            Answer::Out { .. } => 3,
-            Answer::Nothing { .. } => 4,
-            Answer::Wake(Some(_)) => 5,
-            Answer::Wake(None) => 6,
-            Answer::Length(_) => 7,
-            Answer::No(number) => 7 + usize::from(number),
+            Answer::Out { last, .. } => 3 + usize::from(last),
+            Answer::Nothing { .. } => 5,
+            Answer::Wake(Some(_)) => 6,
+            Answer::Wake(None) => 7,
+            Answer::Length(_) => 8,
+            Answer::No(number) => 8 + usize::from(number),
             Answer::Bad => unreachable!("a command is no malformed line"),
         }] += 1;
         if let Answer::Out { moves, drains, .. } | Answer::Nothing { moves, drains } = answer {
             self.moves += moves;
             self.drains += drains;
             self.polls_by_drains[drains as usize] += 1;
+        }
+        self.again += u64::from(again);
+        if let (Command::Insert { period: 1.., .. }, Answer::Key(_)) = (command, answer) {
+            self.repeating += 1;
         }
         if let (Command::Format { records, .. }, Answer::Ok) = (command, answer) {
             *self.sizes.entry(records).or_default() += 1;
@@ -86,6 +94,8 @@ impl AddAssign<&Tally> for Tally {
         self.scripts += other.scripts;
         self.moves += other.moves;
         self.drains += other.drains;
+        self.repeating += other.repeating;
+        self.again += other.again;
         self.lists += other.lists;
         self.timers += other.timers;
         add(&mut self.commands, &other.commands);
@@ -120,6 +130,11 @@ impl fmt::Display for Tally {
             self.moves,
             self.drains,
             named(&by_drains, &self.polls_by_drains)
+        )?;
+        writeln!(
+            f,
+            "  repeating timers: {}, placed again {} times",
+            self.repeating, self.again
         )?;
         writeln!(f, "  sizes of stores: {} different ones, the largest {}", self.sizes.len(), self.largest())?;
         write!(

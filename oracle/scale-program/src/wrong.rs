@@ -1,9 +1,9 @@
 //! One word of ours made wrong, to see that the comparison finds it.
 use crate::ours::{Answer, Store};
 
-/// The six words of an answer, the ten of the state, a head, and six of a record.
-pub const WORDS: usize = 23;
-const NAMES: [&str; 7] = ["head", "value", "deadline", "next", "prev", "turn", "mark"];
+/// The six words of an answer, the ten of the state, a head, and seven of a record.
+pub const WORDS: usize = 24;
+const NAMES: [&str; 8] = ["head", "value", "period", "deadline", "next", "prev", "turn", "mark"];
 /// Not before so many commands.
 const FROM: usize = 300;
 
@@ -39,11 +39,12 @@ impl Wrong {
             word @ 0..6 => answers[answers.len() / 2][word] ^= 1,
             word @ 6..16 => store.state[word - 6] ^= 1,
             16 => store.heads[level][slot] ^= 1,
-            17 => store.values[record] ^= 1,
-            18 => store.deadlines[record] ^= 1,
-            19 => store.nexts[record] ^= 1,
-            20 => store.prevs[record] ^= 1,
-            21 => store.turns[record] ^= 1,
+            17 => store.values[2 * record] ^= 1,
+            18 => store.values[2 * record + 1] ^= 1,
+            19 => store.deadlines[record] ^= 1,
+            20 => store.nexts[record] ^= 1,
+            21 => store.prevs[record] ^= 1,
+            22 => store.turns[record] ^= 1,
             _ => store.marks[record] ^= 1,
         }
     }

@@ -1,6 +1,6 @@
 //! What must hold of the original's answers and lists. A check that fails is a panic.
-use super::model::EXPIRED;
-use super::{Place, Store};
+use super::model::{Polled, EXPIRED};
+use super::{Place, Record, Store};
 use crate::rules::{block, level, slot, LAST_TURN, SLOTS, WIDTHS};
 use std::collections::BTreeSet;
 
@@ -23,8 +23,12 @@ impl Store {
     /// Makes the same poll by the rules. The record that came out has not yet left.
     pub fn check_poll(&mut self, before: &Before, out: Option<usize>) {
         let (moves, drains) = self.counted();
-        let model = self.model.as_mut().map(|model| model.poll(before.now));
-        assert_eq!(Some((out, moves, drains)), model, "a poll by the rules");
+        let polled = self.model.as_mut().map(|model| model.poll(before.now));
+        assert_eq!(
+            polled,
+            Some(Polled { out, moves, drains }),
+            "a poll by the rules"
+        );
         assert_eq!(
             (moves, drains),
             self.counts_by_heights(before, out),
@@ -35,6 +39,21 @@ impl Store {
         self.check_clock(before, out);
         self.check_least(before, out);
         self.check_first(before, out);
+    }
+
+    /// What became of the record that a poll handed out, and whether its answer says rightly that this was
+    /// the last time.
+    pub(super) fn check_again(&mut self, record: usize, handed: &Record, last: bool) {
+        let again = self.model.as_mut().map(|model| model.again(record));
+        assert_eq!(again, Some(self.is_pending(record)), "placed again by the rules");
+        assert_eq!(last, handed.period > 0 && again == Some(false), "the last time");
+        let now = &self.records[record];
+        assert_eq!((now.value, now.period), (handed.value, handed.period));
+        if self.is_pending(record) {
+            assert_eq!(now.place, Place::Wheel, "never on the expired stack");
+            assert_eq!(now.deadline, handed.deadline + handed.period);
+            assert_eq!(now.turn, handed.turn, "the key stays");
+        }
     }
 
     /// Moves and drains as the original made them. A pop that hands out may empty its slot of level
@@ -94,7 +113,8 @@ impl Store {
     }
 
     /// "Among equal deadlines on the wheel the one placed first comes out first, a reset counting as a
-    /// new placing; expired ones still precede the wheel" (02 [6]), and among them too.
+    /// new placing; expired ones still precede the wheel" (02 [6]), and among them too. A timer that repeats
+    /// is placed anew each time.
     fn check_first(&self, before: &Before, out: Option<usize>) {
         let Some(out) = out else {
             return;
@@ -123,6 +143,8 @@ impl Store {
         let pending = (0..self.size()).filter(|&record| self.is_pending(record));
         assert!(pending.eq(self.pending.iter().copied()));
         assert_eq!(self.original.len(), self.pending.len());
+        let periods = self.records.iter().map(|record| &record.period);
+        assert!(periods.eq(&model.periods), "periods by the rules");
     }
 
     /// Every record is in exactly one place, and the marks tell which.
@@ -157,8 +179,8 @@ impl Store {
                 assert_eq!(bit == 1, !list.is_empty(), "occupied bit");
             }
             for &record in list {
-                let deadline = watched.deadline(self.records[record].number);
-                assert_eq!(deadline, self.records[record].deadline);
+                let (value, deadline) = watched.held(self.records[record].number);
+                self.check_held(record, value, deadline);
                 assert!(deadline >= elapsed && block(deadline) == block(elapsed));
                 if place == EXPIRED {
                     assert_eq!(deadline, elapsed, "expired");

@@ -1,6 +1,6 @@
 //! The steps of the wheel in the words of the rules, over plain lists: a second reading that the
 //! original's lists and answers are held against.
-use crate::rules::{level, slot, SLOTS, WIDTHS};
+use crate::rules::{level, slot, FARTHEST, SLOTS, WIDTHS};
 use std::collections::VecDeque;
 
 /// The place of the expired stack, after the slots; slot s of level k is 64 k + s.
@@ -12,6 +12,16 @@ pub struct Model {
     /// heads still leave first, on slots and expired stack alike" (02 [6]).
     pub lists: Vec<VecDeque<usize>>,
     deadlines: Vec<u64>,
+    /// 0 for none; kept when a record leaves.
+    pub periods: Vec<u64>,
+}
+
+/// What a poll did.
+#[derive(PartialEq, Eq, Debug)]
+pub struct Polled {
+    pub out: Option<usize>,
+    pub moves: u64,
+    pub drains: u64,
 }
 
 /// The first slot to look at: its level, its place, its start.
@@ -27,10 +37,26 @@ impl Model {
             elapsed: 0,
             lists: vec![VecDeque::new(); EXPIRED + 1],
             deadlines: vec![0; records],
+            periods: vec![0; records],
         }
     }
 
-    pub fn insert(&mut self, record: usize, when: u64) {
+    pub fn insert(&mut self, record: usize, when: u64, period: u64) {
+        self.periods[record] = period;
+        self.place(record, when);
+    }
+
+    pub fn reset(&mut self, record: usize, when: u64) {
+        self.remove(record);
+        self.place(record, when);
+    }
+
+    pub fn clear(&mut self) {
+        self.elapsed = 0;
+        self.lists.iter_mut().for_each(VecDeque::clear);
+    }
+
+    fn place(&mut self, record: usize, when: u64) {
         let deadline = when.max(self.elapsed);
         self.deadlines[record] = deadline;
         let place = if deadline == self.elapsed {
@@ -48,24 +74,36 @@ impl Model {
         }
     }
 
-    /// Answers the record handed out, moves and drains.
-    pub fn poll(&mut self, now: u64) -> (Option<usize>, u64, u64) {
-        if let Some(record) = self.lists[EXPIRED].pop_front() {
-            return (Some(record), 0, 0);
-        }
+    /// A repeating timer that is handed out has yet to be placed again.
+    pub fn poll(&mut self, now: u64) -> Polled {
         let (mut moves, mut drains) = (0, 0);
-        loop {
+        let mut out = self.lists[EXPIRED].pop_front();
+        while out.is_none() {
             let Some(first) = self.first().filter(|first| first.start <= now) else {
                 self.elapsed = now;
-                return (None, moves, drains);
+                break;
             };
             if first.level == 0 {
-                return (self.lists[first.place].pop_front(), moves, drains);
+                out = self.lists[first.place].pop_front();
+            } else {
+                moves += self.drain(&first);
+                drains += 1;
+                self.elapsed = first.start;
             }
-            moves += self.drain(&first);
-            drains += 1;
-            self.elapsed = first.start;
         }
+        Polled { out, moves, drains }
+    }
+
+    /// "The same poll places it at w plus period under the same key" (02 [7]). Answers whether it does. What
+    /// bars it comes to one thing: the new deadline lies behind the last millisecond of elapsed's block.
+    pub fn again(&mut self, record: usize) -> bool {
+        let next = u128::from(self.deadlines[record]) + u128::from(self.periods[record]);
+        let block_end = self.elapsed | FARTHEST;
+        let again = self.periods[record] > 0 && next <= u128::from(block_end);
+        if again {
+            self.place(record, next as u64);
+        }
+        again
     }
 
     /// At once if a timer has expired, else at the start of the first slot.

@@ -82,45 +82,51 @@ one-more ns i h k p q z b = push _ _ 32 with-space (join p q) z b
     with-space : (t : List ℕ) → Joined (Later ns i) (λ d. Decimal d n) t → Later ns (i - 1) (32 ∷ t)
     with-space t w = subst (λ l. Spaced (32 ∷ t) l) (sym this) (w .0, w .1, ap (λ (l : List ℕ). 32 ∷ l) (w .2), w .3, w .4)
 
--- ---- a line, at the end of a buffer of 112 bytes whose last one is a newline
+-- ---- a line, at the end of a buffer of 117 bytes whose last one is a newline
 
-pub record Made (w ns : List ℕ) (s : ℕ) (b : List ℕ) : Type 0 where
-  pub long : length b ≡ 112
-  pub written : Written w ns (drop s b)
+pub record Made (w ns z : List ℕ) (s : ℕ) (b : List ℕ) : Type 0 where
+  pub long : length b ≡ 117
+  pub written : Written w ns z (drop s b)
 
--- the numbers, and the word in front of them
-pub made : (w ns : List ℕ) {b b₁ b₂ : List ℕ} {e : ℕ} → (length b ≡ 112) × (drop 111 b ≡ 10 ∷ [])
-    → Before (λ t. Spaced t ns) b 111 e b₁ → length b₁ ≡ length b → length w ≤ e
-    → b₂ ≡ put b₁ (e - length w) w → length b₂ ≡ length b₁ → Made w ns (e - length w) b₂
-made w ns {b} {b₁} {b₂} {e} n p k h q l =
-    let s : ℕ = e - length w in
-    let m : s + length w ≡ e = omega arith in
+-- what stands from s on where w was copied to there
+copied : (w b : List ℕ) {b′ : List ℕ} (s e : ℕ) → s ≤ length b → s + length w ≡ e → b′ ≡ put b s w → drop s b′ ≡ w ++ drop e b
+copied w b {b′} s e h m q =
+    ap (drop s) q
+    ∙ drop-at (take s b) (w ++ drop (s + length w) b) s (length-take-le s b h)
+    ∙ ap (λ i. w ++ drop i b) m
+
+-- the ending, the numbers in front of it, and the word in front of them
+pub made : (w ns z b : List ℕ) {b₀ b₁ b₂ : List ℕ} {e : ℕ} → (length b ≡ 117) × (drop 116 b ≡ 10 ∷ []) → length z ≤ 5
+    → b₀ ≡ put b (116 - length z) z → length b₀ ≡ length b
+    → Before (λ t. Spaced t ns) b₀ (116 - length z) e b₁ → length b₁ ≡ length b₀ → length w ≤ e
+    → b₂ ≡ put b₁ (e - length w) w → length b₂ ≡ length b₁ → Made w ns z (e - length w) b₂
+made w ns z b {b₀} {b₁} {b₂} {e} n f c u p k h q l =
+    let a : ℕ = 116 - length z in
+    let stop : drop a b₀ ≡ z ++ 10 ∷ [] = copied z b a 116 (omega arith) (omega arith) c ∙ ap (λ (t : List ℕ). z ++ t) (n .1) in
     record {
       long = omega arith;
       written = record {
         rest = p .text;
         fields = p .is;
         line =
-            ap (drop s) q
-            ∙ drop-at (take s b₁) (w ++ drop (s + length w) b₁) s (length-take-le s b₁ (omega arith))
-            ∙ ap (λ i. w ++ drop i b₁) m
-            ∙ ap (λ (t : List ℕ). w ++ t) (p .from ∙ ap (λ (t : List ℕ). p .text ++ t) (n .1));
+            copied w b₁ (e - length w) e (omega (arith, p .start)) (omega arith) q
+            ∙ ap (λ (t : List ℕ). w ++ t) (p .from ∙ ap (λ (t : List ℕ). p .text ++ t) stop);
       };
     }
 
-module _ {w ns b : List ℕ} {s : ℕ} (m : Made w ns s b) where
-  size : length (drop s b) ≡ 112 - s
+module _ {w ns z b : List ℕ} {s : ℕ} (m : Made w ns z s b) where
+  size : length (drop s b) ≡ 117 - s
   size = length-drop s b ∙ ap (λ n. n - s) (m .long)
 
-  pub no-room : {o : List ℕ} {at : ℕ} → length o < at + (112 - s) → PutClaim w ns o at at o
+  pub no-room : {o : List ℕ} {at : ℕ} → length o < at + (117 - s) → PutClaim w ns z o at at o
   no-room h = record { line = drop s b; written = m .written; room = λ k. absurd (omega (arith, size)); full = λ k. (refl, refl) }
 
-  pub placed : {o o′ : List ℕ} {at : ℕ} → at + (112 - s) ≤ length o → o′ ≡ put o at (take (112 - s) (drop s b))
-      → PutClaim w ns o at (at + (112 - s)) o′
+  pub placed : {o o′ : List ℕ} {at : ℕ} → at + (117 - s) ≤ length o → o′ ≡ put o at (take (117 - s) (drop s b))
+      → PutClaim w ns z o at (at + (117 - s)) o′
   placed {o} {o′} {at} h e =
       record {
         line = drop s b;
         written = m .written;
-        room = λ k. (ap (λ (n : ℕ). at + n) (sym size), e ∙ ap (put o at) (take-all (112 - s) (drop s b) (omega (arith, size))));
+        room = λ k. (ap (λ (n : ℕ). at + n) (sym size), e ∙ ap (put o at) (take-all (117 - s) (drop s b) (omega (arith, size))));
         full = λ k. absurd (omega (arith, size));
       }

@@ -1,4 +1,4 @@
--- `write_answer` keeps the claim on writing: in each arm the answer is known, and so are its word and its numbers, of which `write_line` writes the line.
+-- `write_answer` keeps the claim on writing: in each arm the answer is known, and so are its word, its numbers and its ending, of which a line is written.
 use borrow.Author.Needs.{needs}
 use Rattle.answering.proofs.write_answer.Statement.{statement}
 use Rattle.answering.proofs.write_answer.Tie as tie
@@ -26,25 +26,30 @@ to-a3 c =
 abbrev to-a4 : tie.After-slice-known6 → tie.After-a4
 to-a4 c =
     let a = c .before .before .before .before in
-    a .before .before .before
+    a .before .before .before .before
 
 abbrev to-a5 : tie.After-slice-known7 → tie.After-a5
 to-a5 c =
     let a = c .before .before .before .before in
     a .before .before .before
 
-abbrev to-enum-told2 : tie.After-slice-known8 → tie.After-enum-told2
-to-enum-told2 c =
-    let a = c .before .before .before .before in
-    a .before .before
-
-abbrev to-a6 : tie.After-slice-known9 → tie.After-a6
+abbrev to-a6 : tie.After-slice-known8 → tie.After-a6
 to-a6 c =
     let a = c .before .before .before .before in
     a .before .before .before
 
+abbrev to-enum-told2 : tie.After-slice-known9 → tie.After-enum-told2
+to-enum-told2 c =
+    let a = c .before .before .before .before in
+    a .before .before
+
 abbrev to-a7 : tie.After-slice-known10 → tie.After-a7
 to-a7 c =
+    let a = c .before .before .before .before in
+    a .before .before .before
+
+abbrev to-a8 : tie.After-slice-known11 → tie.After-a8
+to-a8 c =
     let a = c .before .before .before .before in
     a .before .before .before
 
@@ -99,6 +104,21 @@ write-line-requires-4 c κs = search needs
 enum-known-a-4 : tie.Need-enum-known-a-4
 enum-known-a-4 c = search needs
 
+slice-aggregate-write-ended : tie.Need-slice-aggregate-write-ended
+slice-aggregate-write-ended c = search needs
+
+slice-aggregate-write-ended-2 : tie.Need-slice-aggregate-write-ended-2
+slice-aggregate-write-ended-2 c = search needs
+
+slice-aggregate-write-ended-3 : tie.Need-slice-aggregate-write-ended-3
+slice-aggregate-write-ended-3 c = search needs
+
+write-ended-requires : tie.Need-write-ended-requires
+write-ended-requires c κs = search needs
+
+enum-known-a-5 : tie.Need-enum-known-a-5
+enum-known-a-5 c = search needs
+
 slice-aggregate-write-line-9 : tie.Need-slice-aggregate-write-line-9
 slice-aggregate-write-line-9 c = search needs
 
@@ -108,8 +128,8 @@ slice-aggregate-write-line-10 c = search needs
 write-line-requires-5 : tie.Need-write-line-requires-5
 write-line-requires-5 c κs = search needs
 
-enum-known-a-5 : tie.Need-enum-known-a-5
-enum-known-a-5 c = search needs
+enum-known-a-6 : tie.Need-enum-known-a-6
+enum-known-a-6 c = search needs
 
 slice-aggregate-write-line-11 : tie.Need-slice-aggregate-write-line-11
 slice-aggregate-write-line-11 c = search needs
@@ -132,8 +152,8 @@ slice-aggregate-write-line-14 c = search needs
 write-line-requires-7 : tie.Need-write-line-requires-7
 write-line-requires-7 c κs = search needs
 
-enum-known-a-6 : tie.Need-enum-known-a-6
-enum-known-a-6 c = search needs
+enum-known-a-7 : tie.Need-enum-known-a-7
+enum-known-a-7 c = search needs
 
 slice-aggregate-write-line-15 : tie.Need-slice-aggregate-write-line-15
 slice-aggregate-write-line-15 c = search needs
@@ -144,8 +164,8 @@ slice-aggregate-write-line-16 c = search needs
 write-line-requires-8 : tie.Need-write-line-requires-8
 write-line-requires-8 c κs = search needs
 
-enum-known-a-7 : tie.Need-enum-known-a-7
-enum-known-a-7 c = search needs
+enum-known-a-8 : tie.Need-enum-known-a-8
+enum-known-a-8 c = search needs
 
 slice-aggregate-write-line-17 : tie.Need-slice-aggregate-write-line-17
 slice-aggregate-write-line-17 c = search needs
@@ -184,31 +204,37 @@ same-length-5 : tie.Need-same-length-5
 same-length-5 c = search needs
 
 returns-5 : tie.Need-returns-5
-returns-5 c = rw (to-a4 c .a4 .given .1) (c .before .before .write-line5 .ensures)
+returns-5 c = rw (to-a4 c .a4 .given .1) (c .before .before .write-ended .ensures)
 
 same-length-6 : tie.Need-same-length-6
 same-length-6 c = search needs
 
 returns-6 : tie.Need-returns-6
-returns-6 c = rw (to-a5 c .a5 .given .1) (c .before .before .write-line6 .ensures)
+returns-6 c = rw (to-a5 c .a5 .given .1) (c .before .before .write-line5 .ensures)
 
 same-length-7 : tie.Need-same-length-7
 same-length-7 c = search needs
 
 returns-7 : tie.Need-returns-7
-returns-7 c = rw (to-enum-told2 c .enum-told2 .given .1) (c .before .before .write-line7 .ensures)
+returns-7 c = rw (to-a6 c .a6 .given .1) (c .before .before .write-line6 .ensures)
 
 same-length-8 : tie.Need-same-length-8
 same-length-8 c = search needs
 
 returns-8 : tie.Need-returns-8
-returns-8 c = rw (to-a6 c .a6 .given .1) (c .before .before .write-line8 .ensures)
+returns-8 c = rw (to-enum-told2 c .enum-told2 .given .1) (c .before .before .write-line7 .ensures)
 
 same-length-9 : tie.Need-same-length-9
 same-length-9 c = search needs
 
 returns-9 : tie.Need-returns-9
-returns-9 c = rw (to-a7 c .a7 .given .1) (c .before .before .write-line9 .ensures)
+returns-9 c = rw (to-a7 c .a7 .given .1) (c .before .before .write-line8 .ensures)
+
+same-length-10 : tie.Need-same-length-10
+same-length-10 c = search needs
+
+returns-10 : tie.Need-returns-10
+returns-10 c = rw (to-a8 c .a8 .given .1) (c .before .before .write-line9 .ensures)
 
 pub write-answer-spec : {M : Type 1} → statement M
 write-answer-spec =
@@ -231,10 +257,15 @@ write-answer-spec =
     slice-aggregate-write-line-8
     write-line-requires-4
     enum-known-a-4
+    slice-aggregate-write-ended
+    slice-aggregate-write-ended-2
+    slice-aggregate-write-ended-3
+    write-ended-requires
+    enum-known-a-5
     slice-aggregate-write-line-9
     slice-aggregate-write-line-10
     write-line-requires-5
-    enum-known-a-5
+    enum-known-a-6
     slice-aggregate-write-line-11
     slice-aggregate-write-line-12
     write-line-requires-6
@@ -242,11 +273,11 @@ write-answer-spec =
     slice-aggregate-write-line-13
     slice-aggregate-write-line-14
     write-line-requires-7
-    enum-known-a-6
+    enum-known-a-7
     slice-aggregate-write-line-15
     slice-aggregate-write-line-16
     write-line-requires-8
-    enum-known-a-7
+    enum-known-a-8
     slice-aggregate-write-line-17
     slice-aggregate-write-line-18
     write-line-requires-9
@@ -267,4 +298,6 @@ write-answer-spec =
     same-length-8
     returns-8
     same-length-9
-    returns-9)
+    returns-9
+    same-length-10
+    returns-10)

@@ -47,10 +47,11 @@ to-call4 c =
     let a = c .before .before .before .before in
     a .before .before .before .before
 
-abbrev to-poll : tie.After-slice-known29 → tie.After-poll
+abbrev to-poll : tie.After-slice-known30 → tie.After-poll
 to-poll c =
     let a = c .before .before .before .before in
-    a .before .before .before .before
+    let b = a .before .before .before .before in
+    b .before .before
 
 abbrev to-call5 : tie.After-poll → tie.After-call5
 to-call5 c =
@@ -67,7 +68,7 @@ to-enum-told2 c =
     let a = c .before .before .before .before in
     a .before .before .before .before
 
-abbrev to-clear : tie.After-slice-known33 → tie.After-clear
+abbrev to-clear : tie.After-slice-known34 → tie.After-clear
 to-clear c =
     let a = c .before .before .before .before in
     a .before .before .before .before

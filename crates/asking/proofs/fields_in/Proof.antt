@@ -14,23 +14,23 @@ shared-slice-read-if2 c = search needs
 returns-2 : tie.Need-returns-2
 returns-2 c = no-space _ (omega arith) (c .if2 .taken)
 
-sub-one-or-two : tie.Need-sub-one-or-two
-sub-one-or-two c = search needs
+sub-one-to-three : tie.Need-sub-one-to-three
+sub-one-to-three c = search needs
 
-part-one-or-two-start : tie.Need-part-one-or-two-start
-part-one-or-two-start c = search needs
+part-one-to-three-start : tie.Need-part-one-to-three-start
+part-one-to-three-start c = search needs
 
-part-one-or-two-end : tie.Need-part-one-or-two-end
-part-one-or-two-end c = search needs
+part-one-to-three-end : tie.Need-part-one-to-three-end
+part-one-to-three-end c = search needs
 
-one-or-two-requires : tie.Need-one-or-two-requires
-one-or-two-requires c κs = search needs
+one-to-three-requires : tie.Need-one-to-three-requires
+one-to-three-requires c κs = search needs
 
 returns-3 : tie.Need-returns-3
 returns-3 c =
     let i = c .before .before in
-    a-space (i .before .before .before .before .args .s .now) (c .one-or-two .result) (omega (arith, i .before .before .if1 .left)) (i .if2 .left)
-    (c .one-or-two .ensures)
+    a-space (i .before .before .before .before .args .s .now) (c .one-to-three .result) (omega (arith, i .before .before .if1 .left)) (i .if2 .left)
+    (c .one-to-three .ensures)
 
 pub fields-in-spec : {M : Type 1} → statement M
 fields-in-spec =
@@ -39,8 +39,8 @@ fields-in-spec =
     returns
     shared-slice-read-if2
     returns-2
-    sub-one-or-two
-    part-one-or-two-start
-    part-one-or-two-end
-    one-or-two-requires
+    sub-one-to-three
+    part-one-to-three-start
+    part-one-to-three-end
+    one-to-three-requires
     returns-3)

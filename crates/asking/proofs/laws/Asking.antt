@@ -23,7 +23,7 @@ same-call e = cc
 pub own : (c : Call) → callOf (letter c) (fieldsOf (numbers c)) ≡ L.Asks c
 unfolding callOf
 own (C.Format n turn) = refl
-own (C.Insert value when) = refl
+own (C.Insert value when period) = refl
 own (C.Reset key when) = refl
 own (C.Remove key) = refl
 own (C.Poll now) = refl
@@ -31,18 +31,19 @@ own C.Wake = refl
 own C.Length = refl
 own C.Clear = refl
 
-pub many : (ns : List ℕ) → 2 < length ns → F.Bad ≡ fieldsOf ns
+pub many : (ns : List ℕ) → 3 < length ns → F.Bad ≡ fieldsOf ns
 many [] h = absurd (omega arith)
 many (x ∷ []) h = absurd (omega arith)
 many (x ∷ y ∷ []) h = absurd (omega arith)
-many (x ∷ y ∷ z ∷ ns) h = refl
+many (x ∷ y ∷ z ∷ []) h = absurd (omega arith)
+many (x ∷ y ∷ z ∷ w ∷ ns) h = refl
 
--- so it has no more than two
-few : (c : Call) → length (numbers c) ≤ 2
+-- so it has no more than three
+few : (c : Call) → length (numbers c) ≤ 3
 unfolding callOf
-few c = by-cases (decLt 2 (length (numbers c))) too-many (λ h. omega arith)
+few c = by-cases (decLt 3 (length (numbers c))) too-many (λ h. omega arith)
   where
-    too-many : 2 < length (numbers c) → length (numbers c) ≤ 2
+    too-many : 3 < length (numbers c) → length (numbers c) ≤ 3
     too-many h =
         let e : L.Bad ≡ L.Asks c = ap (callOf (letter c)) (many (numbers c) h) ∙ own c in
         let z : _≡_ {A = ℕ} 0 1 = cc in
@@ -62,13 +63,13 @@ one-line {l} {m} {c} p q =
     let e = one-text (p .rest) (q .rest) (numbers c) (p .fields) (q .fields) in
     p .line ∙ ap (λ (r : List ℕ). letter c ∷ r) e ∙ sym (q .line)
 
--- a letter, and at most twice a space and 20 digits
-short : (c : Call) (l : List ℕ) → Spaced l (numbers c) → length (letter c ∷ l) ≤ 43
+-- a letter, and at most three times a space and 20 digits
+short : (c : Call) (l : List ℕ) → Spaced l (numbers c) → length (letter c ∷ l) ≤ 64
 short c l s = omega (arith, at-most-21 l (numbers c) s, few c)
 
 -- so the limit of 80 bytes refuses no call
-pub at-most-43 : {l : List ℕ} {c : Call} → Says l c → length l ≤ 43
-at-most-43 {l} {c} p = subst (λ (t : List ℕ). length t ≤ 43) (sym (p .line)) (short c (p .rest) (p .fields))
+pub at-most-64 : {l : List ℕ} {c : Call} → Says l c → length l ≤ 64
+at-most-64 {l} {c} p = subst (λ (t : List ℕ). length t ≤ 64) (sym (p .line)) (short c (p .rest) (p .fields))
 
 -- each call whose numbers fit has a line
 pub some-line : (c : Call) → Fit (numbers c) → (l : List ℕ) × Says l c

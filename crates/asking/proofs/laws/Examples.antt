@@ -11,12 +11,13 @@ use lib.Seq.{take-length}
 use Rattle.delay_queue.specs.declared.Call.{Call}
 use Rattle.delay_queue.specs.declared.Call.the-variants as C
 use Rattle.decimals.specs.Text.{bytes, worth, Decimal, Spaced}
-use Rattle.decimals.proofs.laws.Plain.{every, at, Plain, text, values, spaced}
+use Rattle.decimals.proofs.laws.Plain.{every, at, digits, Plain, text, values, spaced}
 use Rattle.asking.specs.declared.Line.the-variants as L
 use Rattle.asking.specs.declared.Fields.the-variants as F
+use Rattle.asking.specs.declared.First.the-variants as S
 use Rattle.asking.specs.Text.{letter, numbers, Says}
-use Rattle.asking.specs.Parts.{EndsAt, Holds, callOf}
-use Rattle.asking.proofs.laws.Reading.{first-bad, second-bad}
+use Rattle.asking.specs.Parts.{EndsAt, Begins, Holds, callOf}
+use Rattle.asking.proofs.laws.Reading.{first-bad, none-at-all, others, more}
 use Rattle.asking.proofs.laws.Finding.{line}
 
 -- ---- lines that are right
@@ -29,9 +30,9 @@ format : Says (bytes "f 4 1") (C.Format 4 1)
 unfolding worth every
 format = says (C.Format 4 1) (bytes "4" ∷ bytes "1" ∷ []) refl (omega arith) (omega arith)
 
-insert : Says (bytes "i 7 70") (C.Insert 7 70)
+insert : Says (bytes "i 7 70 0") (C.Insert 7 70 0)
 unfolding worth every
-insert = says (C.Insert 7 70) (bytes "7" ∷ bytes "70" ∷ []) refl (omega arith) (omega arith)
+insert = says (C.Insert 7 70 0) (bytes "7" ∷ bytes "70" ∷ bytes "0" ∷ []) refl (omega arith) (omega arith)
 
 wake : Says (bytes "w") C.Wake
 wake = says C.Wake [] refl tt (omega arith)
@@ -45,14 +46,15 @@ largest = says (C.Poll 18446744073709551615) (bytes "18446744073709551615" ∷ [
 abbrev isOther : ℕ → Bool
 isOther b = not (eqb b (code " "))
 
-unsaid : (b : ℕ) (l : List ℕ) → length (b ∷ l) ≤ 80 → Holds l F.Bad → (c : Call) → Says (b ∷ l) c → ⊥
+unsaid : (b : ℕ) (l : List ℕ) → length (b ∷ l) ≤ 80 → Holds 3 l F.Bad → (c : Call) → Says (b ∷ l) c → ⊥
 unfolding callOf
 unsaid b l k h = line b l F.Bad L.Bad k h refl .bad .0 refl
 
 -- one field that is no decimal
-one-field : (s : List ℕ) → T (every isOther s) → ((n : ℕ) → Decimal s n → ⊥) → Holds (code " " ∷ s) F.Bad
-one-field s t n = first-bad s (length s) (record { within = omega arith; before = other; space = λ h. absurd (omega arith) })
-    (λ m d. n m (rw (take-length s) at d))
+one-field : (s : List ℕ) → T (every isOther s) → ((n : ℕ) → Decimal s n → ⊥) → Holds 3 (code " " ∷ s) F.Bad
+one-field s t n =
+    none-at-all 3 s
+    (first-bad s (length s) (record { within = omega arith; before = other; space = λ h. absurd (omega arith) }) (λ m d. n m (rw (take-length s) at d)))
   where
     other : (i : ℕ) → i < length s → getD s i 0 ≡ code " " → ⊥
     other i h e = T-not (eqb (getD s i 0) 32) (at isOther s t i h) (rw e tt)
@@ -75,13 +77,29 @@ too-large =
     unsaid (code "p") (bytes " 18446744073709551616") (omega arith)
     (one-field (bytes "18446744073709551616") tt (λ n d. omega (arith, d .number, d .fits)))
 
-two-spaces : (c : Call) → Says (bytes "i 7  70") c → ⊥
-two-spaces = unsaid (code "i") (bytes " 7  70") (omega arith)
-    (second-bad (bytes "7  70") 1 ends (omega arith) (λ n d. omega (arith, d .digits 0 (omega arith))))
+two-spaces : (c : Call) → Says (bytes "i 7  70 0") c → ⊥
+unfolding worth every
+two-spaces =
+    unsaid (code "i") (bytes " 7  70 0") (omega arith)
+    (more 2 (others (bytes "7  70 0") 1 ends (omega arith) seven) (omega arith) F.Bad F.Bad (none-at-all 2 (bytes " 70 0") no-first) refl)
   where
-    first : (k : ℕ) → k < 1 → getD (bytes "7  70") k 0 ≡ code " " → ⊥
+    first : (k : ℕ) → k < 1 → getD (bytes "7  70 0") k 0 ≡ code " " → ⊥
     first zero h e = omega arith
     first (suc k) h e = omega arith
 
-    ends : EndsAt (bytes "7  70") 1
+    ends : EndsAt (bytes "7  70 0") 1
     ends = record { within = omega arith; before = first; space = λ h. refl }
+
+    seven : Decimal (bytes "7") 7
+    seven = record { some = omega arith; digits = digits (bytes "7") tt; spare = λ h. absurd (omega arith); number = refl; fits = omega arith }
+
+    no-first : Begins (bytes " 70 0") S.Bad
+    no-first =
+        first-bad (bytes " 70 0") 0 (record { within = omega arith; before = λ k h. absurd (omega arith); space = λ h. refl })
+        (λ n d. omega (arith, d .some))
+
+-- 02 [7]: "the `i` line always has a third field"
+two-fields : (c : Call) → Says (bytes "i 7 70") c → ⊥
+unfolding worth every callOf
+two-fields =
+    line (code "i") (bytes " 7 70") (F.Two 7 70) L.Bad (omega arith) (spaced (bytes "7" ∷ bytes "70" ∷ []) (omega arith)) refl .bad .0 refl

@@ -83,19 +83,21 @@ long-line l h = nothing l (λ c s. omega arith)
 
 -- ---- a letter, and the numbers that were found behind it
 
-held : (l : List ℕ) (f : Fields) → Holds l f → All (λ c. Spaced l (numbers c)) (calls f)
+held : (l : List ℕ) (f : Fields) → Holds 3 l f → All (λ c. Spaced l (numbers c)) (calls f)
 held l F.None h = (h, (h, (h, tt)))
 held l (F.One x) h = (h, (h, tt))
-held l (F.Two x y) h = (h, (h, (h, tt)))
+held l (F.Two x y) h = (h, (h, tt))
+held l (F.Three x y z) h = (h, tt)
 held l F.Bad h = tt
 
-told : (l ns : List ℕ) (f : Fields) → Holds l f → Spaced l ns → f ≡ fieldsOf ns
+told : (l ns : List ℕ) (f : Fields) → Holds 3 l f → Spaced l ns → f ≡ fieldsOf ns
 told l ns F.None h s = ap fieldsOf (one-list l [] ns h s)
 told l ns (F.One x) h s = ap fieldsOf (one-list l (x ∷ []) ns h s)
 told l ns (F.Two x y) h s = ap fieldsOf (one-list l (x ∷ y ∷ []) ns h s)
+told l ns (F.Three x y z) h s = ap fieldsOf (one-list l (x ∷ y ∷ z ∷ []) ns h s)
 told l ns F.Bad h s = many ns (h ns s)
 
-pub line : (b : ℕ) (l : List ℕ) (f : Fields) (r : Line) → length (b ∷ l) ≤ 80 → Holds l f → r ≡ callOf b f → ReadClaim (b ∷ l) r
+pub line : (b : ℕ) (l : List ℕ) (f : Fields) (r : Line) → length (b ∷ l) ≤ 80 → Holds 3 l f → r ≡ callOf b f → ReadClaim (b ∷ l) r
 unfolding callOf
 line b l f r k h e = claim (b ∷ l) r only all
   where
@@ -110,7 +112,7 @@ line b l f r k h e = claim (b ∷ l) r only all
         e ∙ ap₂ (λ (x : ℕ) (g : Fields). callOf x g) (head-eq-of-cons-eq (s .line)) (told l (numbers c) f h t) ∙ own c
 
 -- the same for `line[0]` and `&line[1..]`
-pub whole-line : (l : List ℕ) (f : Fields) (r : Line) → 0 < length l → length l ≤ 80 → Holds (take (length l - 1) (drop 1 l)) f
+pub whole-line : (l : List ℕ) (f : Fields) (r : Line) → 0 < length l → length l ≤ 80 → Holds 3 (take (length l - 1) (drop 1 l)) f
     → r ≡ callOf (getD l 0 0) f → ReadClaim l r
 whole-line [] f r h k p e = absurd (omega arith)
 whole-line (b ∷ l) f r h k p e = line b l f r k (rw (from (b ∷ l) 1) at p) e

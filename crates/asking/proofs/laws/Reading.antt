@@ -9,16 +9,17 @@ use lib.ListN.{length, take, drop, getD, length-take, length-drop, take-append-d
 use lib.Seq.{take-all, getD-take}
 use Rattle.asking.specs.declared.Fields.{Fields}
 use Rattle.asking.specs.declared.Fields.the-variants as F
+use Rattle.asking.specs.declared.First.the-variants as S
 use Rattle.decimals.specs.Text.{Decimal, Spaced}
-use Rattle.asking.specs.Parts.{EndsAt, Holds}
+use Rattle.asking.specs.Parts.{EndsAt, Behind, Begins, Holds, inFront}
 use Rattle.decimals.proofs.laws.Number.{drop-one}
-use Rattle.decimals.proofs.laws.Spacing.{Whole, Ends, whole, ends, cut}
+use Rattle.decimals.proofs.laws.Spacing.{Whole, Ends, whole, ends, cut, one-list}
 
 -- `&s[i..]` is the list from the place i on
 pub from : (s : List ℕ) (i : ℕ) → take (length s - i) (drop i s) ≡ drop i s
 from s i = take-all (length s - i) (drop i s) (simp length-drop (omega arith))
 
--- ---- one or two numbers behind a space
+-- ---- the first number behind a space
 
 module _ (s : List ℕ) (e : ℕ) (h : EndsAt s e) where
   unbroken : Whole (take e s)
@@ -40,50 +41,75 @@ module _ (s : List ℕ) (e : ℕ) (h : EndsAt s e) where
       let k = cut (p .0) (take e s) (p .1) (drop e s) (whole (p .3)) unbroken (ends (p .1) ns (p .4)) stops q in
       (rw (k .0) at (p .3), rw (k .1) at (p .4))
 
-  pub first-bad : ((n : ℕ) → Decimal (take e s) n → ⊥) → Holds (32 ∷ s) F.Bad
+  pub first-bad : ((n : ℕ) → Decimal (take e s) n → ⊥) → Begins s S.Bad
   unfolding Spaced
-  first-bad b [] p = absurd (nil≢cons (sym p))
-  first-bad b (n ∷ ns) p = absurd (b n (parted n ns p .0))
+  first-bad b [] p = nil≢cons (sym p)
+  first-bad b (n ∷ ns) p = b n (parted n ns p .0)
 
-  pub only-one : length s ≤ e → {n : ℕ} → Decimal (take e s) n → Holds (32 ∷ s) (F.One n)
+  pub only-one : length s ≤ e → {n : ℕ} → Decimal (take e s) n → Begins s (S.Only n)
   unfolding Spaced
   only-one l d = (take e s, [], ap (λ t. 32 ∷ t) (sym (take-all e s l) ∙ sym (append-nil (take e s))), d, refl)
 
-  module _ (l : e < length s) where
-    abbrev rest : List ℕ
-    rest = take (length s - (e + 1)) (drop (e + 1) s)
+  pub others : e < length s → {n : ℕ} → Decimal (take e s) n → Begins s (S.Then n (e + 1))
+  unfolding Spaced
+  others l d =
+      let spaced = drop-one s e l ∙ ap (λ x. x ∷ drop (e + 1) s) (h .space l) in
+      record {
+        within = omega arith;
+        puts = λ ns p. (take e s, drop e s, ap (λ t. 32 ∷ t) (sym (take-append-drop e s)), d, rw spaced p);
+        leaves = λ m ns p. rw spaced at (parted m ns p .1);
+      }
 
-    spaced : drop e s ≡ 32 ∷ rest
-    spaced = drop-one s e l ∙ ap₂ (λ (x : ℕ) (t : List ℕ). x ∷ t) (h .space l) (sym (from s (e + 1)))
+-- ---- all numbers behind a space
 
-    pub both : {n m : ℕ} → Decimal (take e s) n → Decimal rest m → Holds (32 ∷ s) (F.Two n m)
-    unfolding Spaced
-    both d f =
-        let q = spaced ∙ ap (λ t. 32 ∷ t) (sym (append-nil rest)) in
-        (take e s, drop e s, ap (λ t. 32 ∷ t) (sym (take-append-drop e s)), d, (rest, [], q, f, refl))
+-- one at most
+pub the-one : {s : List ℕ} {n : ℕ} → Decimal s n → Holds 1 (32 ∷ s) (F.One n)
+unfolding Spaced
+the-one {s} d = (s, [], ap (λ t. 32 ∷ t) (sym (append-nil s)), d, refl)
 
-    pub second-bad : ((n : ℕ) → Decimal rest n → ⊥) → Holds (32 ∷ s) F.Bad
-    unfolding Spaced
-    second-bad b [] p = absurd (nil≢cons (sym p))
-    second-bad b (n ∷ []) p = absurd (nil≢cons (sym (parted n [] p .1) ∙ spaced))
-    second-bad b (n ∷ m ∷ []) p =
-        let q = parted n (m ∷ []) p .1 in
-        let k = tail-eq-of-cons-eq (sym spaced ∙ q .2) ∙ ap (λ r. q .0 ++ r) (q .4) ∙ append-nil (q .0) in
-        absurd (b m (rw k (q .3)))
-    second-bad b (n ∷ m ∷ k ∷ ns) p = omega arith
+pub not-one : {s : List ℕ} → ((n : ℕ) → Decimal s n → ⊥) → Holds 1 (32 ∷ s) F.Bad
+unfolding Spaced
+not-one b [] p = absurd (nil≢cons (sym p))
+not-one b (n ∷ []) p =
+    let k = tail-eq-of-cons-eq (p .2) ∙ ap (λ r. p .0 ++ r) (p .4) ∙ append-nil (p .0) in
+    absurd (b n (rw k (p .3)))
+not-one b (n ∷ m ∷ ns) p = omega arith
+
+pub none-at-all : (k : ℕ) (s : List ℕ) → Begins s S.Bad → Holds k (32 ∷ s) F.Bad
+none-at-all k s b ns p = absurd (b ns p)
+
+-- and one more than of those behind the first
+module _ (k : ℕ) {s : List ℕ} {n f : ℕ} (h : Behind s n f) (l : k ≤ 2) where
+  longer : ((ns : List ℕ) → Spaced (32 ∷ drop f s) ns → k < length ns) → Holds (k + 1) (32 ∷ s) F.Bad
+  unfolding Spaced
+  longer b [] p = absurd (nil≢cons (sym p))
+  longer b (m ∷ ns) p = omega (arith, b ns (h .leaves m ns p))
+
+  ahead : (g : Fields) → Holds k (32 ∷ drop f s) g → Holds (k + 1) (32 ∷ s) (inFront n g)
+  unfolding Spaced
+  ahead F.None p = absurd (nil≢cons (sym p))
+  ahead (F.One x) p = h .puts (x ∷ []) p
+  ahead (F.Two x y) p = h .puts (x ∷ y ∷ []) p
+  ahead (F.Three x y z) p =
+      longer (λ ns q. omega (arith, ap (λ (t : List ℕ). length t) (one-list (32 ∷ drop f s) (x ∷ y ∷ z ∷ []) ns p q)))
+  ahead F.Bad p = longer p
+
+  -- as the code has it, of `&s[f..]`
+  pub more : (g r : Fields) → Holds k (32 ∷ take (length s - f) (drop f s)) g → r ≡ inFront n g → Holds (k + 1) (32 ∷ s) r
+  more g r p e = rw e (ahead g (rw (from s f) at p))
 
 -- ---- the space in front
 
-pub no-space : (s : List ℕ) → 0 < length s → (getD s 0 0 ≡ 32 → ⊥) → Holds s F.Bad
+pub no-space : (s : List ℕ) → 0 < length s → (getD s 0 0 ≡ 32 → ⊥) → Holds 3 s F.Bad
 unfolding Spaced
 no-space s h b [] p = absurd (omega (arith, ap (λ t. length t) p))
 no-space s h b (n ∷ ns) p = absurd (b (ap (λ t. getD t 0 0) (p .2)))
 
-pub a-space : (s : List ℕ) (f : Fields) → 0 < length s → getD s 0 0 ≡ 32 → Holds (32 ∷ take (length s - 1) (drop 1 s)) f → Holds s f
+pub a-space : (s : List ℕ) (f : Fields) → 0 < length s → getD s 0 0 ≡ 32 → Holds 3 (32 ∷ take (length s - 1) (drop 1 s)) f → Holds 3 s f
 a-space s f h e p =
     let q = ap₂ (λ (x : ℕ) (t : List ℕ). x ∷ t) (sym e) (from s 1) ∙ sym (drop-one s 0 h) in
-    subst (λ t. Holds t f) q p
+    subst (λ t. Holds 3 t f) q p
 
-pub no-numbers : (s : List ℕ) → length s ≡ 0 → Holds s F.None
+pub no-numbers : (s : List ℕ) → length s ≡ 0 → Holds 3 s F.None
 unfolding Spaced
 no-numbers s h = drop-of-length-le s {i = 0} (omega arith)

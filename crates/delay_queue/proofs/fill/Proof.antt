@@ -14,9 +14,6 @@ abbrev μ-loop : tie.MeasureT-loop
 loop-holds : tie.Need-loop-holds Inv-loop μ-loop
 loop-holds c = fill-begun _ _ _
 
-cast-words : tie.Need-cast-words Inv-loop μ-loop
-cast-words c = search needs
-
 mul-words : tie.Need-mul-words Inv-loop μ-loop
 mul-words c = search needs
 
@@ -45,7 +42,6 @@ fill-spec =
     Inv-loop
     μ-loop
     loop-holds
-    cast-words
     mul-words
     slice-write-words
     add-i

@@ -70,7 +70,7 @@ returns-2 c =
     let at-insert = to-insert c in
     let else1 = to-else1 (at-insert .before) in
     taken-up (is-sound (else1 .before .is-sound .ensures) (else1 .if1 .left))
-    (back _ _ _ _ _ _ (c .packed .ensures) (InsertOn _ _ _) (at-insert .insert .ensures))
+    (back _ _ _ _ _ _ (c .packed .ensures) (InsertOn _ _ _ _) (at-insert .insert .ensures))
 
 pub insert-spec : {M : Type 1} → statement M
 insert-spec =

@@ -2,7 +2,7 @@
 use mathlib.Core.Path.{_≡_, refl, sym, ap, _∙_, fun-ext}
 use mathlib.Core.Logic.{_≢_, by-cases}
 use mathlib.Core.List.{List, []}
-use Prim.Native.Nat.{ℕ, _+_, _≤_, _<_}
+use Prim.Native.Nat.{ℕ, _+_, _*_, _≤_, _<_}
 use native.Mathlib.Decide.{decLt}
 use native.Mathlib.Omega.{arith}
 use lib.ListN.{length, set, replicate, getD-replicate, length-set}
@@ -24,7 +24,7 @@ use Rattle.queue.specs.declared.Answer.{Answer}
 use Rattle.queue.specs.declared.Answer.the-variants as A
 use Rattle.queue.specs.Told.{told}
 use Rattle.records.proofs.laws.View.{view-eq}
-use Rattle.records.specs.Slices.{slicesOf, Fits}
+use Rattle.records.specs.Slices.{slicesOf, valueAt, periodAt, Fits}
 use Rattle.records.specs.Words.{QueueWords, queueWords, words, slices, Sound}
 use Rattle.delay_queue.specs.Claims.{InRange, first, Formatted, FormatClaim}
 use Rattle.delay_queue.proofs.laws.Back.{Goes}
@@ -74,6 +74,24 @@ module _ (n x : ℕ) (l : List ℕ) where
       (λ g. rw (lt-ltb i n g) (over-at n (λ j. x) l h i g))
       (λ g. rw (le-ltb i n (omega arith)) (over-kept n n (λ j. x) l (omega arith) .past i (omega arith))))
 
+-- two words a record
+module _ (n x : ℕ) (l : List ℕ) (h : 2 * n ≤ length l) where
+  pairs-first : (g : ℕ → ℕ) → ((i : ℕ) → i < n → g i < 2 * n) → ((i : ℕ) → n ≤ i → 2 * n ≤ g i)
+      → (λ i. at (over (2 * n) (λ j. x) l) (g i)) ≡ first n x (λ i. at l (g i))
+  unfolding first
+  pairs-first g in-it past =
+      fun-ext (λ i.
+      ap (λ f. f (g i)) (over-first (2 * n) x l h)
+      ∙ by-cases (decLt i n)
+      (λ k. rw (lt-ltb i n k, lt-ltb (g i) (2 * n) (in-it i k)))
+      (λ k. rw (le-ltb i n (omega arith), le-ltb (g i) (2 * n) (past i (omega arith)))))
+
+  values-first : valueAt (over (2 * n) (λ j. x) l) ≡ first n x (valueAt l)
+  values-first = pairs-first (λ i. 2 * i) (λ i k. omega arith) (λ i k. omega arith)
+
+  periods-first : periodAt (over (2 * n) (λ j. x) l) ≡ first n x (periodAt l)
+  periods-first = pairs-first (λ i. 2 * i + 1) (λ i k. omega arith) (λ i k. omega arith)
+
 -- ---- the store
 
 module _ (s : QueueWords) {n turn : ℕ} (F : Fits (slices s) n) (T : InRange turn) where
@@ -81,7 +99,7 @@ module _ (s : QueueWords) {n turn : ℕ} (F : Fits (slices s) n) (T : InRange tu
   made = formatted n (s .wheel .stack .links .nexts) (s .wheel .stack .links .prevs) (s .wheel .stack .links .marks)
 
   abbrev new : QueueWords
-  new = queueWords (wheelWords 0 (replicate 6 0) made) (over n (λ i. 0) (s .values)) (over n (λ i. 0) (s .deadlines))
+  new = queueWords (wheelWords 0 (replicate 6 0) made) (over (2 * n) (λ i. 0) (s .values)) (over n (λ i. 0) (s .deadlines))
       (over n (λ i. turn) (s .turns))
 
   small : n ≤ nobody
@@ -116,7 +134,7 @@ module _ (s : QueueWords) {n turn : ℕ} (F : Fits (slices s) n) (T : InRange tu
             some = rw sized (F .some);
             few = rw sized (F .few);
             room = record {
-              values = omega (arith, sized, length-over n (λ i. 0) (s .values));
+              values = omega (arith, sized, length-over (2 * n) (λ i. 0) (s .values));
               deadlines = omega (arith, sized, length-over n (λ i. 0) (s .deadlines));
               links = stack-laws.room whole;
               turns = omega (arith, sized, length-over n (λ i. turn) (s .turns));
@@ -147,11 +165,11 @@ module _ (s : QueueWords) {n turn : ℕ} (F : Fits (slices s) n) (T : InRange tu
       rw q (record {
         told = ap told e;
         sound = new-sound;
-        view = view-eq sized refl is (over-first n 0 (s .values) (F .room .values)) (over-first n 0 (s .deadlines) (F .room .deadlines))
-            (over-first n turn (s .turns) (F .room .turns));
+        view = view-eq sized refl is (values-first n 0 (s .values) (F .room .values)) (periods-first n 0 (s .values) (F .room .values))
+            (over-first n 0 (s .deadlines) (F .room .deadlines)) (over-first n turn (s .turns) (F .room .turns));
         kept = record {
           links = format-kept n _ _ _ (F .some) small (F .room .links);
-          values = over-kept n n (λ i. 0) (s .values) (omega arith);
+          values = over-kept (2 * n) (2 * n) (λ i. 0) (s .values) (omega arith);
           deadlines = over-kept n n (λ i. 0) (s .deadlines) (omega arith);
           turns = over-kept n n (λ i. turn) (s .turns) (omega arith);
         };

@@ -22,6 +22,9 @@ to-format c =
 format-requires : tie.Need-format-requires
 format-requires c κs = search needs
 
+mul-fill : tie.Need-mul-fill
+mul-fill c = search needs
+
 fill-requires : tie.Need-fill-requires
 fill-requires c κs = search needs
 
@@ -65,6 +68,7 @@ make-spec =
     tie.close
     (tie.spec
     format-requires
+    mul-fill
     fill-requires
     fill-requires-2
     fill-requires-3

@@ -5,17 +5,17 @@ use Rattle.delay_queue.proofs.laws.Back.{back, turned-down, is-sound, t
 use Rattle.delay_queue.proofs.poll.Statement.{statement}
 use Rattle.delay_queue.proofs.poll.Tie as tie
 
-abbrev to-else1 : tie.After-poll-arg4 → tie.Else1
+abbrev to-else1 : tie.After-poll-arg5 → tie.Else1
 to-else1 c =
     let a = c .before .before .before .before in
     let b = a .before .before .before .before in
-    b .before
+    b .before .before
 
 abbrev to-poll : tie.After-packed → tie.After-poll
 to-poll c =
     let a = c .before .before .before .before in
     let b = a .before .before .before .before in
-    b .before
+    b .before .before .before
 
 is-sound-requires : tie.Need-is-sound-requires
 is-sound-requires c κs = search needs
@@ -35,6 +35,9 @@ same-length-3 c = search needs
 same-length-4 : tie.Need-same-length-4
 same-length-4 c = search needs
 
+same-length-5 : tie.Need-same-length-5
+same-length-5 c = search needs
+
 returns : tie.Need-returns
 returns c =
     turned-down _ _ _ _ _ _ (c .before .before .is-sound .ensures) (c .before .if1 .taken) (c .refused .ensures)
@@ -47,9 +50,6 @@ poll-requires c κs =
 packed-requires : tie.Need-packed-requires
 packed-requires c κs = search needs
 
-same-length-5 : tie.Need-same-length-5
-same-length-5 c = search needs
-
 same-length-6 : tie.Need-same-length-6
 same-length-6 c = search needs
 
@@ -58,6 +58,12 @@ same-length-7 c = search needs
 
 same-length-8 : tie.Need-same-length-8
 same-length-8 c = search needs
+
+same-length-9 : tie.Need-same-length-9
+same-length-9 c = search needs
+
+same-length-10 : tie.Need-same-length-10
+same-length-10 c = search needs
 
 returns-2 : tie.Need-returns-2
 returns-2 c =
@@ -76,11 +82,13 @@ poll-spec =
     same-length-2
     same-length-3
     same-length-4
+    same-length-5
     returns
     poll-requires
     packed-requires
-    same-length-5
     same-length-6
     same-length-7
     same-length-8
+    same-length-9
+    same-length-10
     returns-2)

@@ -14,7 +14,7 @@ use Rattle.asking.specs.declared.Line.{Line}
 use Rattle.asking.specs.declared.Line.the-variants as L
 use Rattle.asking.specs.Text.{Says, ReadClaim}
 use Rattle.asking.proofs.laws.Finding.{as-read}
-use Rattle.answering.specs.Text.{Written, word, shown}
+use Rattle.answering.specs.Text.{Written, word, shown, ending}
 use Rattle.answering.proofs.laws.Answering.{one-written}
 use Rattle.bench.specs.Line.{LineClaim}
 use Rattle.bench.proofs.laws.Once.{same-store, line-once}
@@ -69,8 +69,8 @@ read-reply {l} {w} {w′} {w″} {t} {u} (L.Asks c) R a b =
     let x = a .asks c s in
     let y = b .asks c s in
     let e = call-once c w (x .answer) (y .answer) w′ w″ (x .done) (y .done) in
-    let z : Written (word (y .answer)) (shown (y .answer)) t =
-    subst (λ (q : Answer). Written (word q) (shown q) t) (e .0) (x .written)
+    let z : Written (word (y .answer)) (shown (y .answer)) (ending (y .answer)) t =
+    subst (λ (q : Answer). Written (word q) (shown q) (ending q) t) (e .0) (x .written)
     in
     (one-written z (y .written), e .1)
 read-reply L.Bad R a b =

@@ -12,7 +12,7 @@ use Rattle.delay_queue.specs.declared.Call.{Call}
 use Rattle.decimals.specs.Text.{bytes, Spaced}
 use Rattle.asking.specs.Text.{Says}
 use Rattle.answering.specs.Text.{Written, PutClaim}
-use Rattle.answering.proofs.laws.Answering.{at-most-109}
+use Rattle.answering.proofs.laws.Answering.{at-most-114}
 use Rattle.bench.specs.Line.{LineClaim}
 use Rattle.feed.specs.Replies.{Reply}
 use Rattle.feed.specs.Feed.{answerRoom}
@@ -29,10 +29,10 @@ pub record Wrote (o : List ℕ) (at end : ℕ) (o′ l : List ℕ) : Type 0 wher
   pub room : end ≤ length o
   pub size : length o′ ≡ length o
 
-put-wrote : {w ns o : List ℕ} {at end : ℕ} {o′ : List ℕ} (p : PutClaim w ns o at end o′) → 0 < length (p .line) → length (p .line) ≤ 109
+put-wrote : {w ns z o : List ℕ} {at end : ℕ} {o′ : List ℕ} (p : PutClaim w ns z o at end o′) → 0 < length (p .line) → length (p .line) ≤ 114
     → at + answerRoom ≤ length o
     → Wrote o at end o′ (p .line)
-put-wrote {w} {ns} {o} {at} {end} {o′} p z h r =
+put-wrote {w} {ns} {z} {o} {at} {end} {o′} p some h r =
     let l = p .line in
     let q = p .room (omega arith) in
     let rest = drop (at + length l) o in
@@ -51,12 +51,13 @@ put-wrote {w} {ns} {o} {at} {end} {o′} p z h r =
       size = omega (arith, s, a, length-append (take at o) (l ++ rest), length-append l rest, length-drop (at + length l) o);
     }
 
-some-bytes : {w ns l : List ℕ} → Written w ns l → 0 < length l
-some-bytes {w} {ns} {l} p =
-    let e : length l ≡ length (w ++ (p .rest ++ 10 ∷ [])) = ap (λ (t : List ℕ). length t) (p .line) in
-    omega (arith, length-append w (p .rest ++ 10 ∷ []), length-append (p .rest) (10 ∷ []))
+some-bytes : {w ns z l : List ℕ} → Written w ns z l → 0 < length l
+some-bytes {w} {ns} {z} {l} p =
+    let t = z ++ 10 ∷ [] in
+    let e : length l ≡ length (w ++ (p .rest ++ t)) = ap (λ (x : List ℕ). length x) (p .line) in
+    omega (arith, length-append w (p .rest ++ t), length-append (p .rest) t, length-append z (10 ∷ []))
 
-bad-4 : {l : List ℕ} → Written (bytes "bad") [] l → length l ≤ 109
+bad-4 : {l : List ℕ} → Written (bytes "bad") [] [] l → length l ≤ 114
 unfolding Spaced
 bad-4 {l} p =
     let e : length l ≡ length (bytes "bad" ++ (p .rest ++ 10 ∷ [])) = ap (λ (t : List ℕ). length t) (p .line) in
@@ -66,7 +67,7 @@ module _ {l o o′ : List ℕ} {s s′ : QueueWords} {at end : ℕ} (r : at + an
   asked : (c : Call) (x : Says l c) → Wrote o at end o′ (C .asks c x .written .line)
   asked c x =
       let a = C .asks c x in
-      put-wrote (a .written) (some-bytes (a .written .written)) (at-most-109 (a .answer) (a .written .written)) r
+      put-wrote (a .written) (some-bytes (a .written .written)) (at-most-114 (a .answer) (a .written .written)) r
 
   unasked : (f : (c : Call) → Says l c → ⊥) → Wrote o at end o′ (C .bad f .1 .line)
   unasked f =

@@ -3,7 +3,7 @@ use mathlib.Core.Path.{_≡_, refl, sym, ap, _∙_}
 use mathlib.Core.Bool.{Bool, true, false, cond, false≢true}
 use Prim.Native.Nat.{ℕ}
 use lib.Ieee.{Float, lt}
-use Rattle.queue.specs.Told.{Told, ok, key, gone, out, none, wake, never, len, no, Hands}
+use Rattle.queue.specs.Told.{Told, Handed, timer, no-timer, handing, Hands}
 use Rattle.gauge.specs.declared.Gauge.{Gauge}
 use Rattle.gauge.specs.Gauge.{lateness, smoother, worse, noted, AnswerClaim}
 
@@ -45,32 +45,21 @@ module _ (g : Gauge) (l : Float) where
 -- ---- answers
 
 -- whether an answer hands out
+abbrev pub isTimer : Handed → Bool
+isTimer (timer k v d m n) = true
+isTimer no-timer = false
+
 abbrev pub isOut : Told → Bool
-isOut ok = false
-isOut (key k) = false
-isOut (gone v d) = false
-isOut (out k v d m n) = true
-isOut (none m n) = false
-isOut (wake t) = false
-isOut never = false
-isOut (len n) = false
-isOut (no n) = false
+isOut x = isTimer (handing x)
 
-not-out : {x : Told} → isOut x ≡ false → (k v d m n : ℕ) → Hands x k v d m n → ⊥
-not-out h k v d m n e = false≢true (sym h ∙ ap isOut e)
+not-out : (x : Told) → isOut x ≡ false → (k v d m n : ℕ) → Hands x k v d m n → ⊥
+not-out x h k v d m n e = false≢true (sym h ∙ ap isTimer e)
 
-is-out : (x : Told) → isOut x ≡ true → (k : ℕ) × (v : ℕ) × (d : ℕ) × (m : ℕ) × (n : ℕ) × Hands x k v d m n
-is-out (out k v d m n) h = (k, v, d, m, n, refl)
-is-out ok h = absurd (false≢true h)
-is-out (key k) h = absurd (false≢true h)
-is-out (gone v d) h = absurd (false≢true h)
-is-out (none m n) h = absurd (false≢true h)
-is-out (wake t) h = absurd (false≢true h)
-is-out never h = absurd (false≢true h)
-is-out (len n) h = absurd (false≢true h)
-is-out (no n) h = absurd (false≢true h)
+is-out : (y : Handed) → isTimer y ≡ true → (k : ℕ) × (v : ℕ) × (d : ℕ) × (m : ℕ) × (n : ℕ) × (y ≡ timer k v d m n)
+is-out (timer k v d m n) h = (k, v, d, m, n, refl)
+is-out no-timer h = absurd (false≢true h)
 
-out-deadline : {k v d m n k′ v′ d′ m′ n′ : ℕ} → out k v d m n ≡ out k′ v′ d′ m′ n′ → d ≡ d′
+out-deadline : {k v d m n k′ v′ d′ m′ n′ : ℕ} → timer k v d m n ≡ timer k′ v′ d′ m′ n′ → d ≡ d′
 out-deadline e = cc
 
 pub noted-out : {g g′ : Gauge} {now : ℕ} {x : Told} {k v d m n : ℕ} → Hands x k v d m n → g′ ≡ noted g (lateness now d) → AnswerClaim g now x g′
@@ -81,12 +70,12 @@ noted-out {g} {now = now} {k = k} {v = v} {d = d} {m = m} {n = n} e q =
     }
 
 pub noted-none : {g : Gauge} {now : ℕ} {x : Told} → isOut x ≡ false → AnswerClaim g now x g
-noted-none h = record { handed = λ k v d m n e. absurd (not-out h k v d m n e); otherwise = λ _. refl }
+noted-none {x = x} h = record { handed = λ k v d m n e. absurd (not-out x h k v d m n e); otherwise = λ _. refl }
 
 -- two gauges after one answer that both keep the claim are the same
 pub answer-once : {g a b : Gauge} {now : ℕ} (x : Told) → AnswerClaim g now x a → AnswerClaim g now x b → a ≡ b
 answer-once {g} {a} {b} {now} x p q = by (isOut x) refl
   where
     by : (t : Bool) → isOut x ≡ t → a ≡ b
-    by true h = let o = is-out x h in p .handed _ _ _ _ _ (o .5) ∙ sym (q .handed _ _ _ _ _ (o .5))
-    by false h = p .otherwise (not-out h) ∙ sym (q .otherwise (not-out h))
+    by true h = let o = is-out (handing x) h in p .handed _ _ _ _ _ (o .5) ∙ sym (q .handed _ _ _ _ _ (o .5))
+    by false h = p .otherwise (not-out x h) ∙ sym (q .otherwise (not-out x h))

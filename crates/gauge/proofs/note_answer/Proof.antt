@@ -9,19 +9,20 @@ use denote.Enum.Declared.{tagOf}
 use Rattle.queue.proofs.Answer.{the-type}
 use Rattle.queue.specs.declared.Answer.{Answer}
 use Rattle.queue.specs.declared.Answer.the-variants as A
-use Rattle.queue.specs.Told.{told}
+use Rattle.queue.specs.Told.{told, handing}
 use Rattle.gauge.specs.Gauge.{noted}
 use Rattle.gauge.proofs.laws.Noting.{isOut, noted-out, noted-none}
 use borrow.Author.Needs.{needs}
 use Rattle.gauge.proofs.note_answer.Statement.{statement}
 use Rattle.gauge.proofs.note_answer.Tie as tie
 
--- an answer with another tag than that of `Out`
-other : (a : Answer) → OneOf (0 ∷ 1 ∷ 2 ∷ 4 ∷ 5 ∷ 6 ∷ 7 ∷ 8 ∷ []) (tagOf the-type a) → isOut (told a) ≡ false
+-- an answer with another tag than those of `Out` and `Last`
+other : (a : Answer) → OneOf (0 ∷ 1 ∷ 2 ∷ 5 ∷ 6 ∷ 7 ∷ 8 ∷ 9 ∷ []) (tagOf the-type a) → isOut (told a) ≡ false
 other A.Done x = refl
 other (A.Key k) x = refl
 other (A.Gone v d) x = refl
-other (A.Out k v d m n) x = absurd (miss (0 ∷ 1 ∷ 2 ∷ 4 ∷ 5 ∷ 6 ∷ 7 ∷ 8 ∷ []) 3 tt x)
+other (A.Out k v d m n) x = absurd (miss (0 ∷ 1 ∷ 2 ∷ 5 ∷ 6 ∷ 7 ∷ 8 ∷ 9 ∷ []) 3 tt x)
+other (A.Last k v d m n) x = absurd (miss (0 ∷ 1 ∷ 2 ∷ 5 ∷ 6 ∷ 7 ∷ 8 ∷ 9 ∷ []) 4 tt x)
 other (A.Nothing m n) x = refl
 other (A.Wake t) x = refl
 other A.NoWake x = refl
@@ -37,16 +38,42 @@ lateness-of-requires c κs = search needs
 note-requires : tie.Need-note-requires
 note-requires c κs = search needs
 
+enum-known-answer-2 : tie.Need-enum-known-answer-2
+enum-known-answer-2 c = search needs
+
+lateness-of-requires-2 : tie.Need-lateness-of-requires-2
+lateness-of-requires-2 c κs = search needs
+
+note-requires-2 : tie.Need-note-requires-2
+note-requires-2 c κs = search needs
+
 returns : tie.Need-returns
 returns c =
     let at-answer = c .before .before .before in
     let g = at-answer .before .before .args .g in
-    noted-out (ap (λ (a : Answer). told a) (at-answer .answer .given .1))
+    noted-out (ap (λ (a : Answer). handing (told a)) (at-answer .answer .given .1))
     (c .note .ensures ∙ ap (λ (l : Float). noted g l) (c .before .lateness-of .ensures))
 
 returns-2 : tie.Need-returns-2
-returns-2 c = noted-none (other (c .before .args .answer) (c .match .keys2))
+returns-2 c =
+    let at-answer = c .before .before .before in
+    let g = at-answer .before .before .args .g in
+    noted-out (ap (λ (a : Answer). handing (told a)) (at-answer .answer2 .given .1))
+    (c .note2 .ensures ∙ ap (λ (l : Float). noted g l) (c .before .lateness-of2 .ensures))
+
+returns-3 : tie.Need-returns-3
+returns-3 c = noted-none (other (c .before .args .answer) (c .match .keys3))
 
 pub note-answer-spec : {M : Type 1} → statement M
 note-answer-spec =
-    tie.close (tie.spec enum-known-answer lateness-of-requires note-requires returns returns-2)
+    tie.close
+    (tie.spec
+    enum-known-answer
+    lateness-of-requires
+    note-requires
+    enum-known-answer-2
+    lateness-of-requires-2
+    note-requires-2
+    returns
+    returns-2
+    returns-3)

@@ -44,10 +44,11 @@ to-else2 c =
     let b = a .before .before .before .before in
     b .before .before .before
 
-abbrev to-poll : tie.After-slice-known23 → tie.After-poll
+abbrev to-poll : tie.After-slice-known24 → tie.After-poll
 to-poll c =
     let a = c .before .before .before .before in
-    a .before .before .before .before
+    let b = a .before .before .before .before in
+    b .before .before
 
 abbrev to-else3 : tie.After-poll → tie.Else3
 to-else3 c =

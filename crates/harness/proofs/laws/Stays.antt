@@ -8,8 +8,8 @@ use Rattle.delay_queue.proofs.laws.Back.{taken-up}
 use Rattle.promises.proofs.laws.OneCall.{call-sound}
 
 module _ {s t : QueueWords} {a : Answer} (S : Sound s) where
-  pub insert-stays : {value when : ℕ} → InsertOn s value when a t → Sound t
-  insert-stays {value} {when} I = call-sound (C.Insert value when) s a t (taken-up S I) S
+  pub insert-stays : {value when period : ℕ} → InsertOn s value when period a t → Sound t
+  insert-stays {value} {when} {period} I = call-sound (C.Insert value when period) s a t (taken-up S I) S
 
   pub reset-stays : {key when : ℕ} → ResetOn s key when a t → Sound t
   reset-stays {key} {when} R = call-sound (C.Reset key when) s a t (taken-up S R) S

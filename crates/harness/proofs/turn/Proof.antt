@@ -50,7 +50,7 @@ abbrev to-poll : tie.After-summed4 → tie.After-poll
 to-poll c =
     let a = c .before .before .before .before in
     let b = a .before .before .before .before in
-    b .before
+    b .before .before .before
 
 abbrev to-else3 : tie.After-poll → tie.Else3
 to-else3 c =

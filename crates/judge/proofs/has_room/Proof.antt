@@ -1,8 +1,12 @@
 -- `has_room` meets its contract, slice by slice.
+use borrow.Author.Needs.{needs}
 use native.Mathlib.Omega.{arith}
 use Rattle.contracts.proofs.laws.Tells.{tells-no, tells-le, tells-by}
 use Rattle.judge.proofs.has_room.Statement.{statement}
 use Rattle.judge.proofs.has_room.Tie as tie
+
+mul-if1 : tie.Need-mul-if1
+mul-if1 c = search needs
 
 returns : tie.Need-returns
 returns c = tells-no (λ R. omega (arith, R .values))
@@ -32,4 +36,4 @@ returns-6 c =
     (λ R. R .links .marks)
 
 pub has-room-spec : {M : Type 1} → statement M
-has-room-spec = tie.close (tie.spec returns returns-2 returns-3 returns-4 returns-5 returns-6)
+has-room-spec = tie.close (tie.spec mul-if1 returns returns-2 returns-3 returns-4 returns-5 returns-6)

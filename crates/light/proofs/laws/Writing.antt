@@ -166,7 +166,7 @@ pub no-room : {l o : List ℕ} → length o < length l → Fronts l o 0 o
 no-room h = record { room = λ f. absurd (omega arith); full = λ _. (refl, refl) }
 
 -- the line `bad` is the bench's
-bad-is : {l : List ℕ} → Written (bytes "bad") [] l → l ≡ bad
+bad-is : {l : List ℕ} → Written (bytes "bad") [] [] l → l ≡ bad
 unfolding Spaced
 bad-is p = p .line ∙ ap (λ (x : List ℕ). bytes "bad" ++ (x ++ 10 ∷ [])) (p .fields)
 

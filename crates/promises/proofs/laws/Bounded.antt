@@ -18,11 +18,12 @@ use Rattle.wheel.specs.Drain.{heights}
 use Rattle.wheel.specs.Poll.{clockAfter}
 use Rattle.queue.specs.declared.Answer.{Answer}
 use Rattle.queue.specs.declared.Answer.the-variants as A
-use Rattle.queue.specs.Told.{told}
+use Rattle.queue.specs.Told.{told, Told, handing}
 use Rattle.queue.specs.Told as T
-use Rattle.queue.specs.Steps.{pending}
+use Rattle.queue.specs.Steps.{pending, QueuePolls, nothing, handed}
 use Rattle.records.specs.Records.{At}
 use Rattle.records.specs.Slices.{Fits}
+use Rattle.records.specs.View.{View}
 use Rattle.records.specs.Words.{QueueWords, elapsed, slices, view, Sound}
 use Rattle.delay_queue.specs.declared.Call.{Call}
 use Rattle.delay_queue.specs.declared.Call.the-variants as C
@@ -30,19 +31,20 @@ use Rattle.delay_queue.specs.Claims.{InRange, Formatted, PollClaim, RemoveClaim
 use Rattle.promises.specs.OneCall.{isNo, blank, one}
 use Rattle.promises.specs.Runs.{Asked, Runs, rest, next, accepted, isPoll, All, tally, movesOf, Each}
 use Rattle.promises.specs.Polling.{Dead}
-use Rattle.promises.specs.Waiting.{Undisturbed, duePoll}
+use Rattle.promises.specs.Waiting.{Undisturbed, duePoll, NoneRepeats}
 use Rattle.promises.specs.Keys.{asked}
 use Rattle.promises.specs.KeysReach.{Reaches}
 use Rattle.promises.specs.Shown.{polledAt70}
-use Rattle.promises.specs.Bounded.{Fresh, heightAt, LosesLevels, ReportsLost, AtOrPast, DueAfter, OutOrRemoved, out, removed, Within, LeavesWithin, WaitsBounded, WorkBounded}
+use Rattle.promises.specs.Bounded.{Fresh, heightAt, LosesLevels, ReportsLost, AtOrPast, DueAfter, OutOrRemoved, out, removed, Within, LeavesWithin, WaitsBounded, WorkBounded, IsSetAgain}
 use Rattle.promises.proofs.laws.Decided.{fits-dec, range-dec}
 use Rattle.promises.proofs.laws.OneCall.{call-sound, fits, one-made, insert-shown}
 use Rattle.promises.proofs.laws.Runs.{run-sound}
 use Rattle.promises.proofs.laws.Views.{call-goes}
-use Rattle.promises.proofs.laws.Polling.{one-list, poll-parts}
-use Rattle.promises.proofs.laws.Moves.{moves-are-heights, moves-bounded}
+use Rattle.promises.proofs.laws.Polling.{poll-parts, none-out}
+use Rattle.promises.proofs.laws.Moves.{moves-are-heights, moves-bounded, goes-deadline}
 use Rattle.promises.proofs.laws.Waiting.{pending-some, counted, Went, waits, comes, leaves, went, dead-run}
 use Rattle.promises.proofs.laws.Shown.{waiting, waiting-deadline, waiting-pending, waited-shown}
+use Rattle.promises.proofs.laws.TakesOut.{one-list, taken-out}
 
 -- ---- moves
 
@@ -96,15 +98,27 @@ module _ {s : QueueWords} (S : Sound s) {now : ℕ} (h : elapsed s ≤ now) {a :
       by none c = omega arith
       by (some r) c = omega arith
 
-  poll-loses : LosesLevels (view s) (movesOf (told a)) (view t)
+  -- a timer that is not set again keeps its deadline
+  same-deadline : (y p : ℕ) → At (view s) y p → (IsSetAgain (view s) (told a) y → ⊥) → view t .deadline y ≡ view s .deadline y
+  same-deadline y p c f = of (P .good S .done h .1) f
+    where
+      of : {x : Told} {w : View} → QueuePolls (view s) now x w → (IsSetAgain (view s) x y → ⊥) → w .deadline y ≡ view s .deadline y
+      of (nothing T) g = ap (λ e. e y) (taken-out S h T .deadline)
+      of (handed T G) g = goes-deadline S h T G y g
+
+  poll-loses : LosesLevels (view s) (told a) (view t)
   poll-loses =
+      let M = moves-are-heights S h P in
       record {
-        lost = moves-are-heights S h P;
-        none-rises = λ y p q x z.
+        added = M .0;
+        lost = M .1;
+        nothing-added = M .2;
+        height-added = M .3;
+        none-rises = λ y p q f x z.
             let before = timer-height S x in
             let after = timer-height (P .good S .done h .0) z in
-            let same : view t .deadline y ≡ view s .deadline y = λ i. poll-parts S h P .deadline i y in
-            let falls = level-falls (elapsed s) (elapsed t) (view s .deadline y) clock-on (omega arith) in
+            let same : view t .deadline y ≡ view s .deadline y = same-deadline y p x f in
+            let falls = level-falls (elapsed s) (elapsed t) (view s .deadline y) clock-on (omega (arith, after .0, same)) in
             let now-at : heightAt q ≡ levelOf (elapsed t) (view s .deadline y) = after .1 ∙ ap (levelOf (elapsed t)) same in
             omega (arith, before .1);
       }
@@ -116,9 +130,13 @@ poll-lost {s} x t S A now e =
     by-cases (decLt now (elapsed s))
     (λ h.
     let R = P .good S .back h in
+    let nobody-set : (y : ℕ) → IsSetAgain (view s) (told (x .answer)) y → ⊥ = λ y z. none-out (ap handing (sym (R .told)) ∙ z .5) in
     record {
+      added = 0;
       lost = omega (arith, ap movesOf (R .told), ap (λ z. heights (view z .lists)) (R .same));
-      none-rises = λ y p q a b.
+      nothing-added = λ f. refl;
+      height-added = λ y q z b. absurd (nobody-set y z);
+      none-rises = λ y p q f a b.
           let c : At (view s) y q = rw (R .same) at b in
           let z : p ≡ q = one-list S y p q (a .member) (c .member) in
           rw z (omega arith);
@@ -136,7 +154,7 @@ each-lost S (next {s} {t} {u} {x} {l} A R) = (poll-lost x t S A, each-lost (call
 due-counted : (d : ℕ) (c : Call) (b : Bool) → ((now : ℕ) → c ≡ C.Poll now → b ≡ true → d ≤ now)
     → _≡_ {A = ℕ} (cond (duePoll d c && b) 1 0) (cond (isPoll c && b) 1 0)
 due-counted d (C.Format n turn) b f = refl
-due-counted d (C.Insert value when) b f = refl
+due-counted d (C.Insert value when period) b f = refl
 due-counted d (C.Reset key when) b f = refl
 due-counted d (C.Remove key) b f = refl
 due-counted d (C.Poll now) true f = rw (le-leb d now (f now refl refl))
@@ -166,15 +184,16 @@ within-later {x = x} h W =
 
 -- the timer waits on, and each accepted poll has handed out another; or it is out or removed
 data Ending (s : QueueWords) (l : List Asked) (u : QueueWords) (k v d : ℕ) : Type 0 where
-  still : Reaches (view u) k v d → pending (view u) + tally isPoll l ≤ pending (view s) → Ending s l u k v d
+  still : Reaches (view u) k v 0 d → pending (view u) + tally isPoll l ≤ pending (view s) → Ending s l u k v d
   left : LeavesWithin (pending (view s)) k v d l u → Ending s l u k v d
 
-due-ends : {s u : QueueWords} {l : List Asked} {k v d : ℕ} → Sound s → Reaches (view s) k v d → Runs s l u → All Undisturbed l
+due-ends : {s u : QueueWords} {l : List Asked} {k v d : ℕ} → Sound s → NoneRepeats (view s) → Reaches (view s) k v 0 d → Runs s l u
+    → All Undisturbed l
     → All (AtOrPast d) l
     → Ending s l u k v d
-due-ends S R rest q a = still R (omega arith)
-due-ends {k = k} {v = v} {d = d} S R (next {s} {t} {u} {x} {l} A r) q a =
-    by (went S R (call-goes (x .call) s (x .answer) t S A) (q .0)) (λ M. due-ends after M r (q .1) (a .1))
+due-ends S once R rest q a = still R (omega arith)
+due-ends {k = k} {v = v} {d = d} S once R (next {s} {t} {u} {x} {l} A r) q a =
+    by (went S once R (call-goes (x .call) s (x .answer) t S A) (q .0)) (λ o M. due-ends after o M r (q .1) (a .1))
   where
     after : Sound t
     after = call-sound (x .call) s (x .answer) t A S
@@ -205,8 +224,9 @@ due-ends {k = k} {v = v} {d = d} S R (next {s} {t} {u} {x} {l} A r) q a =
         let B : RemoveClaim s k (x .answer) t = subst (λ c. CallClaim c s (x .answer) t) e A in
         B .good S .done (R .number) (R .place) (R .names) .told ∙ (λ i. T.gone (R .value i) (R .deadline i))
 
-    by : Went (view s) k v d (x .call) (told (x .answer)) (view t) → (Reaches (view t) k v d → Ending t l u k v d) → Ending s (x ∷ l) u k v d
-    by (waits M c) f = later c (f M)
+    by : Went (view s) k v d (x .call) (told (x .answer)) (view t) → (NoneRepeats (view t) → Reaches (view t) k v 0 d → Ending t l u k v d)
+        → Ending s (x ∷ l) u k v d
+    by (waits M o c) f = later c (f o M)
     by (comes e z h) f = at-once (out e z) h
     by (leaves e z h) f = at-once (removed e (answers e)) h
 
@@ -214,7 +234,10 @@ due-ends {k = k} {v = v} {d = d} S R (next {s} {t} {u} {x} {l} A r) q a =
 -- accepted polls as timers were pending": so in any sound store
 pub due-within : {s : QueueWords} → Sound s → WaitsBounded s
 due-within {s} S k r p l u D enough =
-    by (due-ends S (record { number = r; place = p; names = D .names; value = refl; deadline = refl }) (D .runs) (D .undisturbed) (D .past))
+    by
+    (due-ends S (D .once)
+    (record { number = r; place = p; names = D .names; value = refl; period = D .once r (p, D .names .pending); deadline = refl }) (D .runs)
+    (D .undisturbed) (D .past))
   where
     by : Ending s l u k (view s .value r) (view s .deadline r)
         → LeavesWithin (pending (view s)) k (view s .value r) (view s .deadline r) l u
@@ -250,7 +273,7 @@ fresh-shown =
       done = refl;
     }
 
-pub due-shown : (u : QueueWords) × Runs one (asked (C.Insert 7 70) (A.Key 65536) ∷ []) waiting × DueAfter waiting 65536 0 65 polledAt70 u
+pub due-shown : (u : QueueWords) × Runs one (asked (C.Insert 7 70 0) (A.Key 65536) ∷ []) waiting × DueAfter waiting 65536 0 65 polledAt70 u
     × (pending (view waiting) ≤ tally isPoll polledAt70)
 due-shown =
     let w = waited-shown in (
@@ -258,6 +281,7 @@ due-shown =
       next (insert-shown .1) rest,
       record {
         names = w .1 .names;
+        once = w .1 .once;
         runs = w .1 .runs;
         undisturbed = w .1 .undisturbed;
         past = (λ now e h. let z : 70 ≡ now = cc in omega (arith, waiting-deadline), tt);

@@ -104,6 +104,7 @@ record Upto (s : QueueWords) (k : ℕ) (u : View) : Type 0 where
   raised : (i : ℕ) → i < k → comesBack s i ≡ true → u .turn i ≡ view s .turn i + 1
   same : (i : ℕ) → (i < k → comesBack s i ≡ false) → u .turn i ≡ view s .turn i
   values : u .value ≡ view s .value
+  periods : u .period ≡ view s .period
   deadlines : u .deadline ≡ view s .deadline
 
 begun-so : (s : QueueWords) → Upto s 0 (view s)
@@ -115,6 +116,7 @@ begun-so s =
       raised = λ i h e. absurd (omega arith);
       same = λ i f. refl;
       values = refl;
+      periods = refl;
       deadlines = refl;
     }
 
@@ -131,8 +133,8 @@ not-true false f = refl
 module _ {s : QueueWords} (S : Sound s) {k : ℕ} {u : View} (U : Upto s k u) where
   -- record k does not come back: turns and the free list stay
   stays : {v : View} → comesBack s k ≡ false → v .n ≡ u .n → v .lists free ≡ u .lists free → v .turn ≡ u .turn → v .value ≡ u .value
-      → v .deadline ≡ u .deadline → ((p : ℕ) → p < free → v .lists p ≡ from (suc k) (view s .lists p)) → Upto s (suc k) v
-  stays {v} z n f t a d w =
+      → v .period ≡ u .period → v .deadline ≡ u .deadline → ((p : ℕ) → p < free → v .lists p ≡ from (suc k) (view s .lists p)) → Upto s (suc k) v
+  stays {v} z n f t a b d w =
       record {
         size = n ∙ U .size;
         waiting = w;
@@ -143,6 +145,7 @@ module _ {s : QueueWords} (S : Sound s) {k : ℕ} {u : View} (U : Upto s k u) wh
             (λ q. ap (λ g. g i) t ∙ U .raised i (omega arith) e);
         same = λ i g. ap (λ g. g i) t ∙ U .same i (λ h. g (omega arith));
         values = a ∙ U .values;
+        periods = b ∙ U .periods;
         deadlines = d ∙ U .deadlines;
       }
 
@@ -152,7 +155,7 @@ module _ {s : QueueWords} (S : Sound s) {k : ℕ} {u : View} (U : Upto s k u) wh
       = λ p g m. n p (record { timed = g; member = rw (U .waiting p g) (mem-from k k (view s .lists p) (omega arith) m) }) in
       let e : isPending s k ≡ false
       = not-true (isPending s k) (λ z. let r = pending-exactly S k h .0 z in out (r .0) (r .1 .timed) (r .1 .member)) in
-      stays (rw e) refl refl refl refl refl (λ p g. U .waiting p g ∙ from-out k (view s .lists p) (out p g))
+      stays (rw e) refl refl refl refl refl refl (λ p g. U .waiting p g ∙ from-out k (view s .lists p) (out p g))
 
   module _ (h : k < count s) {p : ℕ} (a : At u k p) where
     was : At (view s) k p
@@ -200,6 +203,7 @@ module _ {s : QueueWords} (S : Sound s) {k : ℕ} {u : View} (U : Upto s k u) wh
               (λ q. absurd (true≢false (sym z ∙ ap (comesBack s) (sym q) ∙ f (omega arith))))
               (λ q. upd-other (u .turn) k (u .turn k + 1) i q ∙ U .same i (λ g. f (omega arith)));
           values = U .values;
+          periods = U .periods;
           deadlines = U .deadlines;
         }
 
@@ -210,7 +214,7 @@ module _ {s : QueueWords} (S : Sound s) {k : ℕ} {u : View} (U : Upto s k u) wh
         by-cases (ℕ-discrete (view s .turn k) lastTurn)
         (λ e.
         let z : comesBack s k ≡ false = back-is ∙ ap not (eq-eqb (view s .turn k) lastTurn e) in
-        rw (freed-last k v (turn-now ∙ e)) (stays z refl left-free refl refl refl left-waiting))
+        rw (freed-last k v (turn-now ∙ e)) (stays z refl left-free refl refl refl refl left-waiting))
         (λ d.
         let z : comesBack s k ≡ true = back-is ∙ ap not (ne-eqb (view s .turn k) lastTurn d) in
         rw (freed-more k v (λ e. d (sym turn-now ∙ e))) (back-so z))
@@ -274,6 +278,7 @@ clear-order {s} {t} C S =
             let z : q ≡ free = omega (arith, stack-laws.member-place (K .done .sound .standing .whole .stack) q i m) in
             retired i p a e (rw z at m));
         values = ap (λ v. v .value) E ∙ U .values;
+        periods = ap (λ v. v .period) E ∙ U .periods;
         deadlines = ap (λ v. v .deadline) E ∙ U .deadlines;
       },
     )

@@ -34,7 +34,7 @@ not-past v now (some r) f h = omega (arith, f .1)
 pub poll-not-past : {s t : QueueWords} {a : Answer} {now : ℕ} → PollClaim s now a t → elapsed s ≤ now → elapsed t ≤ now
 poll-not-past {s} {t} {now = now} P h =
     by-cases (sound-dec s)
-    (λ S. let p = poll-parts S h P in subst (λ e. e ≤ now) (sym (p .clock)) (not-past (view s) now (p .got) (p .fair) h))
+    (λ S. let p = poll-parts S h P in subst (λ e. e ≤ now) (sym (p .clock)) (not-past (view s) now (p .got) (p .by .fair) h))
     (λ n. let e : elapsed t ≡ elapsed s = ap (λ u. elapsed u) (P .bad n .same) in omega arith)
 
 -- ---- any other call
@@ -77,7 +77,7 @@ format-stands {n} {turn} {s} F =
 -- on a store that is not sound every call but format is refused
 unsound-stands : (c : Call) (s : QueueWords) (a : Answer) (t : QueueWords) → (Sound s → ⊥) → CallClaim c s a t → Stands (elapsed s) (elapsed t)
 unsound-stands (C.Format n turn) s a t f A = format-stands A
-unsound-stands (C.Insert value when) s a t f A = same-stands (A .bad f .same)
+unsound-stands (C.Insert value when period) s a t f A = same-stands (A .bad f .same)
 unsound-stands (C.Reset key when) s a t f A = same-stands (A .bad f .same)
 unsound-stands (C.Remove key) s a t f A = same-stands (A .bad f .same)
 unsound-stands (C.Poll now) s a t f A = same-stands (A .bad f .same)
@@ -99,7 +99,7 @@ another d f x = ⊎-elim d f x
 -- past 6 the table has 8 alone, and 7 for a poll
 unlisted : (k : ℕ) → 6 < k → k ≢ 8 → (c : Call) (s : QueueWords) → (isPoll c ≡ true → k ≢ 7) → Mem k (numbers (linesOf c s)) → ⊥
 unlisted k h d (C.Format n turn) s f = another (λ e. omega arith) (another d (λ x. x))
-unlisted k h d (C.Insert value when) s f =
+unlisted k h d (C.Insert value when period) s f =
     another (λ e. omega arith) (another (λ e. omega arith) (another (λ e. omega arith) (another (λ e. omega arith) (λ x. x))))
 unlisted k h d (C.Reset key when) s f =
     another (λ e. omega arith) (another (λ e. omega arith) (another (λ e. omega arith) (another (λ e. omega arith) (λ x. x))))

@@ -3,7 +3,7 @@ use mathlib.Core.Path.{_≡_}
 use mathlib.Core.Logic.{by-cases, Dec·and}
 use mathlib.Core.Bool.{true, Bool-discrete}
 use mathlib.Core.List.{List, []}
-use Prim.Native.Nat.{ℕ, zero, suc, _^_, _<_, _≤_}
+use Prim.Native.Nat.{ℕ, zero, suc, _^_, _<_, _≤_, _*_}
 use native.Mathlib.Decide.{ℕ-discrete, decLe, decLt, map-dec}
 use native.Mathlib.Omega.{arith}
 use lib.ListN.{length, getD}
@@ -49,7 +49,7 @@ room-dec : (n : ℕ) (l : Slices) → Dec (Room n l)
 room-dec n l =
     let long : (k : List ℕ) → Dec (n ≤ length k) = λ k. decLe n (length k) in
     by-dec
-    (Dec·and (Dec·and (long (l .values)) (long (l .deadlines)))
+    (Dec·and (Dec·and (decLe (2 * n) (length (l .values))) (long (l .deadlines)))
     (Dec·and (Dec·and (long (l .links .nexts)) (long (l .links .prevs))) (Dec·and (long (l .turns)) (long (l .links .marks)))))
     (λ x.
     record {

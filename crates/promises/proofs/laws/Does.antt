@@ -23,10 +23,10 @@ module _ {s : QueueWords} {a : Answer} {t : QueueWords} (S : Sound s) where
       (λ x. by-cases (range-dec turn) (λ y. formatted (F .done x y)) (λ f. refused (F .outside x f)))
       (λ f. refused (F .short f))
 
-  insert-does : {value when : ℕ} → InsertOn s value when a t → Does s a t (C.Insert value when)
-  insert-does {value} {when} I = by (view s .lists free) refl
+  insert-does : {value when period : ℕ} → InsertOn s value when period a t → Does s a t (C.Insert value when period)
+  insert-does {value} {when} {period} I = by (view s .lists free) refl
     where
-      by : (l : List ℕ) → view s .lists free ≡ l → Does s a t (C.Insert value when)
+      by : (l : List ℕ) → view s .lists free ≡ l → Does s a t (C.Insert value when period)
       by [] e = refused (I .full e)
       by (r ∷ l) e =
           by-deadline (elapsed s) when
@@ -52,7 +52,7 @@ module _ {s : QueueWords} {a : Answer} {t : QueueWords} (S : Sound s) where
 
   pub does : (c : Call) → CallClaim c s a t → Does s a t c
   does (C.Format n turn) A = format-does A
-  does (C.Insert value when) A = insert-does (A .good S)
+  does (C.Insert value when period) A = insert-does (A .good S)
   does (C.Reset key when) A = reset-does (A .good S)
   does (C.Remove key) A = remove-does (A .good S)
   does (C.Poll now) A = poll-does A

@@ -2,10 +2,12 @@
 -- (`first-set-first-out`), and so of two that had expired when they were set (`expired-first-out`). Whoever is set where an equal waits stands behind it
 -- (Queued.antt), and that order stays while both wait. Expired ones precede the wheel (Order.antt, `poll-order`).
 use mathlib.Core.Path.{_≡_, refl, sym, ap, _∙_}
-use mathlib.Core.Logic.{_≢_, inl, inr, ⊎-elim}
+use mathlib.Core.Logic.{_≢_, _⊎_, inl, inr, ⊎-elim, by-cases}
 use mathlib.Core.Bool.{false, not}
-use mathlib.Core.List.{List, []}
-use Prim.Native.Nat.{ℕ, _≤_, _<_, max}
+use mathlib.Core.List.{List, [], prod}
+use mathlib.Core.Option.{some}
+use Prim.Native.Nat.{ℕ, _+_, _≤_, _<_, max}
+use native.Mathlib.Decide.{ℕ-discrete}
 use native.Mathlib.Omega.{arith}
 use borrow.Author.Tests.{eq-eqb, ne-eqb}
 use Rattle.links.specs.Lists.{Mem}
@@ -17,25 +19,29 @@ use Rattle.wheel.proofs.laws.Sums.{put-mem}
 use Rattle.queue.specs.declared.Answer.{Answer}
 use Rattle.queue.specs.Told.{Told, told}
 use Rattle.queue.specs.Told as T
-use Rattle.records.specs.View.{View, withValue, upd}
+use Rattle.queue.specs.Steps.{TakesOut, GoesOn, once, again, ended, handed, nothing}
+use Rattle.records.specs.View.{View, withValue, withPeriod, upd}
+use Rattle.records.proofs.laws.Words.{upd-same}
 use Rattle.records.specs.Records.{keyOf, At, Names, taken, left, target, placed, numberIn}
 use Rattle.records.specs.Words.{QueueWords, elapsed, view, Sound}
 use Rattle.delay_queue.specs.declared.Call.{Call}
 use Rattle.delay_queue.specs.declared.Call.the-variants as C
 use Rattle.delay_queue.specs.Claims.{CallClaim}
 use Rattle.promises.specs.OneCall.{isNo}
-use Rattle.promises.specs.Runs.{Asked, Runs, rest, next, All}
+use Rattle.promises.specs.Runs.{Asked, Runs, rest, next, All, Each}
 use Rattle.promises.specs.KeysStay.{Aims, Out}
 use Rattle.promises.specs.KeysReach.{Reaches, Spares}
 use Rattle.promises.specs.First.{Sets, NotSet, SetOn, storedOn, SetInTurn}
 use Rattle.promises.proofs.laws.OneCall.{call-sound}
 use Rattle.promises.proofs.laws.Runs.{run-sound}
-use Rattle.promises.proofs.laws.Views.{ViewGoes, refuses, formats, inserts, resets, removes, polls, wakes, counts, clears, call-goes, key-inserts}
+use Rattle.promises.proofs.laws.Views.{ViewGoes, refuses, formats, inserts, resets, removes, polls, wakes, counts, clears, call-goes, key-inserts, out-polls}
+use Rattle.promises.proofs.laws.TakesOut.{one-list, key-of-names, taken-out}
+use Rattle.promises.proofs.laws.Polling.{out-or-last, clock-before, none-before, placed-clock}
 use Rattle.promises.proofs.laws.KeysGone.{out-spent, remove-spent, spent-unnamed}
-use Rattle.promises.proofs.laws.KeysStay.{does-stays}
-use Rattle.promises.proofs.laws.KeysReach.{reaches-on, insert-reaches, reset-reaches, key-one}
+use Rattle.promises.proofs.laws.KeysStay.{Stays, does-stays}
+use Rattle.promises.proofs.laws.KeysReach.{reaches-on, key-one}
 use Rattle.promises.proofs.laws.Outs.{does-was, emptied}
-use Rattle.promises.proofs.laws.Queued.{Queued, goes-queued, queued-waits, insert-queued, reset-queued}
+use Rattle.promises.proofs.laws.Queued.{Queued, same-key, goes-queued, queued-waits, placed-queued}
 
 -- ---- a key that is named after a call which did not set it
 
@@ -43,45 +49,55 @@ module _ {s : QueueWords} (S : Sound s) where
   abbrev v : View
   v = view s
 
-  -- the call left its timer alone
-  spared-then : {c : Call} {x : Told} {u : View} → ViewGoes v c x u → (c ≡ C.Clear → (r p : ℕ) → At u r p → ⊥) → {k : ℕ}
-      → ((when : ℕ) → c ≡ C.Reset k when → x ≡ T.ok → ⊥) → {r p : ℕ} → Names u k r p
-      → (Aims k c → not (isNo x) ≡ false) × (Out k x → ⊥)
-  spared-then D none {k} res {r} {p} N = (
-    aims D none res N,
-    λ o. spent-unnamed (out-spent S D (o .4) .spent) r p N,
-  )
-    where
-      aims : {c : Call} {x : Told} {u : View} → ViewGoes v c x u → (c ≡ C.Clear → (r p : ℕ) → At u r p → ⊥) → {k : ℕ}
-          → ((when : ℕ) → c ≡ C.Reset k when → x ≡ T.ok → ⊥) → {r p : ℕ} → Names u k r p → Aims k c → not (isNo x) ≡ false
-      aims refuses none res N a = refl
-      aims (formats {n} {turn}) none res {r} {p} N a =
-          absurd (rw (change-other (λ q. []) free _ p (omega (arith, N .pending .timed))) at (N .pending .member))
-      aims (inserts e) none res N a = absurd a
-      aims (resets {when = when} M) none res N a = absurd (res when (ap (λ (n : ℕ). C.Reset n when) a) refl)
-      aims (removes M) none {k} res {r} {p} N a = absurd (spent-unnamed (remove-spent S (rw a at M)) r p N)
-      aims (polls h Q) none res N a = absurd a
-      aims (wakes W) none res N a = absurd a
-      aims counts none res N a = absurd a
-      aims (clears c) none res {r} {p} N a = absurd (none refl r p (N .pending))
+  -- the call did not take it away
+  aims-none : {c : Call} {x : Told} {u : View} → ViewGoes v c x u → (c ≡ C.Clear → (r p : ℕ) → At u r p → ⊥) → {k : ℕ}
+      → ((when : ℕ) → c ≡ C.Reset k when → x ≡ T.ok → ⊥) → {r p : ℕ} → Names u k r p → Aims k c → not (isNo x) ≡ false
+  aims-none refuses none res N a = refl
+  aims-none (formats {n} {turn}) none res {r} {p} N a =
+      absurd (rw (change-other (λ q. []) free _ p (omega (arith, N .pending .timed))) at (N .pending .member))
+  aims-none (inserts e) none res N a = absurd a
+  aims-none (resets {when = when} M) none res N a = absurd (res when (ap (λ (n : ℕ). C.Reset n when) a) refl)
+  aims-none (removes M) none {k} res {r} {p} N a = absurd (spent-unnamed (remove-spent S (rw a at M)) r p N)
+  aims-none (polls h Q) none res N a = absurd a
+  aims-none (wakes W) none res N a = absurd a
+  aims-none counts none res N a = absurd a
+  aims-none (clears c) none res {r} {p} N a = absurd (none refl r p (N .pending))
+
+  -- and did not hand it out: it would be gone, or set again
+  out-none : {c : Call} {x : Told} {u : View} → ViewGoes v c x u → {k : ℕ}
+      → ((now w d m n : ℕ) → c ≡ C.Poll now → x ≡ T.out k w d m n → 0 < v .period (numberIn k) → ⊥) → {r p : ℕ} → Names u k r p → Out k x → ⊥
+  out-none {x = x} D set-again {r} {p} N o =
+      let H = out-spent S D (o .4) in
+      let P = out-polls D (o .4) in
+      by-cases (ℕ-discrete (v .period (H .number)) 0) (λ z. spent-unnamed (H .spent (inl z)) r p N)
+      (λ z.
+      let more : 0 < v .period (numberIn _) = omega (arith, z, ap (v .period) (H .names .number)) in
+      ⊎-elim (λ e. set-again (P .0) _ _ _ _ (P .3) e more) (λ e. spent-unnamed (H .spent (inr (_, _, _, _, _, e))) r p N) (out-or-last x (o .4)))
 
 -- ---- over a run
 
 -- the key was named before the call, or the run, and its timer was left alone
-record Was (s : QueueWords) (k r : ℕ) (Spared : Type 0) : Type 0 where
-  place : ℕ
-  names : Names (view s) k r place
-  spared : Spared
+pub record Was (s : QueueWords) (k r : ℕ) (Spared : Type 0) : Type 0 where
+  pub place : ℕ
+  pub names : Names (view s) k r place
+  pub spared : Spared
 
-call-was : {s : QueueWords} → Sound s → (x : Asked) (t : QueueWords) → CallClaim (x .call) s (x .answer) t → {k : ℕ} → NotSet k x → {r p : ℕ}
+call-was : {s : QueueWords} → Sound s → (x : Asked) (t : QueueWords) → CallClaim (x .call) s (x .answer) t → {k : ℕ} → NotSet k s x t → {r p : ℕ}
     → Names (view t) k r p → Was s k r (Spares k x)
 call-was {s} S x t A {k} f N =
     let D = call-goes (x .call) s (x .answer) t S A in
     let none = emptied S x t A in
-    let b = ⊎-elim (λ e. let i = key-inserts D e in absurd (f (i .1) (inl (i .0, i .2, e)))) (λ M. M) (does-was S D none N) in
-    record { place = b .0; names = b .1; spared = spared-then S D none (λ when e y. f when (inr (e, y))) N }
+    let b = ⊎-elim (λ e. let i = key-inserts D e in absurd (f (i .1) (inl (i .0, i .2, i .3, e)))) (λ M. M) (does-was S D none N) in
+    record {
+      place = b .0;
+      names = b .1;
+      spared = (
+        aims-none S D none (λ when e y. f when (inr (inl (e, y)))) N,
+        out-none S D (λ now w d m n c e h. f (d + view s .period (numberIn k)) (inr (inr (now, w, d, m, n, c, e, h, refl)))) N,
+      );
+    }
 
-run-was : {s t : QueueWords} {l : List Asked} → Sound s → Runs s l t → {k : ℕ} → All (NotSet k) l → {r p : ℕ} → Names (view t) k r p
+pub run-was : {s t : QueueWords} {l : List Asked} → Sound s → (R : Runs s l t) → {k : ℕ} → Each (NotSet k) R → {r p : ℕ} → Names (view t) k r p
     → Was s k r (All (Spares k) l)
 run-was S rest f {p = p} N = record { place = p; names = N; spared = tt }
 run-was S (next {s} {t} {x = x} A R) f N =
@@ -114,42 +130,77 @@ run-expired {r = r} S N (next {s} {t} {x = x} A R) a =
 
 -- ---- a timer is set
 
-reset-names : {v : View} {k when : ℕ} {x : Told} {u : View} → ViewGoes v (C.Reset k when) x u → x ≡ T.ok → (r : ℕ) × (p : ℕ) × Names v k r p
-reset-names refuses z = let y : _≡_ {A = ℕ} 0 1 = cc in absurd (omega arith)
-reset-names (resets {r = r} {p = p} N) z = (r, p, N)
+-- its record is placed in the end; the clock stands, or the deadline lies past it before and after
+record PlacedAt (s : QueueWords) (k when : ℕ) (w : View) : Type 0 where
+  number : ℕ
+  before : View
+  is : w ≡ placed number when before
+  key : number ≡ numberIn k
+  clock : (before .elapsed ≡ elapsed s) ⊎ ((before .elapsed < when) × (elapsed s < when))
 
--- its key reaches it, with the deadline as stored
-set-reaches : {s t : QueueWords} {k : ℕ} → Sound s → (x : SetOn s k t) → (value : ℕ) × Reaches (view t) k value (storedOn x)
-set-reaches {s} {t} {k} S x = by (x .sets)
-  where
-    A : CallClaim (x .asked .call) s (x .asked .answer) t
-    A = x .claim
+module _ {s : QueueWords} (S : Sound s) where
+  insert-placed : {value when period k : ℕ} {x : Told} {w : View} → ViewGoes (view s) (C.Insert value when period) x w → x ≡ T.key k
+      → PlacedAt s k when w
+  insert-placed refuses z = let y : _≡_ {A = ℕ} 0 1 = cc in absurd (omega arith)
+  insert-placed {value} {period = period} {k} (inserts {r = i} {l = l} e) z =
+      let b = stack-laws.member-below (S .standing .whole .stack) free i (rw e (inl refl)) in
+      let q : keyOf (view s) i ≡ k = cc in
+      record {
+        number = i;
+        before = withPeriod (upd (view s .period) i period) (withValue (upd (view s .value) i value) (taken l (view s)));
+        is = refl;
+        key = omega (arith, q, b);
+        clock = inl refl;
+      }
 
-    by : Sets k (x .when) (x .asked) → (value : ℕ) × Reaches (view t) k value (storedOn x)
-    by (inl z) = (z .0, insert-reaches S (rw (z .1) at A) (z .2))
-    by (inr z) =
-        let B = rw (z .0) at A in
-        let b = reset-names (call-goes (C.Reset k (x .when)) s (x .asked .answer) t S B) (z .1) in
-        let R : Reaches (view s) k (view s .value (b .0)) (view s .deadline (b .0))
-        = record { number = b .0; place = b .1; names = b .2; value = refl; deadline = refl } in
-        (view s .value (b .0), reset-reaches S R B (z .1))
+  reset-placed : {k when : ℕ} {x : Told} {w : View} → ViewGoes (view s) (C.Reset k when) x w → x ≡ T.ok → PlacedAt s k when w
+  unfolding left
+  reset-placed refuses z = let y : _≡_ {A = ℕ} 0 1 = cc in absurd (omega arith)
+  reset-placed (resets {r = i} {p = p} M) z = record { number = i; before = left p i (view s); is = refl; key = M .number; clock = inl refl }
 
--- set where an equal waits, it stands behind it
-set-queued : {s t : QueueWords} {j k r p : ℕ} → Sound s → (x : SetOn s k t) → NotSet j (x .asked) → Names (view s) j r p
-    → p ≡ target (elapsed s) (storedOn x) → view s .deadline r ≡ storedOn x → Queued (view t) j k
-set-queued {s} {t} {j} {k} S x other N here equal = by (x .sets)
-  where
-    A : CallClaim (x .asked .call) s (x .asked .answer) t
-    A = x .claim
+  -- "places it at w plus period under the same key"
+  again-placed : {now i m n : ℕ} {u : View} {x : Told} {w : View} → elapsed s ≤ now → TakesOut (view s) now (some i) m n u
+      → GoesOn (view s) i m n u x w → {k v d m₁ n₁ : ℕ} → x ≡ T.out k v d m₁ n₁ → 0 < view s .period (numberIn k)
+      → PlacedAt s k (d + view s .period (numberIn k)) w
+  again-placed {i = i} h T (once f) {k} z more =
+      let q : keyOf (view s) i ≡ k = cc in
+      let same : i ≡ numberIn k = key-of-names S (taken-out S h T .out i refl .1) .number ∙ ap (λ j. numberIn j) q in
+      absurd (omega (arith, f, more, ap (view s .period) same))
+  again-placed {i = i} {u = u} h T (again f g) {k} {d = d} z more =
+      let a = taken-out S h T .out i refl in
+      let q : keyOf (view s) i ≡ k = cc in
+      let due : view s .deadline i ≡ d = cc in
+      let same : i ≡ numberIn k = key-of-names S (a .1) .number ∙ ap (λ j. numberIn j) q in
+      let when : view s .deadline i + view s .period i ≡ d + view s .period (numberIn k)
+      = omega (arith, due, ap (view s .period) same) in
+      record {
+        number = i;
+        before = u;
+        is = ap (λ n. placed i n u) when;
+        key = same;
+        clock = inr (
+          omega (arith, clock-before S h T, due, more),
+          omega (arith, none-before (view s) (S .rule) h i a, due, more),
+        );
+      }
+  again-placed h T (ended f g) z more = let y : _≡_ {A = ℕ} 0 1 = cc in absurd (omega arith)
 
-    w : ℕ
-    w = x .when
+  poll-placed : {now k v d m n : ℕ} {x : Told} {w : View} → ViewGoes (view s) (C.Poll now) x w → x ≡ T.out k v d m n
+      → 0 < view s .period (numberIn k) → PlacedAt s k (d + view s .period (numberIn k)) w
+  poll-placed refuses z more = let y : _≡_ {A = ℕ} 0 1 = cc in absurd (omega arith)
+  poll-placed (polls h (handed T G)) z more = again-placed h T G z more
+  poll-placed (polls h (nothing T)) z more = let y : _≡_ {A = ℕ} 0 1 = cc in absurd (omega arith)
 
-    by : Sets k w (x .asked) → Queued (view t) j k
-    by (inl z) = insert-queued S w N here equal (call-goes (C.Insert (z .0) w) s (x .asked .answer) t S (rw (z .1) at A)) (z .2)
-    by (inr z) =
-        let d : j ≢ k = λ y. other w (inr (z .0 ∙ ap (λ (n : ℕ). C.Reset n w) (sym y), z .1)) in
-        reset-queued S w N here equal (call-goes (C.Reset k w) s (x .asked .answer) t S (rw (z .0) at A)) d (z .1)
+  set-placed : {t : QueueWords} {k : ℕ} (x : SetOn s k t) → PlacedAt s k (x .when) (view t)
+  set-placed {t} {k} x = by (x .sets)
+    where
+      A : CallClaim (x .asked .call) s (x .asked .answer) t
+      A = x .claim
+
+      by : Sets s k (x .when) (x .asked) → PlacedAt s k (x .when) (view t)
+      by (inl z) = insert-placed (call-goes (C.Insert (z .0) (x .when) (z .1)) s (x .asked .answer) t S (rw (z .2) at A)) (z .3)
+      by (inr (inl z)) = reset-placed (call-goes (C.Reset k (x .when)) s (x .asked .answer) t S (rw (z .0) at A)) (z .1)
+      by (inr (inr z)) = rw (z .8) (poll-placed (call-goes (C.Poll (z .0)) s (x .asked .answer) t S (rw (z .5) at A)) (z .6) (z .7))
 
 target-wheel : (e w : ℕ) → e < w → target e w ≡ placeFor e w
 unfolding target
@@ -169,30 +220,9 @@ placed-in i when u h =
     let L = u .lists in
     rw (stacked h, change-same L expired (put expired i (L expired))) (put-mem expired i i (L expired) (inl refl))
 
--- set for a time that has come, it is on the expired stack
-set-stacked : {s t : QueueWords} {k r p : ℕ} → Sound s → (x : SetOn s k t) → x .when ≤ elapsed s → Names (view t) k r p
-    → Mem r (view t .lists expired)
-unfolding left
-set-stacked {s} {t} {k} {r} S x h N = by (x .sets)
-  where
-    A : CallClaim (x .asked .call) s (x .asked .answer) t
-    A = x .claim
-
-    inserted : {value : ℕ} {y : Told} {u : View} → ViewGoes (view s) (C.Insert value (x .when)) y u → y ≡ T.key k → Mem r (u .lists expired)
-    inserted refuses z = let y : _≡_ {A = ℕ} 0 1 = cc in absurd (omega arith)
-    inserted {value} (inserts {r = i} {l = l} e) z =
-        let b = stack-laws.member-below (S .standing .whole .stack) free i (rw e (inl refl)) in
-        let q : keyOf (view s) i ≡ k = cc in
-        let is : r ≡ i = omega (arith, q, b, N .number) in
-        rw is (placed-in i (x .when) (withValue (upd (view s .value) i value) (taken l (view s))) h)
-
-    reset : {y : Told} {u : View} → ViewGoes (view s) (C.Reset k (x .when)) y u → y ≡ T.ok → Mem r (u .lists expired)
-    reset refuses z = let y : _≡_ {A = ℕ} 0 1 = cc in absurd (omega arith)
-    reset (resets {r = i} {p = p} M) z = rw (N .number ∙ sym (M .number)) (placed-in i (x .when) (left p i (view s)) h)
-
-    by : Sets k (x .when) (x .asked) → Mem r (view t .lists expired)
-    by (inl z) = inserted (call-goes (C.Insert (z .0) (x .when)) s (x .asked .answer) t S (rw (z .1) at A)) (z .2)
-    by (inr z) = reset (call-goes (C.Reset k (x .when)) s (x .asked .answer) t S (rw (z .0) at A)) (z .1)
+placed-deadline : (i when : ℕ) (u : View) → placed i when u .deadline i ≡ max when (u .elapsed)
+unfolding placed
+placed-deadline i when u = upd-same (u .deadline) i (max when (u .elapsed))
 
 -- ---- what the customer asked for
 
@@ -225,49 +255,127 @@ module _ {s t u : QueueWords} {j k now : ℕ} {a : Answer} (S : Sound s) (I : Se
   waits : Was (I .set) j r (All (Spares j) (I .between))
   waits = run-was set-sound (I .then) (I .first-last .0) (meets .names)
 
-  -- so they cannot be queued
-  never-queued : Queued (view (I .both)) j k → ⊥
-  never-queued Q =
+  stays : Stays (view (I .later)) (view (I .both)) r
+  stays =
+      let x = I .second .asked in
+      does-stays later-sound (meets .names) (call-goes (x .call) (I .later) (x .answer) (I .both) later-sound (I .second .claim)) (meets .spared .0)
+      (meets .spared .1)
+
+  -- how each was placed
+  one : PlacedAt s j (I .first .when) (view (I .set))
+  one = set-placed S (I .first)
+
+  two : PlacedAt (I .later) k (I .second .when) (view (I .both))
+  two = set-placed later-sound (I .second)
+
+  -- where the second comes, and with the deadline that it gets, they would be queued, and cannot be
+  never-so : front .place ≡ target (two .before .elapsed) (max (I .second .when) (two .before .elapsed))
+      → view (I .both) .deadline r ≡ max (I .second .when) (two .before .elapsed) → ⊥
+  never-so here equal =
       queued-waits last-sound (run-queued both-sound Q (I .at-last) (front .spared) (back .spared))
       (call-goes (C.Poll now) t a u last-sound P) o
+    where
+      i : ℕ
+      i = two .number
 
-  abbrev w : ℕ
-  w = storedOn (I .second)
+      last : View
+      last = placed i (I .second .when) (two .before)
+
+      is : view (I .both) ≡ last
+      is = two .is
+
+      apart : r ≢ i
+      apart e =
+          let same : j ≡ k = same-key (front .names) (back .names) (e ∙ two .key) in
+          I .first-last .1 (I .second .when) (rw same (I .second .sets))
+
+      behind : Names (view (I .both)) k i (back .place)
+      behind = rw (two .key) (back .names)
+
+      Q : Queued (view (I .both)) j k
+      Q =
+          let due = sym (ap (λ v. v .deadline r) is) ∙ equal in
+          rw is (placed-queued i (I .second .when) (two .before) (rw is at (front .names)) (rw is at behind) apart due here)
+
+  same-clock : elapsed (I .both) ≡ two .before .elapsed
+  same-clock = ap (λ v. v .elapsed) (two .is) ∙ placed-clock (two .number) (I .second .when) (two .before)
 
   -- "among equal deadlines on the wheel the one placed first comes out first, a reset counting as a new placing": the timer of j is set, then that of k,
   -- with one deadline as stored, which lies past elapsed when that of k is set; then a poll that hands out k finds j no longer pending
-  pub first-set-first-out : storedOn (I .first) ≡ w → elapsed (I .later) < w → ⊥
-  first-set-first-out same late = never-queued (set-queued later-sound (I .second) (I .first-last .1) (meets .names) here equal)
+  pub first-set-first-out : storedOn (I .first) ≡ storedOn (I .second) → elapsed (I .later) < storedOn (I .second) → ⊥
+  first-set-first-out same late = never-so here equal
     where
-      R : (value : ℕ) × Reaches (view (I .later)) j value (storedOn (I .first))
-      R = let x = set-reaches S (I .first) in (x .0, reaches-on set-sound (x .1) (I .then) (waits .spared))
+      w : ℕ
+      w = storedOn (I .second)
 
-      equal : view (I .later) .deadline r ≡ w
-      equal = ap (view (I .later) .deadline) (key-one later-sound (meets .names) (R .1 .names) .0) ∙ R .1 .deadline ∙ same
+      e : ℕ
+      e = two .before .elapsed
 
-      m : At (view (I .later)) r (meets .place)
-      m = meets .names .pending
+      stored : max (I .second .when) e ≡ w
+      stored = ⊎-elim (λ y. omega arith) (λ y. omega arith) (two .clock)
 
-      away : meets .place ≢ expired
-      away = λ (z : meets .place ≡ expired). omega (arith, later-sound .rule .stack r (rw z at (m .member)), equal, late)
+      past : e < w
+      past = ⊎-elim (λ y. omega arith) (λ y. omega arith) (two .clock)
 
-      here : meets .place ≡ target (elapsed (I .later)) w
+      at-first : view (I .set) .deadline r ≡ storedOn (I .first)
+      at-first =
+          let is : r ≡ one .number = waits .names .number ∙ sym (one .key) in
+          let d : view (I .set) .deadline (one .number) ≡ max (I .first .when) (one .before .elapsed)
+          = ap (λ v. v .deadline (one .number)) (one .is) ∙ placed-deadline (one .number) (I .first .when) (one .before) in
+          let q : max (I .first .when) (one .before .elapsed) ≡ storedOn (I .first) = ⊎-elim (λ y. omega arith) (λ y. omega arith) (one .clock) in
+          ap (view (I .set) .deadline) is ∙ d ∙ q
+
+      kept : Reaches (view (I .later)) j (view (I .set) .value r) (view (I .set) .period r) (view (I .set) .deadline r)
+      kept =
+          reaches-on set-sound
+          (record { number = r; place = waits .place; names = waits .names; value = refl; period = refl; deadline = refl }) (I .then)
+          (waits .spared)
+
+      equal : view (I .both) .deadline r ≡ max (I .second .when) e
+      equal =
+          stays .deadline ∙ ap (view (I .later) .deadline) (key-one later-sound (meets .names) (kept .names) .0) ∙ kept .deadline ∙ at-first ∙ same
+          ∙ sym stored
+
+      m : At (view (I .both)) r (front .place)
+      m = front .names .pending
+
+      away : front .place ≢ expired
+      away = λ (z : front .place ≡ expired). omega (arith, both-sound .rule .stack r (rw z at (m .member)), equal, stored, past, same-clock)
+
+      here : front .place ≡ target e (max (I .second .when) e)
       here =
-          let h : meets .place < slots = omega (arith, away, m .timed) in
-          later-sound .rule .wheel (meets .place) r h (m .member) .place ∙ ap (placeFor (elapsed (I .later))) equal
-          ∙ sym (target-wheel (elapsed (I .later)) w late)
+          let h : front .place < slots = omega (arith, away, m .timed) in
+          let late-so : e < max (I .second .when) e = omega (arith, stored, past) in
+          both-sound .rule .wheel (front .place) r h (m .member) .place ∙ ap (placeFor (elapsed (I .both))) equal
+          ∙ ap (λ n. placeFor n (max (I .second .when) e)) same-clock ∙ sym (target-wheel e (max (I .second .when) e) late-so)
 
   -- and so on the expired stack: both were set for a time that had come
   pub expired-first-out : I .first .when ≤ elapsed s → I .second .when ≤ elapsed (I .later) → ⊥
-  expired-first-out one two = never-queued (set-queued later-sound (I .second) (I .first-last .1) on-stack (sym (stacked two)) equal)
+  expired-first-out come come-too = never-so here equal
     where
+      e : ℕ
+      e = two .before .elapsed
+
       on-stack : Names (view (I .later)) j r expired
       on-stack =
           let M = waits .names in
-          let m = set-stacked S (I .first) one M in
+          let h : I .first .when ≤ one .before .elapsed = ⊎-elim (λ y. omega arith) (λ y. omega arith) (one .clock) in
+          let is : r ≡ one .number = M .number ∙ sym (one .key) in
+          let m : Mem r (view (I .set) .lists expired)
+          = rw (is, ap (λ v. v .lists expired) (one .is)) (placed-in (one .number) (I .first .when) (one .before) h) in
           run-expired set-sound
           (record { number = M .number; below = M .below; pending = record { timed = omega arith; member = m }; turn = M .turn })
           (I .then) (waits .spared)
 
-      equal : view (I .later) .deadline r ≡ w
-      equal = omega (arith, later-sound .rule .stack r (on-stack .pending .member), two)
+      m : Mem r (view (I .both) .lists expired)
+      m = stays .expired (on-stack .pending .member)
+
+      here : front .place ≡ target e (max (I .second .when) e)
+      here =
+          let h : I .second .when ≤ e = ⊎-elim (λ y. omega arith) (λ y. omega arith) (two .clock) in
+          one-list both-sound r (front .place) expired (front .names .pending .member) m ∙ sym (stacked h)
+
+      equal : view (I .both) .deadline r ≡ max (I .second .when) e
+      equal =
+          let h : I .second .when ≤ e = ⊎-elim (λ y. omega arith) (λ y. omega arith) (two .clock) in
+          omega (arith, both-sound .rule .stack r m, same-clock)

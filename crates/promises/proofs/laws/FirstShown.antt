@@ -10,28 +10,28 @@ use Rattle.stack.specs.Places.{free, put}
 use Rattle.stack.specs.Format.{range}
 use Rattle.wheel.specs.Wheel.{Lists}
 use Rattle.queue.specs.declared.Answer.{Answer}
-use Rattle.queue.specs.Told.{told}
+use Rattle.queue.specs.Told.{told, handing}
 use Rattle.queue.specs.Told as T
-use Rattle.records.specs.View.{withValue, upd}
+use Rattle.records.specs.View.{withValue, upd, withPeriod}
 use Rattle.records.specs.Slices.{Fits}
 use Rattle.records.specs.Records.{keyOf, Takes, taken, target, placed}
 use Rattle.records.specs.Words.{QueueWords, words, elapsed, view, slices, Sound}
 use Rattle.queue.specs.Calls.{Answered}
 use Rattle.delay_queue.specs.declared.Call.the-variants as C
 use Rattle.delay_queue.specs.Claims.{CallClaim}
-use Rattle.promises.specs.Runs.{Asked, Runs, rest, next, All}
+use Rattle.promises.specs.Runs.{Asked, Runs, rest, next, Each}
 use Rattle.promises.specs.Keys.{asked}
 use Rattle.promises.specs.KeysStay.{Out}
 use Rattle.promises.specs.KeysReach.{Reaches}
-use Rattle.promises.specs.Polling.{SaysOut, HandsLeast, PollLeast}
+use Rattle.promises.specs.Polling.{IsPending, SaysOut, HandsLeast, PollLeast}
 use Rattle.promises.specs.First.{NotSet, storedOn, SetInTurn, SecondOut}
 use Rattle.promises.proofs.laws.Met.{format-met, insert-met, poll-met}
 use Rattle.promises.proofs.laws.OneCall.{call-sound}
-use Rattle.promises.proofs.laws.Polling.{key-of-names, poll-least, poll-clock}
-use Rattle.promises.proofs.laws.KeysOne.{target-timed}
+use Rattle.promises.proofs.laws.Polling.{none-out, target-timed, poll-least, poll-clock}
 use Rattle.promises.proofs.laws.KeysStay.{key-is}
 use Rattle.promises.proofs.laws.KeysReach.{reaches-on, insert-reaches}
 use Rattle.promises.proofs.laws.First.{first-set-first-out, expired-first-out}
+use Rattle.promises.proofs.laws.TakesOut.{key-of-names}
 
 -- ---- two records, freshly formatted
 
@@ -39,7 +39,7 @@ abbrev pair : List ℕ
 pair = 0 ∷ 0 ∷ []
 
 abbrev blank : QueueWords
-blank = words (record { elapsed = 0; occupied = []; stacks = record { n = 0; expired = 0; free = 0 } }) [] pair pair pair pair pair pair
+blank = words (record { elapsed = 0; occupied = []; stacks = record { n = 0; expired = 0; free = 0 } }) [] (0 ∷ 0 ∷ pair) pair pair pair pair pair
 
 fits : Fits (slices blank) 2
 fits =
@@ -79,10 +79,11 @@ fresh-two =
 
 module _ {s : QueueWords} (F : Fresh s) (when now : ℕ) (near : Takes 0 when) (due : when ≤ now) where
   -- the first
-  m₁ : (a : Answer) × (t : QueueWords) × CallClaim (C.Insert 7 when) s a t
-  m₁ = insert-met s 7 when
+  m₁ : (a : Answer) × (t : QueueWords) × CallClaim (C.Insert 7 when 0) s a t
+  m₁ = insert-met s 7 when 0
 
-  D₁ : Answered s (m₁ .0) (T.key (keyOf (view s) 0)) (placed 0 when (withValue (upd (view s .value) 0 7) (taken (1 ∷ []) (view s)))) (m₁ .1)
+  D₁ : Answered s (m₁ .0) (T.key (keyOf (view s) 0))
+      (placed 0 when (withPeriod (upd (view s .period) 0 0) (withValue (upd (view s .value) 0 7) (taken (1 ∷ []) (view s))))) (m₁ .1)
   D₁ = m₁ .2 .good (F .sound) .done 0 (1 ∷ []) (F .room) (rw (F .clock) near)
 
   size₁ : view (m₁ .1) .n ≡ 2
@@ -105,11 +106,11 @@ module _ {s : QueueWords} (F : Fresh s) (when now : ℕ) (near : Takes 0 when) (
   j = keyOf (view s) 0
 
   -- and the second
-  m₂ : (a : Answer) × (t : QueueWords) × CallClaim (C.Insert 8 when) (m₁ .1) a t
-  m₂ = insert-met (m₁ .1) 8 when
+  m₂ : (a : Answer) × (t : QueueWords) × CallClaim (C.Insert 8 when 0) (m₁ .1) a t
+  m₂ = insert-met (m₁ .1) 8 when 0
 
   D₂ : Answered (m₁ .1) (m₂ .0) (T.key (keyOf (view (m₁ .1)) 1))
-      (placed 1 when (withValue (upd (view (m₁ .1) .value) 1 8) (taken [] (view (m₁ .1))))) (m₂ .1)
+      (placed 1 when (withPeriod (upd (view (m₁ .1) .period) 1 0) (withValue (upd (view (m₁ .1) .value) 1 8) (taken [] (view (m₁ .1)))))) (m₂ .1)
   D₂ = m₂ .2 .good (D₁ .sound) .done 1 [] room₁ (rw clock₁ near)
 
   size₂ : view (m₂ .1) .n ≡ 2
@@ -126,39 +127,40 @@ module _ {s : QueueWords} (F : Fresh s) (when now : ℕ) (near : Takes 0 when) (
   apart : j ≢ k
   apart = omega arith
 
-  J : Reaches (view (m₂ .1)) j 7 (max when (elapsed s))
+  J : Reaches (view (m₂ .1)) j 7 0 (max when (elapsed s))
   J =
-      reaches-on (D₁ .sound) (insert-reaches (F .sound) (m₁ .2) (D₁ .told)) (next {x = asked (C.Insert 8 when) (m₂ .0)} (m₂ .2) rest) (
+      reaches-on (D₁ .sound) (insert-reaches (F .sound) (m₁ .2) (D₁ .told)) (next {x = asked (C.Insert 8 when 0) (m₂ .0)} (m₂ .2) rest) (
         (
           λ z. absurd z,
-          λ o. let y : T.key k ≡ T.out j (o .0) (o .1) (o .2) (o .3) = sym (D₂ .told) ∙ o .4 in
-              let z : _≡_ {A = ℕ} 0 1 = cc in omega arith,
+          λ o. none-out (ap handing (sym (D₂ .told)) ∙ o .4),
         ),
         tt,
       )
 
-  K : Reaches (view (m₂ .1)) k 8 (max when (elapsed (m₁ .1)))
+  K : Reaches (view (m₂ .1)) k 8 0 (max when (elapsed (m₁ .1)))
   K = insert-reaches (D₁ .sound) (m₂ .2) (D₂ .told)
 
-  -- a timer is set by an insert or a reset, and the second insert sets another
-  other : NotSet j (asked (C.Insert 8 when) (m₂ .0))
-  other w (inl z) = let e : T.key j ≡ T.key k = sym (z .2) ∙ D₂ .told in let q : j ≡ k = cc in apart q
-  other w (inr z) = let e = z .0 in let y : _≡_ {A = ℕ} 0 1 = cc in omega arith
+  -- the second insert sets another, and a poll sets nobody: they do not repeat
+  other : NotSet j (m₁ .1) (asked (C.Insert 8 when 0) (m₂ .0)) (m₂ .1)
+  other w (inl z) = let e : T.key j ≡ T.key k = sym (z .3) ∙ D₂ .told in let q : j ≡ k = cc in apart q
+  other w (inr (inl z)) = let e = z .0 in let y : _≡_ {A = ℕ} 0 1 = cc in omega arith
+  other w (inr (inr z)) = let e = z .5 in let y : _≡_ {A = ℕ} 0 1 = cc in omega arith
 
-  unset : (i : ℕ) (a : Answer) → NotSet i (asked (C.Poll now) a)
-  unset i a w (inl z) = let e = z .1 in let y : _≡_ {A = ℕ} 0 1 = cc in omega arith
-  unset i a w (inr z) = let e = z .0 in let y : _≡_ {A = ℕ} 0 1 = cc in omega arith
+  unset : {i x d : ℕ} → Reaches (view (m₂ .1)) i x 0 d → (a : Answer) (t : QueueWords) → NotSet i (m₂ .1) (asked (C.Poll now) a) t
+  unset R a t w (inl z) = let e = z .2 in let y : _≡_ {A = ℕ} 0 1 = cc in omega arith
+  unset R a t w (inr (inl z)) = let e = z .0 in let y : _≡_ {A = ℕ} 0 1 = cc in omega arith
+  unset R a t w (inr (inr z)) = omega (arith, z .7, R .period, ap (view (m₂ .1) .period) (R .names .number))
 
-  abbrev in-turn : {t : QueueWords} (l : List Asked) → Runs (m₂ .1) l t → All (NotSet j) l → All (NotSet k) l → SetInTurn s j k t
+  abbrev in-turn : {t : QueueWords} (l : List Asked) (R : Runs (m₂ .1) l t) → Each (NotSet j) R → Each (NotSet k) R → SetInTurn s j k t
   in-turn l R f g =
       record {
         set = m₁ .1;
         later = m₁ .1;
         both = m₂ .1;
-        first = record { when = when; asked = asked (C.Insert 7 when) (m₁ .0); sets = inl (7, refl, D₁ .told); claim = m₁ .2 };
+        first = record { when = when; asked = asked (C.Insert 7 when 0) (m₁ .0); sets = inl (7, 0, refl, D₁ .told); claim = m₁ .2 };
         between = [];
         then = rest;
-        second = record { when = when; asked = asked (C.Insert 8 when) (m₂ .0); sets = inl (8, refl, D₂ .told); claim = m₂ .2 };
+        second = record { when = when; asked = asked (C.Insert 8 when 0) (m₂ .0); sets = inl (8, 0, refl, D₂ .told); claim = m₂ .2 };
         after = l;
         at-last = R;
         first-last = (tt, other, f);
@@ -179,10 +181,10 @@ module _ {s : QueueWords} (F : Fresh s) (when now : ℕ) (near : Takes 0 when) (
     says : SaysOut (told (m₃ .0))
     says = fair .hands-out .1 (J .number, (J .place, J .names .pending), omega (arith, J .deadline, F .clock, due))
 
-    got : HandsLeast (view (m₂ .1)) now (says .0) (says .1) (says .2) (view (m₃ .1))
+    got : HandsLeast (view (m₂ .1)) now (says .0) (says .1) (says .2) (told (m₃ .0)) (view (m₃ .1))
     got = fair .out (says .0) (says .1) (says .2) (says .3) (says .4) (says .5)
 
-    K₃ : Reaches (view (m₃ .1)) k 8 (max when (elapsed (m₁ .1)))
+    K₃ : Reaches (view (m₃ .1)) k 8 0 (max when (elapsed (m₁ .1)))
     K₃ =
         reaches-on (D₂ .sound) K (next {x = asked (C.Poll now) (m₃ .0)} (m₃ .2) rest)
         ((λ z. absurd z, λ o. never (m₃ .0) (m₃ .1) (m₃ .2) o), tt)
@@ -199,7 +201,7 @@ module _ {s : QueueWords} (F : Fresh s) (when now : ℕ) (near : Takes 0 when) (
     says₄ : SaysOut (told (m₄ .0))
     says₄ = fair₄ .hands-out .1 (K₃ .number, (K₃ .place, K₃ .names .pending), omega (arith, K₃ .deadline, clock₁, due))
 
-    got₄ : HandsLeast (view (m₃ .1)) now (says₄ .0) (says₄ .1) (says₄ .2) (view (m₄ .1))
+    got₄ : HandsLeast (view (m₃ .1)) now (says₄ .0) (says₄ .1) (says₄ .2) (told (m₄ .0)) (view (m₄ .1))
     got₄ = fair₄ .out (says₄ .0) (says₄ .1) (says₄ .2) (says₄ .3) (says₄ .4) (says₄ .5)
 
     -- the first handed out is record 0, and so the second is record 1
@@ -208,11 +210,18 @@ module _ {s : QueueWords} (F : Fresh s) (when now : ℕ) (near : Takes 0 when) (
         let q : k ≡ says .0 = key-is (K .names) ∙ ap (keyOf (view (m₂ .1))) (sym e) ∙ sym (key-is (got .names)) in
         never (m₃ .0) (m₃ .1) (m₃ .2) (says .1, says .2, says .3, says .4, rw q (says .5))
 
+    first-gone : IsPending (view (m₃ .1)) (got .timer) → ⊥
+    first-gone =
+        let is : got .timer ≡ J .number = omega (arith, size₂, first-is, got .names .below, J .names .number, K .names .number) in
+        got .gone (inl (ap (view (m₂ .1) .period) is ∙ J .period)) .gone
+
     second-is : got₄ .timer ≡ K₃ .number
     second-is =
         let o = got .only (got₄ .timer) (got₄ .place, got₄ .names .pending) in
-        let b = key-of-names (D₂ .sound) (o .0 .1) .below in
-        omega (arith, b, size₂, o .1, first-is, got .names .below, K .names .number, K₃ .names .number)
+        let b = key-of-names (D₂ .sound) (o .1) .below in
+        let waits : IsPending (view (m₃ .1)) (got₄ .timer) = (got₄ .place, got₄ .names .pending) in
+        let d : got₄ .timer ≢ got .timer = λ e. first-gone (rw e at waits) in
+        omega (arith, b, size₂, d, first-is, got .names .below, K .names .number, K₃ .names .number)
 
     out₄ : Out k (told (m₄ .0))
     out₄ =
@@ -230,7 +239,7 @@ module _ {s : QueueWords} (F : Fresh s) (when now : ℕ) (near : Takes 0 when) (
           now = now;
           answer = m₄ .0;
           sound = F .sound;
-          run = in-turn (asked (C.Poll now) (m₃ .0) ∷ []) (next (m₃ .2) rest) (unset j (m₃ .0), tt) (unset k (m₃ .0), tt);
+          run = in-turn (asked (C.Poll now) (m₃ .0) ∷ []) (next (m₃ .2) rest) (unset J (m₃ .0) (m₃ .1), tt) (unset K (m₃ .0) (m₃ .1), tt);
           poll = m₄ .2;
           out = out₄;
         }

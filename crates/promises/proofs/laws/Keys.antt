@@ -11,7 +11,7 @@ use Rattle.queue.specs.declared.Answer.the-variants as A
 use Rattle.queue.specs.Told.{Told, told}
 use Rattle.queue.specs.Told as T
 use Rattle.records.specs.View.{View}
-use Rattle.records.specs.Records.{lastTurn, left, numberIn, turnIn, packed}
+use Rattle.records.specs.Records.{lastTurn, left, numberIn, turnIn, packed, Names}
 use Rattle.records.specs.Words.{QueueWords, view, Sound}
 use Rattle.records.proofs.laws.Words.{upd-same}
 use Rattle.delay_queue.specs.declared.Call.{Call}
@@ -29,6 +29,8 @@ use Rattle.promises.proofs.laws.KeysGone.{Given, Spent, given-onward, s
 use Rattle.promises.specs.KeysStay.{Out}
 use Rattle.promises.proofs.laws.KeysReach.{insert-reaches, key-removes}
 use Rattle.promises.specs.Keys.{Refuses, Leaves, cleared, polled, removed, Uses, asked, morning}
+use Rattle.promises.specs.Polling.{Finished}
+use Rattle.queue.proofs.laws.Calls.{names-one}
 
 -- ---- one call
 
@@ -43,7 +45,9 @@ module _ {s : QueueWords} (S : Sound s) {k : ℕ} where
   remove-left (removes N) z = remove-spent S N
 
   left-spent : (c : Call) (a : Answer) (t : QueueWords) → Leaves s k (told a) c → CallClaim c s a t → Spent (view t) k
-  left-spent c a t (polled {now} e) A = out-spent S (call-goes (C.Poll now) s a t S A) e .spent
+  left-spent c a t (polled {now} {r = r} {p = p} e N d) A =
+      let H = out-spent S (call-goes (C.Poll now) s a t S A) e in
+      H .spent (rw (names-one S N (H .names) .0) at d)
   left-spent c a t (removed e) A = remove-left (call-goes (C.Remove k) s a t S A) e
   left-spent c a t (cleared N) A = clear-spent S N A
 
@@ -67,28 +71,32 @@ module _ (P : Asked → Type 0) (I : View → Type 0) (r : ℕ) (stays : (v w : 
             (f .1),
       )
 
+-- a key that was given is not given again
+pub given-no-more : {s t : QueueWords} {l : List Asked} (k : ℕ) → Sound s → Given (view s) k → Runs s l t → NoFormat l
+    → All (λ x. told (x .answer) ≢ T.key k) l
+given-no-more k S G r f =
+    run-all (λ x. told (x .answer) ≢ T.key k) (λ v. Given v k) (numberIn k) (λ v w. given-onward) (λ z Z G x w D. given-kept Z D G) S G r f
+
 -- ---- what is promised
 
 module _ {s t u : QueueWords} {l : List Asked} {k : ℕ} (S : Sound s) where
-  module _ {value when : ℕ} {a : Answer} (I : CallClaim (C.Insert value when) s a t) (answer : told a ≡ T.key k) (r : Runs t l u)
+  module _ {value when period : ℕ} {a : Answer} (I : CallClaim (C.Insert value when period) s a t) (answer : told a ≡ T.key k) (r : Runs t l u)
       (f : NoFormat l) where
     after-insert : Sound t
-    after-insert = call-sound (C.Insert value when) s a t I S
+    after-insert = call-sound (C.Insert value when period) s a t I S
 
     given : Given (view t) k
     given = names-given after-insert (insert-reaches S I answer .names)
 
     -- "No key is given twice until the next format": no call of the run answers it again
     pub no-key-twice : All (λ x. told (x .answer) ≢ T.key k) l
-    no-key-twice =
-        run-all (λ x. told (x .answer) ≢ T.key k) (λ v. Given v k) (numberIn k) (λ v w. given-onward)
-        (λ z Z G x w D. given-kept Z D G) after-insert given r f
+    no-key-twice = given-no-more k after-insert given r f
 
     -- nor does an insert after it
-    pub no-key-after : {x w : ℕ} {b : Answer} {z : QueueWords} → CallClaim (C.Insert x w) u b z → told b ≢ T.key k
-    no-key-after {x} {w} {b} {z} B =
+    pub no-key-after : {x w q : ℕ} {b : Answer} {z : QueueWords} → CallClaim (C.Insert x w q) u b z → told b ≢ T.key k
+    no-key-after {x} {w} {q} {b} {z} B =
         let U = run-sound after-insert r in
-        given-kept U (call-goes (C.Insert x w) u b z U B) (given-onward (run-onward after-insert r f (numberIn k)) given)
+        given-kept U (call-goes (C.Insert x w q) u b z U B) (given-onward (run-onward after-insert r f (numberIn k)) given)
 
   module _ (c : Call) (a : Answer) (A : CallClaim c s a t) (L : Leaves s k (told a) c) (r : Runs t l u) (f : NoFormat l) where
     after-leave : Sound t
@@ -104,7 +112,7 @@ module _ {s t u : QueueWords} {l : List Asked} {k : ℕ} (S : Sound s) where
     -- "a dead key never changes a word until the next format"
     pub dead-key-changes-nothing : (d : Call) (b : Answer) (w : QueueWords) → Uses k d → CallClaim d u b w → w ≡ u
     dead-key-changes-nothing (C.Format n turn) b w h B = absurd h
-    dead-key-changes-nothing (C.Insert value when) b w h B = absurd h
+    dead-key-changes-nothing (C.Insert value when period) b w h B = absurd h
     dead-key-changes-nothing (C.Reset key when) b w h B =
         left-is-dead .reset when b w (rw h at B) .same
     dead-key-changes-nothing (C.Remove key) b w h B = left-is-dead .remove b w (rw h at B) .same
@@ -124,16 +132,15 @@ module _ {s t u : QueueWords} {l : List Asked} {k : ℕ} (S : Sound s) where
     pub dead-not-out : (d : Call) (b : Answer) (w : QueueWords) → CallClaim d u b w → Out k (told b) → ⊥
     dead-not-out d b w B o = let U = run-sound after-leave r in spent-kept U (call-goes d u b w U B) spent (o .4)
 
-module _ {s t u : QueueWords} {l : List Asked} {a : Answer} {now k : ℕ} (S : Sound s) (A : CallClaim (C.Poll now) s a t)
-    (o : Out k (told a)) (r : Runs t l u)
-    (f : NoFormat l) where
-  -- "over a run none comes out twice for one insert": a poll hands out k, and no call of the run does again
+module _ {s t u : QueueWords} {l : List Asked} {a : Answer} {now k i p : ℕ} (S : Sound s) (A : CallClaim (C.Poll now) s a t)
+    (o : Out k (told a)) (N : Names (view s) k i p) (d : Finished (view s) i (told a)) (r : Runs t l u) (f : NoFormat l) where
+  -- "over a run none comes out twice for one insert": a poll hands out k, which it does not set again, and no call of the run does so again
   pub out-once : All (λ x. Out k (told (x .answer)) → ⊥) l
-  out-once = dead-never-out S (C.Poll now) a A (polled (o .4)) r f
+  out-once = dead-never-out S (C.Poll now) a A (polled (o .4) N d) r f
 
   -- nor does a poll after it
   pub out-once-after : {later : ℕ} {b : Answer} {w : QueueWords} → CallClaim (C.Poll later) u b w → Out k (told b) → ⊥
-  out-once-after {later} {b} {w} B = dead-not-out S (C.Poll now) a A (polled (o .4)) r f (C.Poll later) b w B
+  out-once-after {later} {b} {w} B = dead-not-out S (C.Poll now) a A (polled (o .4) N d) r f (C.Poll later) b w B
 
 -- ---- such runs there are
 
@@ -155,13 +162,13 @@ dead-shown =
     let R : CallClaim (C.Remove 65536) (I .0) (A.Gone 7 70) (m .1) = subst (λ a. CallClaim (C.Remove 65536) (I .0) a (m .1)) e (m .2) in
     let S = call-sound (C.Remove 65536) (I .0) (A.Gone 7 70) (m .1) R (I .2) in
     let h = taken-next (call-goes (C.Remove 65536) (I .0) (A.Gone 7 70) (m .1) (I .2) R) refl (omega arith) in
-    let j = insert-met (m .1) 8 0 in
+    let j = insert-met (m .1) 8 0 0 in
     let g : told (j .0) ≡ T.key 131072
     = j .2 .good S .done 0 (h .0) (h .1) (λ z. absurd (omega arith)) .told ∙ ap (λ c. T.key (packed c 0)) (h .2) in
-    let J : CallClaim (C.Insert 8 0) (m .1) (A.Key 131072) (j .1)
-    = subst (λ a. CallClaim (C.Insert 8 0) (m .1) a (j .1)) (told-one (j .0) (A.Key 131072) g) (j .2) in
+    let J : CallClaim (C.Insert 8 0 0) (m .1) (A.Key 131072) (j .1)
+    = subst (λ a. CallClaim (C.Insert 8 0 0) (m .1) a (j .1)) (told-one (j .0) (A.Key 131072) g) (j .2) in
     let n = remove-met (j .1) 65536 in
-    let D = left-is-dead (I .2) (C.Remove 65536) (A.Gone 7 70) R (removed refl) (next {x = asked (C.Insert 8 0) (A.Key 131072)} J rest)
+    let D = left-is-dead (I .2) (C.Remove 65536) (A.Gone 7 70) R (removed refl) (next {x = asked (C.Insert 8 0 0) (A.Key 131072)} J rest)
     (refl, tt) in
     let f : n .0 ≡ A.No 6 = told-one (n .0) (A.No 6) (D .remove (n .0) (n .1) (n .2) .told) in
     let Q : CallClaim (C.Remove 65536) (j .1) (A.No 6) (n .1) = subst (λ a. CallClaim (C.Remove 65536) (j .1) a (n .1)) f (n .2) in

@@ -12,11 +12,11 @@ use Rattle.links.proofs.laws.Lists.{Nodup}
 use Rattle.stack.specs.Places.{free}
 use Rattle.stack.proofs.laws.Whole as stack-laws
 use Rattle.queue.specs.declared.Answer.{Answer}
-use Rattle.queue.specs.Told.{Told, Hands}
+use Rattle.queue.specs.Told.{Told, Hands, timer}
 use Rattle.queue.specs.Told as T
 use Rattle.records.specs.View.{View}
 use Rattle.records.specs.Records.{lastTurn, keyOf, At, Names, left, freed, numberIn, turnIn}
-use Rattle.queue.specs.Steps.{QueuePolls, handed, nothing}
+use Rattle.queue.specs.Steps.{QueuePolls, handed, nothing, GoesOn, once, again, ended}
 use Rattle.records.specs.Words.{QueueWords, count, view, Sound}
 use Rattle.records.proofs.laws.Words.{upd-same}
 use Rattle.queue.proofs.laws.Polls.{clear-done}
@@ -27,9 +27,10 @@ use Rattle.delay_queue.proofs.laws.Back.{taken-up}
 use Rattle.promises.proofs.laws.Met.{clear-first}
 use Rattle.promises.proofs.laws.Once.{clear-once}
 use Rattle.promises.proofs.laws.Views.{ViewGoes, refuses, inserts, call-goes, key-inserts, out-polls}
-use Rattle.promises.proofs.laws.Polling.{one-list, key-of-names}
-use Rattle.promises.proofs.laws.TakesOut.{moved-out, taken-out}
+use Rattle.promises.proofs.laws.TakesOut.{one-list, key-of-names, moved-out, taken-out}
 use Rattle.promises.proofs.laws.KeysOne.{Onward, freed-last, freed-more, does-onward}
+use Rattle.promises.specs.Polling.{Finished}
+use Rattle.promises.proofs.laws.Polling.{goes-on-says, none-out}
 
 -- the record r was given under the turn c: that turn is past, or r is no longer free
 pub record GivenAt (v : View) (c r : ℕ) : Type 0 where
@@ -112,26 +113,32 @@ module _ {s : QueueWords} (S : Sound s) where
   unfolding left
   remove-spent {i = i} {p = p} N = spent-by N (freed-spent i (left p i (view s)) (left-out S (N .pending)))
 
-  -- what a poll hands out was pending under its key
-  pub record HandsOut (k : ℕ) (w : View) : Type 0 where
+  -- what a poll hands out was pending under its key, and its key is spent if it is not set again
+  pub record HandsOut (k : ℕ) (x : Told) (w : View) : Type 0 where
     pub number : ℕ
     pub place : ℕ
     pub names : Names (view s) k number place
-    pub spent : Spent w k
+    pub spent : Finished (view s) number x → Spent w k
 
-  hands-out : {k i p : ℕ} {w : View} → At (view s) i p → k ≡ keyOf (view s) i → SpentAt w (view s .turn i) i → HandsOut k w
-  hands-out {k} {i} {p} {w} a e P =
-      rw e (let N = key-of-names S a in record { number = i; place = p; names = N; spent = spent-by N P })
+  hands-out : {k i p : ℕ} {x : Told} {w : View} → At (view s) i p → k ≡ keyOf (view s) i → (Finished (view s) i x → SpentAt w (view s .turn i) i)
+      → HandsOut k x w
+  hands-out {k} {i} {p} {x} {w} a e P =
+      rw e (let N = key-of-names S a in record { number = i; place = p; names = N; spent = λ d. spent-by N (P d) })
+
+  goes-spent : {i m n : ℕ} {u : View} {x : Told} {w : View} → u .turn i ≡ view s .turn i → ((q : ℕ) → Mem i (u .lists q) → ⊥)
+      → GoesOn (view s) i m n u x w → Finished (view s) i x → SpentAt w (view s .turn i) i
+  goes-spent {i} {u = u} t out (once z) d = rw (← t) (freed-spent i u out)
+  goes-spent t out (again p f) d = absurd (⊎-elim (λ z. omega arith) (λ y. let e = y .5 in let z : _≡_ {A = ℕ} 0 1 = cc in omega arith) d)
+  goes-spent {i} {u = u} t out (ended p f) d = rw (← t) (freed-spent i u out)
 
   poll-spent : {now : ℕ} {x : Told} {w : View} → view s .elapsed ≤ now → QueuePolls (view s) now x w → {k v d m n : ℕ} → Hands x k v d m n
-      → HandsOut k w
-  poll-spent h (handed {r = i} {u = u} T) {k} z =
+      → HandsOut k x w
+  poll-spent h (handed {r = i} {m} {n} {u} T G) {k} {v} {d} {m = m₁} {n = n₁} z =
       let O = taken-out S h T in
+      let e : timer (keyOf (view s) i) (view s .value i) (view s .deadline i) m n ≡ timer k v d m₁ n₁ = sym (goes-on-says G) ∙ z in
       let q : k ≡ keyOf (view s) i = cc in
-      let t : u .turn i ≡ view s .turn i = ap (λ f. f i) (O .turn) in
-      let a = O .out i refl in
-      hands-out (a .1) q (rw (← t) (freed-spent i u (O .gone i refl)))
-  poll-spent h (nothing T) z = let y : _≡_ {A = ℕ} 0 1 = cc in absurd (omega arith)
+      hands-out (O .out i refl .1) q (goes-spent (ap (λ f. f i) (O .turn)) (O .gone i refl) G)
+  poll-spent h (nothing T) z = absurd (none-out z)
 
   -- ---- clear
 
@@ -159,7 +166,7 @@ spent-unnamed {v} {k} P r p N =
     P .gone (ap (v .turn) (sym (N .number)) ∙ N .turn) p (rw (N .number) at (N .pending))
 
 module _ {s : QueueWords} (S : Sound s) {k : ℕ} where
-  insert-new : Given (view s) k → {value when : ℕ} {x : Told} {w : View} → ViewGoes (view s) (C.Insert value when) x w → x ≢ T.key k
+  insert-new : Given (view s) k → {value when period : ℕ} {x : Told} {w : View} → ViewGoes (view s) (C.Insert value when period) x w → x ≢ T.key k
   insert-new G refuses z = let y : _≡_ {A = ℕ} 0 1 = cc in omega arith
   insert-new G (inserts {r = i} e) z =
       let h = stack-laws.member-below (S .standing .whole .stack) free i (rw e (inl refl)) in
@@ -171,11 +178,11 @@ module _ {s : QueueWords} (S : Sound s) {k : ℕ} where
   module _ {c : Call} {x : Told} {w : View} (D : ViewGoes (view s) c x w) where
     -- a key that was given is not answered
     pub given-kept : Given (view s) k → x ≢ T.key k
-    given-kept G z = insert-new G (rw (key-inserts D z .2) at D) z
+    given-kept G z = insert-new G (rw (key-inserts D z .3) at D) z
 
     module _ {v d m n : ℕ} where
       -- what is handed out was pending under its key
-      pub out-spent : Hands x k v d m n → HandsOut S k w
+      pub out-spent : Hands x k v d m n → HandsOut S k x w
       out-spent z = let p = out-polls D z in poll-spent S (p .1) (p .2) z
 
       -- one that is spent is not handed out

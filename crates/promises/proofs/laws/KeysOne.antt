@@ -16,10 +16,10 @@ use Rattle.stack.specs.Places.{free, put}
 use Rattle.wheel.specs.Wheel.{placeFor}
 use Rattle.wheel.proofs.laws.Sums.{mem-joined, mem-left}
 use Rattle.queue.specs.Told.{Told}
-use Rattle.records.specs.View.{View, withElapsed, withValue, upd}
+use Rattle.records.specs.View.{View, withElapsed, withValue, upd, withPeriod}
 use Rattle.records.specs.Records.{lastTurn, At, taken, left, target, placed, freed}
 use Rattle.queue.proofs.laws.Polls.{left-less}
-use Rattle.queue.specs.Steps.{QueuePolls, handed, nothing, Clears, begun, kept, gave}
+use Rattle.queue.specs.Steps.{QueuePolls, handed, nothing, Clears, begun, kept, gave, GoesOn, once, again, ended}
 use Rattle.records.specs.Words.{QueueWords, view, Sound}
 use Rattle.records.proofs.laws.Words.{upd-same, upd-other}
 use Rattle.delay_queue.specs.declared.Call.{Call}
@@ -28,6 +28,7 @@ use Rattle.promises.specs.Runs.{isFormat}
 use Rattle.promises.proofs.laws.Views.{ViewGoes, refuses, formats, inserts, resets, removes, polls, wakes, counts, clears}
 use Rattle.promises.proofs.laws.TakesOut.{TakenOut, taken-out}
 use Rattle.promises.specs.KeysOne.{raised}
+use Rattle.promises.proofs.laws.Polling.{target-timed}
 
 -- from v to w the turn of r does not fall; and if it stays, r is free only if it was, and pending only if it was free or pending
 pub record Onward (v w : View) (r : ℕ) : Type 0 where
@@ -88,12 +89,6 @@ freed-onward i v r =
               inr (p, record { timed = a .timed; member = m });
         }
 
-pub target-timed : (e w : ℕ) → target e w < free
-unfolding target placeFor
-target-timed e w =
-    by-cases (ℕ-discrete w e) (λ z. rw (eq-eqb w e z) (omega arith))
-    (λ z. rw (ne-eqb w e z) (omega (arith, slot-lt w (levelOf e w), level-is e w .within)))
-
 -- a record that was free or pending is placed
 placed-onward : (i when : ℕ) (v u : View) → Mem i (v .lists free) ⊎ ((q : ℕ) × At v i q) → (r : ℕ) → Onward v u r
     → Onward v (placed i when u) r
@@ -122,7 +117,13 @@ taken-onward {v} {u} T r =
 
 module _ {s : QueueWords} (S : Sound s) where
   poll-onward : {now : ℕ} {x : Told} {w : View} → view s .elapsed ≤ now → QueuePolls (view s) now x w → (r : ℕ) → Onward (view s) w r
-  poll-onward h (handed {r = i} {u = u} T) r = onward-then (taken-onward (taken-out S h T) r) (freed-onward i u r)
+  poll-onward h (handed {r = i} {u = u} T G) r = let O = taken-out S h T in goes-onward (O .out i refl) (taken-onward O r) G
+    where
+      goes-onward : {i m n : ℕ} {u : View} {x : Told} {w : View} → (q : ℕ) × At (view s) i q → Onward (view s) u r → GoesOn (view s) i m n u x w
+          → Onward (view s) w r
+      goes-onward {i} {u = u} a O (once z) = onward-then O (freed-onward i u r)
+      goes-onward {i} {u = u} a O (again p f) = placed-onward i (view s .deadline i + view s .period i) (view s) u (inr a) r O
+      goes-onward {i} {u = u} a O (ended p f) = onward-then O (freed-onward i u r)
   poll-onward h (nothing T) r = taken-onward (taken-out S h T) r
 
 clears-onward : {v : View} {k : ℕ} {w : View} → Clears v k w → (r : ℕ) → Onward v w r
@@ -137,8 +138,8 @@ pub does-onward : {s : QueueWords} → Sound s → {c : Call} {x : Told} {w : Vi
     → Onward (view s) w r
 does-onward {s} S refuses f r = onward-same (view s) r
 does-onward S formats f r = absurd (true≢false f)
-does-onward {s} S (inserts {value} {when} {r = i} {l = l} e) f r =
-    let u = withValue (upd (view s .value) i value) (taken l (view s)) in
+does-onward {s} S (inserts {value} {when} {period} {r = i} {l = l} e) f r =
+    let u = withPeriod (upd (view s .period) i period) (withValue (upd (view s .value) i value) (taken l (view s))) in
     placed-onward i when (view s) u (inl (rw e (inl refl))) r
     (less-onward (view s) u r refl (λ q m. mem-left (view s .lists) free i l e q r m))
 does-onward {s} S (resets {when = when} {r = i} {p = p} N) f r =

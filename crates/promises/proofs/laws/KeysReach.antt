@@ -10,9 +10,9 @@ use Rattle.stack.specs.Places.{free}
 use Rattle.stack.proofs.laws.Whole as stack-laws
 use Rattle.wheel.proofs.laws.Sums.{put-mem}
 use Rattle.queue.specs.declared.Answer.{Answer}
-use Rattle.queue.specs.Told.{Told, told, Hands}
+use Rattle.queue.specs.Told.{Told, told, Hands, handing}
 use Rattle.queue.specs.Told as T
-use Rattle.records.specs.View.{View, withValue, upd}
+use Rattle.records.specs.View.{View, withValue, upd, withPeriod}
 use Rattle.records.specs.Records.{keyOf, At, Names, taken, left, target, placed, numberIn, turnIn}
 use Rattle.queue.proofs.laws.Calls.{names-one}
 use Rattle.queue.specs.Steps.{QueuePolls}
@@ -24,16 +24,16 @@ use Rattle.promises.proofs.laws.OneCall.{call-sound}
 use Rattle.promises.specs.Runs.{Asked, Runs, rest, next, All}
 use Rattle.promises.proofs.laws.Runs.{run-sound}
 use Rattle.promises.proofs.laws.Views.{ViewGoes, refuses, inserts, resets, polls, call-goes}
-use Rattle.promises.proofs.laws.KeysOne.{target-timed}
-use Rattle.promises.proofs.laws.Polling.{key-of-names, saysOf, Fairly, Polled, poll-works, none-out}
+use Rattle.promises.proofs.laws.Polling.{target-timed, saysOf, Fairly, Polled, poll-works, none-out}
 use Rattle.promises.proofs.laws.KeysStay.{Stays, does-stays}
 use Rattle.promises.specs.KeysReach.{Reaches, Spares}
+use Rattle.promises.proofs.laws.TakesOut.{key-of-names}
 
 -- ---- one call
 
 -- the record of k, placed
 placed-reaches : (u : View) (i when : ℕ) {k : ℕ} → i ≡ numberIn k → i < u .n → u .turn i ≡ turnIn k
-    → Reaches (placed i when u) k (u .value i) (max when (u .elapsed))
+    → Reaches (placed i when u) k (u .value i) (u .period i) (max when (u .elapsed))
 unfolding placed
 placed-reaches u i when number below turn =
     let w = max when (u .elapsed) in
@@ -51,41 +51,44 @@ placed-reaches u i when number below turn =
         turn = turn;
       };
       value = refl;
+      period = refl;
       deadline = upd-same (u .deadline) i w;
     }
 
 module _ {s : QueueWords} (S : Sound s) where
-  insert-does : {value when : ℕ} {x : Told} {w : View} → ViewGoes (view s) (C.Insert value when) x w → {k : ℕ} → x ≡ T.key k
-      → Reaches w k value (max when (elapsed s))
+  insert-does : {value when period : ℕ} {x : Told} {w : View} → ViewGoes (view s) (C.Insert value when period) x w → {k : ℕ} → x ≡ T.key k
+      → Reaches w k value period (max when (elapsed s))
   insert-does refuses z = let y : _≡_ {A = ℕ} 0 1 = cc in absurd (omega arith)
-  insert-does {value} {when} (inserts {r = i} {l = l} e) {k} z =
+  insert-does {value} {when} {period} (inserts {r = i} {l = l} e) {k} z =
       let h = stack-laws.member-below (S .standing .whole .stack) free i (rw e (inl refl)) in
       let q : k ≡ keyOf (view s) i = cc in
-      let u = withValue (upd (view s .value) i value) (taken l (view s)) in
+      let u = withPeriod (upd (view s .period) i period) (withValue (upd (view s .value) i value) (taken l (view s))) in
       let number : i ≡ numberIn k = omega arith in
       let turn : view s .turn i ≡ turnIn k = omega arith in
-      subst (λ x. Reaches (placed i when u) k x (max when (elapsed s))) (upd-same (view s .value) i value)
-      (placed-reaches u i when number h turn)
+      subst (λ x. Reaches (placed i when u) k x period (max when (elapsed s))) (upd-same (view s .value) i value)
+      (subst (λ x. Reaches (placed i when u) k (upd (view s .value) i value i) x (max when (elapsed s))) (upd-same (view s .period) i period)
+      (placed-reaches u i when number h turn))
 
-  reset-does : {k when : ℕ} {x : Told} {w : View} → ViewGoes (view s) (C.Reset k when) x w → x ≡ T.ok → {y d : ℕ} → Reaches (view s) k y d
-      → Reaches w k y (max when (elapsed s))
+  reset-does : {k when : ℕ} {x : Told} {w : View} → ViewGoes (view s) (C.Reset k when) x w → x ≡ T.ok → {y q d : ℕ} → Reaches (view s) k y q d
+      → Reaches w k y q (max when (elapsed s))
   unfolding left
   reset-does refuses z R = let y : _≡_ {A = ℕ} 0 1 = cc in absurd (omega arith)
-  reset-does {k} {when} (resets {r = i} {p = p} N) z {y} R =
-      let e : view s .value i ≡ y = cc in
-      subst (λ x. Reaches (placed i when (left p i (view s))) k x (max when (elapsed s))) e
-      (placed-reaches (left p i (view s)) i when (N .number) (N .below) (N .turn))
+  reset-does {k} {when} (resets {r = i} {p = p} N) z {y} {q} R =
+      let j : i ≡ R .number = N .number ∙ sym (R .names .number) in
+      let e : view s .value i ≡ y = ap (view s .value) j ∙ R .value in
+      let f : view s .period i ≡ q = ap (view s .period) j ∙ R .period in
+      rw (← e, ← f) (placed-reaches (left p i (view s)) i when (N .number) (N .below) (N .turn))
 
   -- what is handed out under the key is the record that the key names
-  pub poll-tells : {now : ℕ} {x : Told} {w : View} → view s .elapsed ≤ now → QueuePolls (view s) now x w → {k y d v e m n : ℕ}
-      → Reaches (view s) k y d
+  pub poll-tells : {now : ℕ} {x : Told} {w : View} → view s .elapsed ≤ now → QueuePolls (view s) now x w → {k y q d v e m n : ℕ}
+      → Reaches (view s) k y q d
       → Hands x k v e m n → (v ≡ y) × (e ≡ d)
-  poll-tells {now} {x} {w} h Q {k} {y} {d} {v} {e} R z = by (P .got) (P .is) (P .fair)
+  poll-tells {now} {x} {w} h Q {k} {y} {d = d} {v} {e} R z = by (P .got) (P .is) (P .by .fair)
     where
       P : Polled (view s) now x w
       P = poll-works (view s) (S .rule) h Q
 
-      by : (o : Option ℕ) → x ≡ saysOf (view s) o (P .moves) (P .drains) → Fairly (view s) now o → (v ≡ y) × (e ≡ d)
+      by : (o : Option ℕ) → handing x ≡ saysOf (view s) o (P .moves) (P .drains) → Fairly (view s) now o → (v ≡ y) × (e ≡ d)
       by none is f = absurd (none-out (sym is ∙ z))
       by (some i) is f =
           let q : k ≡ keyOf (view s) i = cc in
@@ -94,13 +97,13 @@ module _ {s : QueueWords} (S : Sound s) where
           let j : i ≡ R .number = (rw (← q) at (key-of-names S (f .0 .1) .number)) ∙ sym (R .names .number) in
           (a ∙ ap (view s .value) j ∙ R .value, b ∙ ap (view s .deadline) j ∙ R .deadline)
 
-  out-does : {now : ℕ} {x : Told} {w : View} → ViewGoes (view s) (C.Poll now) x w → {k y d v e m n : ℕ} → Reaches (view s) k y d
+  out-does : {now : ℕ} {x : Told} {w : View} → ViewGoes (view s) (C.Poll now) x w → {k y q d v e m n : ℕ} → Reaches (view s) k y q d
       → Hands x k v e m n
       → (v ≡ y) × (e ≡ d)
   out-does refuses R z = let y : _≡_ {A = ℕ} 0 1 = cc in absurd (omega arith)
   out-does (polls h Q) R z = poll-tells h Q R z
 
-pub stays-reaches : {v w : View} {k x d : ℕ} (R : Reaches v k x d) → Stays v w (R .number) → Reaches w k x d
+pub stays-reaches : {v w : View} {k x q d : ℕ} (R : Reaches v k x q d) → Stays v w (R .number) → Reaches w k x q d
 stays-reaches {v} {w} {k} R Y =
     let N = R .names in
     let b = Y .waits (R .place) (N .pending) in
@@ -109,6 +112,7 @@ stays-reaches {v} {w} {k} R Y =
       place = b .0;
       names = record { number = N .number; below = omega arith; pending = b .1; turn = Y .turn ∙ N .turn };
       value = Y .value ∙ R .value;
+      period = Y .period ∙ R .period;
       deadline = Y .deadline ∙ R .deadline;
     }
 
@@ -129,40 +133,40 @@ module _ {s : QueueWords} (S : Sound s) where
       )
 
   -- the key that an insert answers reaches what was inserted: "Insert and reset first raise the deadline to elapsed if it is smaller"
-  pub insert-reaches : {t : QueueWords} {value when k : ℕ} {a : Answer} → CallClaim (C.Insert value when) s a t → told a ≡ T.key k
-      → Reaches (view t) k value (max when (elapsed s))
-  insert-reaches {t} {value} {when} {a = a} A e = insert-does S (call-goes (C.Insert value when) s a t S A) e
+  pub insert-reaches : {t : QueueWords} {value when period k : ℕ} {a : Answer} → CallClaim (C.Insert value when period) s a t → told a ≡ T.key k
+      → Reaches (view t) k value period (max when (elapsed s))
+  insert-reaches {t} {value} {when} {period} {a = a} A e = insert-does S (call-goes (C.Insert value when period) s a t S A) e
 
   -- "A reset .. keeps its key": it reaches the same value, with the new deadline
-  pub reset-reaches : {t : QueueWords} {when k x d : ℕ} {a : Answer} → Reaches (view s) k x d → CallClaim (C.Reset k when) s a t
+  pub reset-reaches : {t : QueueWords} {when k x q d : ℕ} {a : Answer} → Reaches (view s) k x q d → CallClaim (C.Reset k when) s a t
       → told a ≡ T.ok
-      → Reaches (view t) k x (max when (elapsed s))
+      → Reaches (view t) k x q (max when (elapsed s))
   reset-reaches {t} {when} {k} {a = a} R A e = reset-does S (call-goes (C.Reset k when) s a t S A) e R
 
   -- a remove of the key answers the value and the deadline that it reaches: "`gone value deadline`"
-  pub remove-tells : {t : QueueWords} {k x d : ℕ} {a : Answer} → Reaches (view s) k x d → CallClaim (C.Remove k) s a t → told a ≡ T.gone x d
+  pub remove-tells : {t : QueueWords} {k x q d : ℕ} {a : Answer} → Reaches (view s) k x q d → CallClaim (C.Remove k) s a t → told a ≡ T.gone x d
   remove-tells R A = A .good S .done (R .number) (R .place) (R .names) .told ∙ rw (R .value, R .deadline)
 
   -- and a poll that hands out the key says them: "`out key value deadline moves drains`"
-  pub out-tells : {t : QueueWords} {now k x d v e m n : ℕ} {a : Answer} → Reaches (view s) k x d → CallClaim (C.Poll now) s a t
+  pub out-tells : {t : QueueWords} {now k x q d v e m n : ℕ} {a : Answer} → Reaches (view s) k x q d → CallClaim (C.Poll now) s a t
       → Hands (told a) k v e m n
       → (v ≡ x) × (e ≡ d)
   out-tells {t} {now} {a = a} R A z = out-does S (call-goes (C.Poll now) s a t S A) R z
 
 -- it goes on reaching it over any run that leaves the timer alone
-pub reaches-on : {s t : QueueWords} {l : List Asked} {k x d : ℕ} → Sound s → Reaches (view s) k x d → Runs s l t → All (Spares k) l
-    → Reaches (view t) k x d
+pub reaches-on : {s t : QueueWords} {l : List Asked} {k x q d : ℕ} → Sound s → Reaches (view s) k x q d → Runs s l t → All (Spares k) l
+    → Reaches (view t) k x q d
 reaches-on S R rest a = R
 reaches-on S R (next {s} {t} {x = x} c r) a =
     reaches-on (call-sound (x .call) s (x .answer) t c S)
     (stays-reaches R (does-stays S (R .names) (call-goes (x .call) s (x .answer) t S c) (a .0 .0) (a .0 .1))) r (a .1)
 
-module _ {s t u : QueueWords} {value when k : ℕ} {a : Answer} {l : List Asked} (S : Sound s) (I : CallClaim (C.Insert value when) s a t)
+module _ {s t u : QueueWords} {value when period k : ℕ} {a : Answer} {l : List Asked} (S : Sound s) (I : CallClaim (C.Insert value when period) s a t)
     (answer : told a ≡ T.key k) (r : Runs t l u) (spared : All (Spares k) l) where
   -- a pending timer's key reaches that timer: after any run that leaves it alone, the key names it, with the value and the deadline of the insert
-  pub key-reaches : Reaches (view u) k value (max when (elapsed s))
-  key-reaches = reaches-on (call-sound (C.Insert value when) s a t I S) (insert-reaches S I answer) r spared
+  pub key-reaches : Reaches (view u) k value period (max when (elapsed s))
+  key-reaches = reaches-on (call-sound (C.Insert value when period) s a t I S) (insert-reaches S I answer) r spared
 
   -- so a remove of the key answers what was inserted
   pub key-removes : {b : Answer} {w : QueueWords} → CallClaim (C.Remove k) u b w → told b ≡ T.gone value (max when (elapsed s))
-  key-removes B = remove-tells (run-sound (call-sound (C.Insert value when) s a t I S) r) key-reaches B
+  key-removes B = remove-tells (run-sound (call-sound (C.Insert value when period) s a t I S) r) key-reaches B

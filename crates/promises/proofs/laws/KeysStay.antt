@@ -4,25 +4,25 @@ use mathlib.Core.Logic.{_≢_, inl, inr, ⊎-elim}
 use mathlib.Core.Bool.{false, not, true≢false}
 use mathlib.Core.List.{List, _∷_}
 use mathlib.Core.Option.{Option}
-use Prim.Native.Nat.{ℕ, _≤_, max}
+use Prim.Native.Nat.{ℕ, _≤_, max, _+_}
 use native.Mathlib.Omega.{arith}
 use Rattle.links.specs.Lists.{Mem, without, change}
 use Rattle.links.proofs.laws.Lists.{change-other}
 use Rattle.stack.specs.Places.{expired, free}
 use Rattle.wheel.proofs.laws.Sums.{mem-kept, put-mem}
-use Rattle.queue.specs.Told.{Told}
+use Rattle.queue.specs.Told.{Told, timer}
 use Rattle.queue.specs.Told as T
-use Rattle.records.specs.View.{View, withLists, withValue, upd}
+use Rattle.records.specs.View.{View, withLists, withValue, upd, withPeriod}
 use Rattle.records.specs.Records.{keyOf, At, Names, taken, left, target, placed, freed}
-use Rattle.queue.specs.Steps.{QueuePolls, handed, nothing}
+use Rattle.queue.specs.Steps.{QueuePolls, handed, nothing, GoesOn, once, again, ended}
 use Rattle.records.specs.Words.{QueueWords, view, Sound}
 use Rattle.records.proofs.laws.Words.{upd-other}
 use Rattle.records.proofs.laws.Inner.{mem-other}
 use Rattle.delay_queue.specs.declared.Call.{Call}
 use Rattle.promises.specs.OneCall.{isNo}
 use Rattle.promises.proofs.laws.Views.{ViewGoes, refuses, formats, inserts, resets, removes, polls, wakes, counts, clears}
-use Rattle.promises.proofs.laws.Polling.{Other, one-list, freed-beside}
-use Rattle.promises.proofs.laws.TakesOut.{TakenOut, taken-out}
+use Rattle.promises.proofs.laws.Polling.{freed-beside, goes-on-says}
+use Rattle.promises.proofs.laws.TakesOut.{Other, one-list, TakenOut, taken-out}
 use Rattle.promises.specs.KeysStay.{Aims, Out}
 
 -- a key is its record's number and turn
@@ -36,12 +36,13 @@ pub record Stays (v w : View) (r : ℕ) : Type 0 where
   pub n : w .n ≡ v .n
   pub turn : w .turn r ≡ v .turn r
   pub value : w .value r ≡ v .value r
+  pub period : w .period r ≡ v .period r
   pub deadline : w .deadline r ≡ v .deadline r
   pub waits : (p : ℕ) → At v r p → (q : ℕ) × At w r q
   pub expired : Mem r (v .lists expired) → Mem r (w .lists expired)
 
 stays-same : (v : View) (r : ℕ) → Stays v v r
-stays-same v r = record { n = refl; turn = refl; value = refl; deadline = refl; waits = λ p a. (p, a); expired = λ m. m }
+stays-same v r = record { n = refl; turn = refl; value = refl; period = refl; deadline = refl; waits = λ p a. (p, a); expired = λ m. m }
 
 stays-then : {u v w : View} {r : ℕ} → Stays u v r → Stays v w r → Stays u w r
 stays-then A B =
@@ -49,6 +50,7 @@ stays-then A B =
       n = B .n ∙ A .n;
       turn = B .turn ∙ A .turn;
       value = B .value ∙ A .value;
+      period = B .period ∙ A .period;
       deadline = B .deadline ∙ A .deadline;
       waits = λ p a. let b = A .waits p a in B .waits (b .0) (b .1);
       expired = λ m. B .expired (A .expired m);
@@ -61,6 +63,7 @@ stays-lists v p l r h =
       n = refl;
       turn = refl;
       value = refl;
+      period = refl;
       deadline = refl;
       waits = λ q a. (q, record { timed = a .timed; member = mem-kept (v .lists) p l q r h (a .member) });
       expired = λ m. mem-kept (v .lists) p l expired r h m;
@@ -77,6 +80,7 @@ stays-freed i v r d =
       n = B .size;
       turn = B .turn r d;
       value = rw (B .value);
+      period = rw (B .period);
       deadline = rw (B .deadline);
       waits = λ q a. (q, record { timed = a .timed; member = rw (B .lists q (a .timed)) (a .member) });
       expired = λ m. rw (B .lists expired (omega arith)) m;
@@ -91,6 +95,7 @@ stays-placed i when v r d =
       n = refl;
       turn = refl;
       value = refl;
+      period = refl;
       deadline = upd-other (v .deadline) i w r d;
       waits = λ q a. (
         q,
@@ -103,13 +108,14 @@ stays-placed i when v r d =
       expired = λ m. mem-kept (v .lists) p _ expired r (λ n. put-mem p i r (v .lists p) (inr n)) m;
     }
 
-stays-taken : (v : View) {i : ℕ} {l : List ℕ} (value : ℕ) → v .lists free ≡ i ∷ l → (r : ℕ) → r ≢ i
-    → Stays v (withValue (upd (v .value) i value) (taken l v)) r
-stays-taken v {i} {l} value e r d =
+stays-taken : (v : View) {i : ℕ} {l : List ℕ} (value period : ℕ) → v .lists free ≡ i ∷ l → (r : ℕ) → r ≢ i
+    → Stays v (withPeriod (upd (v .period) i period) (withValue (upd (v .value) i value) (taken l v))) r
+stays-taken v {i} {l} value period e r d =
     record {
       n = refl;
       turn = refl;
       value = upd-other (v .value) i value r d;
+      period = upd-other (v .period) i period r d;
       deadline = refl;
       waits = λ q a. (
         q,
@@ -128,6 +134,7 @@ stays-taken-out T r d =
       n = T .size;
       turn = ap (λ f. f r) (T .turn);
       value = ap (λ f. f r) (T .value);
+      period = ap (λ f. f r) (T .period);
       deadline = ap (λ f. f r) (T .deadline);
       waits = T .stays r d;
       expired = T .expired r d;
@@ -140,23 +147,28 @@ module _ {s : QueueWords} (S : Sound s) {k r p : ℕ} (N : Names (view s) k r p)
   other-record : {key i q : ℕ} → Names (view s) key i q → key ≢ k → r ≢ i
   other-record {key} {i} M d e = d (omega (arith, ap (view s .turn) e))
 
-  not-handed : (i : ℕ) {x y m n : ℕ} → (Out k (T.out (keyOf (view s) i) x y m n) → ⊥) → r ≢ i
-  not-handed i {x} {y} {m} {n} out e = out (x, y, m, n, ap (λ j. T.out j x y m n) (ap (keyOf (view s)) (sym e) ∙ sym (key-is N)))
+  not-handed : (i : ℕ) {x y m n : ℕ} → (timer (keyOf (view s) i) x y m n ≡ timer k x y m n → ⊥) → r ≢ i
+  not-handed i {x} {y} {m} {n} out e = out (ap (λ j. timer j x y m n) (ap (keyOf (view s)) (sym e) ∙ sym (key-is N)))
 
   poll-stays : {now : ℕ} {x : Told} {w : View} → view s .elapsed ≤ now → QueuePolls (view s) now x w → (Out k x → ⊥)
       → Stays (view s) w r
-  poll-stays h (handed {r = i} {u = u} T) out =
-      let d : r ≢ i = not-handed i out in
-      stays-then (stays-taken-out (taken-out S h T) r d) (stays-freed i u r d)
+  poll-stays h (handed {r = i} {u = u} T G) out =
+      let d : r ≢ i = not-handed i (λ e. out (_, _, _, _, goes-on-says G ∙ e)) in
+      stays-then (stays-taken-out (taken-out S h T) r d) (stays-on d G)
+    where
+      stays-on : {i m n : ℕ} {u : View} {x : Told} {w : View} → r ≢ i → GoesOn (view s) i m n u x w → Stays u w r
+      stays-on {i} {u = u} d (once z) = stays-freed i u r d
+      stays-on {i} {u = u} d (again p f) = stays-placed i (view s .deadline i + view s .period i) u r d
+      stays-on {i} {u = u} d (ended p f) = stays-freed i u r d
   poll-stays h (nothing T) out = stays-taken-out (taken-out S h T) r tt
 
   pub does-stays : {c : Call} {x : Told} {w : View} → ViewGoes (view s) c x w → (Aims k c → not (isNo x) ≡ false) → (Out k x → ⊥)
       → Stays (view s) w r
   does-stays refuses aims out = stays-same (view s) r
   does-stays formats aims out = absurd (true≢false (aims tt))
-  does-stays (inserts {value} {when} {r = i} {l = l} e) aims out =
+  does-stays (inserts {value} {when} {period} {r = i} {l = l} e) aims out =
       let d : r ≢ i = λ z. omega (arith, one-list S i p free (rw z at (N .pending .member)) (rw e (inl refl))) in
-      stays-then (stays-taken (view s) value e r d) (stays-placed i when _ r d)
+      stays-then (stays-taken (view s) value period e r d) (stays-placed i when _ r d)
   does-stays (resets {when = when} {r = i} {p = q} M) aims out =
       let d : r ≢ i = other-record M (λ z. true≢false (aims z)) in
       stays-then (stays-left q i (view s) r d) (stays-placed i when (left q i (view s)) r d)

@@ -22,7 +22,7 @@ use Rattle.wheel.proofs.laws.Between.{rule-between, place-level}
 use Rattle.wheel.proofs.laws.Next.{slot-below, here-below, first-in, start-is, start-late, next-before, next-not-before, first-one, first-not-empty}
 use Rattle.wheel.proofs.laws.One.{Same, polls-one}
 use Rattle.queue.specs.declared.Answer.{Answer}
-use Rattle.queue.specs.Told.{Told, told}
+use Rattle.queue.specs.Told.{Told, told, handing}
 use Rattle.queue.specs.Told as T
 use Rattle.records.specs.View.{View, withElapsed, withLists}
 use Rattle.records.specs.Records.{At}
@@ -35,6 +35,7 @@ use Rattle.queue.proofs.laws.Polls.{pending-is}
 use Rattle.delay_queue.specs.Claims.{WakeClaim, LengthClaim, PollClaim}
 use Rattle.promises.specs.Polling.{IsPending}
 use Rattle.promises.specs.Looking.{OnSlot, WakesAt, NonePending, NextAt, Before, atTime, Idle, isPending}
+use Rattle.promises.proofs.laws.Polling.{none-out, goes-on-says}
 
 -- ---- the wheel's answer
 
@@ -158,10 +159,10 @@ idled v R = (rw (R .moves, R .drains), λ i. withElapsed (R .elapsed i) (withLis
 -- nothing to do, where the first slot starts past now: nothing but elapsed changes
 idle-before : {v : View} {now : ℕ} {x y : Told} {u : View} → v .lists expired ≡ [] → Wakes v x → QueuePolls v now y u → Before now x
     → (y ≡ T.none 0 0) × (u ≡ withElapsed now v)
-idle-before n W (handed (popped e)) f = let z : _≡_ {A = ℕ} 0 1 = cc in absurd (omega arith)
-idle-before n (sleeps E) (handed (polled e P)) f = absurd (Option·some-ne-none _ (polls-one P (idle E) .got))
+idle-before n W (handed (popped e) G) f = absurd (nil≢cons (sym n ∙ e))
+idle-before n (sleeps E) (handed (polled e P) G) f = absurd (Option·some-ne-none _ (polls-one P (idle E) .got))
 idle-before {v} n (sleeps E) (nothing (polled e P)) f = idled v (polls-one P (idle E))
-idle-before n (starts F) (handed (polled e P)) f = absurd (Option·some-ne-none _ (polls-one P (early F (f _ refl)) .got))
+idle-before n (starts F) (handed (polled e P) G) f = absurd (Option·some-ne-none _ (polls-one P (early F (f _ refl)) .got))
 idle-before {v} n (starts F) (nothing (polled e P)) f = idled v (polls-one P (early F (f _ refl)))
 
 -- and only there
@@ -174,8 +175,7 @@ idle-first (drain G l D r) g h F = absurd (omega arith)
 
 idle-only : {v : View} {now w : ℕ} {x y : Told} {u : View} → Wakes v x → QueuePolls v now y u → y ≡ T.none 0 0 → x ≡ T.wake w → now < w
 idle-only (sleeps E) P h e = let z : _≡_ {A = ℕ} 0 1 = cc in absurd (omega arith)
-idle-only (starts F) (handed (popped i)) h e = let z : _≡_ {A = ℕ} 0 1 = cc in absurd (omega arith)
-idle-only (starts F) (handed (polled i P)) h e = let z : _≡_ {A = ℕ} 0 1 = cc in absurd (omega arith)
+idle-only (starts F) (handed T G) h e = absurd (none-out (ap handing (sym h) ∙ goes-on-says G))
 idle-only {v} {w = w} (starts {k} {s} F) (nothing {m} {n} (polled i P)) h e =
     let z : n ≡ 0 = cc in
     let q : startAt (v .elapsed) k s ≡ w = cc in
@@ -188,7 +188,7 @@ idle-next h (at-once n) P f = absurd (omega (arith, h, f _ refl))
 idle-next h (from-wheel n W) P f = idle-before n W P f
 
 only-next : {v : View} {now : ℕ} {x y : Told} {u : View} → NextWake v x → QueuePolls v now y u → y ≡ T.none 0 0 → Before now x
-only-next (at-once n) (handed P) h w e = let z : _≡_ {A = ℕ} 0 1 = cc in absurd (omega arith)
+only-next (at-once n) (handed T G) h w e = absurd (none-out (ap handing (sym h) ∙ goes-on-says G))
 only-next (at-once n) (nothing (polled i P)) h w e = absurd (nil≢cons (sym i ∙ n))
 only-next (from-wheel n W) P h w e = idle-only W P h e
 

@@ -35,13 +35,15 @@ use Rattle.records.specs.Inner.{LooseAt, CanPlace, PlacesTo, CanFree, LeavesTo}
 use Rattle.records.proofs.laws.Inner.{place-push, place-insert, placed-now, placed-later, free-push, freed-last, freed-given}
 use Rattle.queue.proofs.laws.Calls.{insert-full, insert-refused, insert-place, insert-done, reset-dead, remove-dead, found-leaves, reset-refused, reset-place, reset-done, remove-frees, remove-done}
 use Rattle.queue.specs.Inner.{HandsOut, pendingIn, ClearsOne}
-use Rattle.queue.proofs.laws.Polls.{out-frees, out-done, poll-back, stack-loose, poll-popped, wheel-can, poll-none, wheel-loose, poll-handed, clear-stays, clear-leaves, clear-frees, clear-goes, ClearedSo, clear-none, clear-turn, clear-done}
+use Rattle.queue.proofs.laws.Polls.{out-frees, out-done, poll-back, stack-loose, poll-popped, wheel-can, poll-none, wheel-loose, poll-handed, clear-stays, clear-leaves, clear-frees, clear-goes, ClearedSo, clear-none, clear-turn, clear-done, out-last, out-again, out-places}
 use Rattle.delay_queue.specs.Claims.{FormatClaim, Judging, InsertClaim, ResetClaim, RemoveClaim, PollClaim, WakeClaim, LengthClaim, ClearClaim}
 use Rattle.delay_queue.proofs.laws.Back.{taken-up, length-done}
 use Rattle.delay_queue.proofs.laws.Format.{formats}
 use Rattle.records.proofs.laws.Cases.{by-key}
 use Rattle.promises.proofs.laws.Decided.{sound-dec, fits-dec, range-dec}
 use Rattle.promises.specs.Met.{Met}
+use Rattle.records.specs.Slices.{periodAt}
+use Rattle.records.proofs.laws.Again.{by-next}
 
 refuse : (k : ℕ) (s : QueueWords) → Refused k s (A.No k) s
 refuse k s = record { told = refl; same = refl }
@@ -64,7 +66,7 @@ format-met s n turn =
       queueWords
           (wheelWords 0 (replicate 6 0) (formatted n (s .wheel .stack .links .nexts) (s .wheel .stack .links .prevs)
           (s .wheel .stack .links .marks)))
-          (over n (λ i. 0) (s .values)) (over n (λ i. 0) (s .deadlines)) (over n (λ i. turn) (s .turns)),
+          (over (2 * n) (λ i. 0) (s .values)) (over n (λ i. 0) (s .deadlines)) (over n (λ i. turn) (s .turns)),
       record {
         short = λ f. absurd (f F);
         outside = λ G f. absurd (f T);
@@ -119,21 +121,21 @@ free-met {t} {ts} {i} C =
 
 -- ---- insert, reset, remove
 
-insert-on : {s : QueueWords} → Sound s → (value when : ℕ) → Met (InsertOn s value when)
-insert-on {s} S value when =
+insert-on : {s : QueueWords} → Sound s → (value when period : ℕ) → Met (InsertOn s value when period)
+insert-on {s} S value when period =
     by-cases (ℕ-discrete (s .wheel .stack .stacks .free) nobody)
-    (λ z. (A.No 3, s, insert-full S value when z))
+    (λ z. (A.No 3, s, insert-full S value when period z))
     (λ d.
     let D = deadline-met (elapsed s) when in
     by-cases (ℕ-discrete (D .0) 0)
     (λ z.
     let Q = pops-aside (S .standing .whole) free (headAt (s .wheel) free) refl refl (omega arith) in
-    let P = place-met (insert-place S value when d (D .1) z Q) in
-    (A.Key _, _, insert-done S value when d (D .1) z Q _ refl (P .2)))
-    (λ z. (A.No (D .0), s, insert-refused S value when d (D .1) z)))
+    let P = place-met (insert-place S value when period d (D .1) z Q) in
+    (A.Key _, _, insert-done S value when period d (D .1) z Q _ refl (P .2)))
+    (λ z. (A.No (D .0), s, insert-refused S value when period d (D .1) z)))
 
-pub insert-met : (s : QueueWords) (value when : ℕ) → Met (InsertClaim s value when)
-insert-met s value when = judging-met s (λ S. insert-on S value when)
+pub insert-met : (s : QueueWords) (value when period : ℕ) → Met (InsertClaim s value when period)
+insert-met s value when period = judging-met s (λ S. insert-on S value when period)
 
 reset-on : {s : QueueWords} → Sound s → (key when : ℕ) → Met (ResetOn s key when)
 reset-on {s} S key when =
@@ -354,9 +356,18 @@ module _ {t₀ : WheelWords} {ds : List ℕ} {now : ℕ} (C : CanPoll t₀ ds no
   wheel-met : Ended
   wheel-met = poll-loop (suc (heights (listsIn t₀))) t₀ 0 0 (poll-start C) (omega arith)
 
--- the record that was found is freed
+-- the record that was found is freed, or placed again
 out-met : {s : QueueWords} {i : ℕ} → SoundBut i s → LooseAt s i → (moves drains : ℕ) → Met (HandsOut s i moves drains)
-out-met S o moves drains = let F = free-met (out-frees S o) in (A.Out _ _ _ _ _, _, out-done S o moves drains (F .2) refl)
+out-met {s} {i} S o moves drains =
+    let F = free-met (out-frees S o) in
+    by-cases (ℕ-discrete (periodAt (s .values) i) 0)
+    (λ z. (A.Out _ _ _ _ _, _, out-done S o moves drains refl z (F .2)))
+    (λ d.
+    by-next
+    (λ f. (A.Last _ _ _ _ _, _, out-last S o moves drains refl d f (F .2)))
+    (λ f.
+    let P = place-met (out-places S o (refl, f)) in
+    (A.Out _ _ _ _ _, _, out-again S o moves drains refl d (refl, f) (P .2))))
 
 poll-on : {s : QueueWords} → Sound s → (time : ℕ) → Met (PollOn s time)
 poll-on {s} S time =

@@ -36,12 +36,12 @@ same-so R = (R .told, R .same)
 four-at : Holds (refused 0 68719476736 4)
 four-at s t a S e =
     let f : TooFar (elapsed s) 68719476736 = (omega arith, omega (arith, e)) in
-    (λ value r l g I. same-so (I .good S .far r l g f), λ key r p N I. same-so (I .good S .far r p N f))
+    (λ value period r l g I. same-so (I .good S .far r l g f), λ key r p N I. same-so (I .good S .far r p N f))
 
 five-at : Holds (refused 1 68719476736 5)
 five-at s t a S e =
     let f : OtherBlock (elapsed s) 68719476736 = (omega arith, omega (arith, e), rw e (λ z. omega arith)) in
-    (λ value r l g I. same-so (I .good S .other r l g f), λ key r p N I. same-so (I .good S .other r p N f))
+    (λ value period r l g I. same-so (I .good S .other r l g f), λ key r p N I. same-so (I .good S .other r p N f))
 
 -- ---- one timer on the wheel
 
@@ -123,7 +123,7 @@ placed-then v x e E =
       deadline = upd-same (v .deadline) x (max 4101 (v .elapsed)) ∙ rw e;
     }
 
-inserted : {s s′ : QueueWords} {a : Answer} {value : ℕ} → (Q : Quiet s 0) → InsertClaim s value 4101 a s′
+inserted : {s s′ : QueueWords} {a : Answer} {value period : ℕ} → (Q : Quiet s 0) → InsertClaim s value 4101 period a s′
     → Sound s′ × Inserted (view s′) (Q .item)
 inserted {s} {s′} {a} {value} Q I =
     let A = I .good (Q .sound) .done (Q .item) (Q .rest) (Q .first) (λ h. rw (Q .clock)) in (
@@ -141,11 +141,11 @@ wakes-one v x R (from-wheel e (starts {k} {s} F)) =
     rw (R .clock, q .0, q .1) refl
 
 wakes-then : Holds (wakes 0 4101 4096)
-wakes-then s s′ a b value Q I W = let R = inserted Q I in wakes-one (view s′) (Q .item) (R .1) (W .good (R .0) .done)
+wakes-then s s′ a b value period Q I W = let R = inserted Q I in wakes-one (view s′) (Q .item) (R .1) (W .good (R .0) .done)
 
 polls-so : (v : View) (x : ℕ) → Inserted v x → {y : Told} {u : View} → QueuePolls v 4096 y u → (y ≡ T.none 2 2) × (u .elapsed ≡ 4096)
-polls-so v x R (handed (popped e)) = absurd (nil≢cons (sym (R .stack) ∙ e))
-polls-so v x R (handed (polled e P)) = let A = one-polls (v .deadline) (R .deadline) (R .only) in
+polls-so v x R (handed (popped e) G) = absurd (nil≢cons (sym (R .stack) ∙ e))
+polls-so v x R (handed (polled e P) G) = let A = one-polls (v .deadline) (R .deadline) (R .only) in
     absurd (Option·some-ne-none _ (polls-one (rw (R .clock) at P) (A .1) .got))
 polls-so v x R (nothing (polled e P)) =
     let A = one-polls (v .deadline) (R .deadline) (R .only) in
@@ -153,7 +153,7 @@ polls-so v x R (nothing (polled e P)) =
     (rw (S .moves, S .drains), S .elapsed)
 
 polls-then : Holds (polls 0 4101 4096 2 2)
-polls-then s s′ s″ a b value Q I P =
+polls-then s s′ s″ a b value period Q I P =
     let R = inserted Q I in
     polls-so (view s′) (Q .item) (R .1) (P .good (R .0) .done (omega arith) .1)
 

@@ -1,25 +1,25 @@
 -- The moves that polls report: of one poll, the levels that the pending timers lost; of a run, at most five for each accepted insert or reset.
-use mathlib.Core.Path.{_≡_, refl, ap, _∙_}
-use mathlib.Core.Logic.{by-cases}
+use mathlib.Core.Path.{_≡_, refl, ap, _∙_, sym}
+use mathlib.Core.Logic.{by-cases, ⊎-elim, inl, inr, _≢_}
 use mathlib.Core.Bool.{not, _&&_, cond}
 use mathlib.Core.List.{List, [], _∷_}
 use Prim.Native.Nat.{ℕ, zero, suc, _+_, _*_, _≤_, max}
 use native.Mathlib.Decide.{ℕ-discrete, decLt}
 use native.Mathlib.Omega.{arith}
-use borrow.Author.Tests.{eq-eqb, ne-eqb}
-use Rattle.links.specs.Lists.{without, change}
+use borrow.Author.Tests.{eq-eqb, ne-eqb, lt-ltb, le-ltb}
+use Rattle.links.specs.Lists.{without, change, Mem}
 use Rattle.links.proofs.laws.Lists.{change-same, change-other}
 use Rattle.stack.specs.Places.{slots, free, put, levelAt}
 use Rattle.stack.specs.Format.{range}
 use Rattle.wheel.specs.Wheel.{Lists}
 use Rattle.wheel.specs.Sums.{sumOf, total}
-use Rattle.wheel.proofs.laws.Sums.{total-ext, total-more}
+use Rattle.wheel.proofs.laws.Sums.{total-ext, total-more, mem-joined}
 use Rattle.wheel.specs.Drain.{heights}
 use Rattle.queue.specs.declared.Answer.{Answer}
-use Rattle.queue.specs.Told.{Told, told}
-use Rattle.records.specs.View.{View, withValue, upd}
-use Rattle.records.specs.Records.{taken, left, target, placed, freed}
-use Rattle.queue.specs.Steps.{sleeps, starts, NextWake, at-once, from-wheel, Clears, begun, kept, gave}
+use Rattle.queue.specs.Told.{Told, told, timer}
+use Rattle.records.specs.View.{View, withValue, upd, withPeriod}
+use Rattle.records.specs.Records.{taken, left, target, placed, freed, At, keyOf, numberIn}
+use Rattle.queue.specs.Steps.{sleeps, starts, NextWake, at-once, from-wheel, Clears, begun, kept, gave, GoesOn, QueuePolls, TakesOut, nothing, once, again, handed, ended}
 use Rattle.records.specs.Words.{QueueWords, elapsed, view, Sound}
 use Rattle.queue.specs.Calls.{Answered}
 use Rattle.delay_queue.specs.declared.Call.{Call}
@@ -28,13 +28,14 @@ use Rattle.promises.specs.Does.{Does, refused, formatted, inserted, repl
 use Rattle.promises.proofs.laws.Does.{does}
 use Rattle.promises.specs.OneCall.{isNo}
 use Rattle.promises.proofs.laws.OneCall.{call-sound}
-use Rattle.promises.specs.Runs.{Asked, Runs, rest, next, isPlacing, tally, movesOf, moves}
-use Rattle.promises.proofs.laws.Polling.{freed-beside, poll-parts, poll-counts}
-
--- "The moves a poll reports are the heights before less the heights after": "Each poll reports as many moves as the pending timers lost in levels"
-pub moves-are-heights : {s : QueueWords} → Sound s → {now : ℕ} → elapsed s ≤ now → {a : Answer} {t : QueueWords} → PollClaim s now a t
-    → movesOf (told a) + heights (view t .lists) ≡ heights (view s .lists)
-moves-are-heights S h P = omega (arith, poll-counts S h P .0, poll-parts S h P .counted)
+use Rattle.promises.specs.Runs.{Asked, Runs, rest, next, isPlacing, tally, movesOf, moves, resetting, resettings}
+use Rattle.promises.proofs.laws.Polling.{freed-beside, poll-parts, poll-counts, takes-works, goes-on-counts, goes-on-says, none-out, no-last, placed-else}
+use Rattle.promises.specs.Polling.{Finished}
+use Rattle.promises.specs.Bounded.{heightAt, IsSetAgain}
+use Rattle.promises.proofs.laws.TakesOut.{key-of-names, taken-out}
+use mathlib.Core.Option.{some}
+use Rattle.promises.specs.KeysStay.{Out}
+use Rattle.promises.proofs.laws.Outs.{set-counts}
 
 -- ---- sums over lists that lose some
 
@@ -113,15 +114,131 @@ fresh-heights l =
 formatted-heights : {s : QueueWords} {n turn : ℕ} {a : Answer} {t : QueueWords} → Formatted s n turn a t → heights (view t .lists) ≡ 0
 formatted-heights {n = n} F = ap (λ v. heights (v .lists)) (F .view) ∙ fresh-heights (range n 0)
 
+-- ---- a poll
+
+-- what is placed adds the height of its place
+pub placed-rises : (r when : ℕ) (v : View)
+    → heights (placed r when v .lists) ≡ heights (v .lists) + heightAt (target (v .elapsed) (max when (v .elapsed)))
+unfolding placed heights
+placed-rises r when v =
+    let p = target (v .elapsed) (max when (v .elapsed)) in
+    by-cases (decLt p slots)
+    (λ h. rw (lt-ltb p slots h) (total-more (λ q x. levelAt q) slots (v .lists) p r h))
+    (λ h.
+    rw (le-ltb p slots (omega arith))
+    (omega (
+      arith,
+      total-ext (λ q x. levelAt q) slots (change (v .lists) p (put p r (v .lists p))) (v .lists)
+          (λ q k. change-other (v .lists) p (put p r (v .lists p)) q (omega arith)),
+    )))
+
+-- the record that is handed out is freed, and no height changes; or it is set again, and its height is added
+pub data Risen (v : View) (r : ℕ) (u : View) (x : Told) (w : View) : Type 0 where
+  stays : Finished v r x → heights (w .lists) ≡ heights (u .lists) → Risen v r u x w
+  rises : (Finished v r x → ⊥) → w ≡ placed r (v .deadline r + v .period r) u
+      → heights (w .lists) ≡ heights (u .lists) + heightAt (target (u .elapsed) (max (v .deadline r + v .period r) (u .elapsed))) → Risen v r u x w
+
+pub goes-on-heights : {v : View} {r m n : ℕ} {u : View} {x : Told} {w : View} → GoesOn v r m n u x w → Risen v r u x w
+goes-on-heights {r = r} {u = u} (once z) = stays (inl z) (freed-heights r u)
+goes-on-heights {v} {r} {u = u} (again p f) =
+    rises (⊎-elim (λ z. omega arith) (λ y. let e = y .5 in let z : _≡_ {A = ℕ} 0 1 = cc in omega arith)) refl
+    (placed-rises r (v .deadline r + v .period r) u)
+goes-on-heights {r = r} {u = u} (ended p f) = stays (inr (_, _, _, _, _, refl)) (freed-heights r u)
+
+-- who is in no list, and placed, lies where it is placed
+placed-at : {r q : ℕ} (when : ℕ) (u : View) → ((p : ℕ) → Mem r (u .lists p) → ⊥) → At (placed r when u) r q
+    → q ≡ target (u .elapsed) (max when (u .elapsed))
+unfolding placed
+placed-at {r} {q} when u out a =
+    ⊎-elim (λ z. z .0) (λ m. absurd (out q m)) (mem-joined (u .lists) (target (u .elapsed) (max when (u .elapsed))) r q r (a .member))
+
+-- who is set again is the one that is handed out
+set-is : {s : QueueWords} → Sound s → {r p m n y : ℕ} {u : View} {x : Told} {w : View} → At (view s) r p → GoesOn (view s) r m n u x w
+    → IsSetAgain (view s) x y → y ≡ r
+set-is {s} S {r} {p} {m} {n} {y} a G (k, v, d, m₁, n₁, z, e, f) =
+    let q : timer (keyOf (view s) r) (view s .value r) (view s .deadline r) m n ≡ timer k v d m₁ n₁ = sym (goes-on-says G) ∙ z in
+    let c : keyOf (view s) r ≡ k = cc in
+    e ∙ ap (λ i. numberIn i) (sym c) ∙ sym (key-of-names S a .number)
+
+-- "The moves a poll reports are the heights before less the heights after": "Each poll reports as many moves as the pending timers lost in levels", where the
+-- height of a timer that is set again is added after
+pub moves-are-heights : {s : QueueWords} → Sound s → {now : ℕ} → elapsed s ≤ now → {a : Answer} {t : QueueWords} → PollClaim s now a t
+    → (added : ℕ) × (movesOf (told a) + heights (view t .lists) ≡ heights (view s .lists) + added)
+    × (((y : ℕ) → IsSetAgain (view s) (told a) y → ⊥) → added ≡ 0) × ((y q : ℕ) → IsSetAgain (view s) (told a) y → At (view t) y q → added ≡ heightAt q)
+moves-are-heights {s} S {now} h {a} {t} P = of (P .good S .done h .1)
+  where
+    Adds : Told → View → Type 0
+    Adds x w =
+        (added : ℕ) × (movesOf x + heights (w .lists) ≡ heights (view s .lists) + added)
+        × (((y : ℕ) → IsSetAgain (view s) x y → ⊥) → added ≡ 0) × ((y q : ℕ) → IsSetAgain (view s) x y → At w y q → added ≡ heightAt q)
+
+    on : {r m n : ℕ} {u : View} {x : Told} {w : View} → TakesOut (view s) now (some r) m n u → GoesOn (view s) r m n u x w → Risen (view s) r u x w
+        → Adds x w
+    on {r} {u = u} {x = x} T G (stays d e) =
+        let O = taken-out S h T in (
+          0,
+          omega (arith, takes-works (view s) (S .rule) h T .counted, e, goes-on-counts G .0),
+          λ f. refl,
+          λ y q z c. absurd (z .7 (rw (set-is S (O .out r refl .1) G z) d)),
+        )
+    on {r} {u = u} {x = x} T G (rises d q e) =
+        let O = taken-out S h T in
+        let N = key-of-names S (O .out r refl .1) in
+        let o : IsSetAgain (view s) x r = (_, _, _, _, _, goes-on-says G, N .number, d) in
+        let added = heightAt (target (u .elapsed) (max (view s .deadline r + view s .period r) (u .elapsed))) in (
+          added,
+          omega (arith, takes-works (view s) (S .rule) h T .counted, e, goes-on-counts G .0),
+          λ f. absurd (f r o),
+          λ y p z c.
+              let is : y ≡ r = set-is S (O .out r refl .1) G z in
+              let there : At (placed r (view s .deadline r + view s .period r) u) r p = rw (← q, ← is) c in
+              ap (λ (j : ℕ). heightAt j) (sym (placed-at (view s .deadline r + view s .period r) u (O .gone r refl) there)),
+        )
+
+    of : {x : Told} {w : View} → QueuePolls (view s) now x w → Adds x w
+    of (nothing T) =
+        (0, omega (arith, takes-works (view s) (S .rule) h T .counted), λ f. refl, λ y q z c. absurd (none-out (z .5)))
+    of (handed T G) = on T G (goes-on-heights G)
+
+-- whoever is not set again keeps its deadline
+pub goes-deadline : {s : QueueWords} (S : Sound s) {now : ℕ} (h : elapsed s ≤ now) {r m n : ℕ} {u : View} {x : Told} {w : View}
+    → TakesOut (view s) now (some r) m n u → GoesOn (view s) r m n u x w → (y : ℕ) → (IsSetAgain (view s) x y → ⊥)
+    → w .deadline y ≡ view s .deadline y
+goes-deadline S h {r} {u = u} T (once z) y f = ap (λ g. g y) (freed-beside r u .deadline ∙ taken-out S h T .deadline)
+goes-deadline {s} S h {r} {m} {n} {u} T (again p g) y f =
+    let O = taken-out S h T in
+    let N = key-of-names S (O .out r refl .1) in
+    let more : y ≡ r → view s .period y ≡ 0 → ⊥ = λ e z. omega (arith, ap (view s .period) e, p) in
+    let d : y ≢ r = λ e. f (_, _, _, _, _, refl, e ∙ N .number, ⊎-elim (more e) no-last) in
+    placed-else r (view s .deadline r + view s .period r) u y d .0 ∙ ap (λ k. k y) (O .deadline)
+goes-deadline S h {r} {u = u} T (ended p g) y f = ap (λ k. k y) (freed-beside r u .deadline ∙ taken-out S h T .deadline)
+
+-- the moves are paid for by the heights lost, and five for a timer that is set again
+poll-paid : {s : QueueWords} → Sound s → {now : ℕ} → elapsed s ≤ now → {x : Told} {w : View} → QueuePolls (view s) now x w
+    → movesOf x + heights (w .lists) ≤ heights (view s .lists) + 5 * resetting s x
+poll-paid {s} S h (nothing T) = omega (arith, takes-works (view s) (S .rule) h T .counted)
+poll-paid {s} S h {x} {w} (handed {r} {m} {n} {u} T G) = by (goes-on-heights G)
+  where
+    B : m + heights (u .lists) ≡ heights (view s .lists)
+    B = takes-works (view s) (S .rule) h T .counted
+
+    by : Risen (view s) r u x w → movesOf x + heights (w .lists) ≤ heights (view s .lists) + 5 * resetting s x
+    by (stays d e) = omega (arith, B, e, goes-on-counts G .0)
+    by (rises d q e) =
+        let N = key-of-names S (taken-out S h T .out r refl .1) in
+        let o : Out (keyOf (view s) r) x = (_, _, _, _, goes-on-says G) in
+        rw (set-counts s x N o d)
+        (omega (arith, B, goes-on-counts G .0, ap (λ v. heights (v .lists)) q, placed-heights r (view s .deadline r + view s .period r) u))
+
 -- ---- one call
 
 -- an accepted insert or reset
 abbrev pays : Call → Told → ℕ
 pays c x = cond (isPlacing c && not (isNo x)) 1 0
 
--- the moves are paid for by the heights lost, and five for each accepted insert or reset
+-- the moves are paid for by the heights lost, and five for each accepted insert or reset and each timer that is set again
 abbrev Paid : QueueWords → Answer → QueueWords → Call → Type 0
-Paid s a t c = movesOf (told a) + heights (view t .lists) ≤ heights (view s .lists) + 5 * pays c (told a)
+Paid s a t c = movesOf (told a) + heights (view t .lists) ≤ heights (view s .lists) + 5 * (pays c (told a) + resetting s (told a))
 
 wakes-moves : {v : View} {x : Told} → NextWake v x → movesOf x ≡ 0
 wakes-moves (at-once e) = refl
@@ -142,28 +259,28 @@ module _ (s : QueueWords) (a : Answer) (t : QueueWords) where
   does-paid : (c : Call) → Sound s → Does s a t c → Paid s a t c
   does-paid c S (refused R) = same-paid c (R .same) (ap movesOf (R .told))
   does-paid c S (formatted F) = omega (arith, ap movesOf (F .told), formatted-heights F)
-  does-paid c S (inserted {value} {when} {r} {l} e n A) =
-      let v = withValue (upd (view s .value) r value) (taken l (view s)) in
+  does-paid c S (inserted {value} {when} {period} {r} {l} e n A) =
+      let v = withPeriod (upd (view s .period) r period) (withValue (upd (view s .value) r value) (taken l (view s))) in
       answered-paid c A refl (omega (arith, placed-heights r when v, taken-heights l (view s)))
   does-paid c S (replaced {key} {when} {r} {p} N n A) =
       answered-paid c A refl (omega (arith, placed-heights r when (left p r (view s)), left-heights p r (view s)))
   does-paid c S (removed {key} {r} {p} N A) =
       answered-paid c A refl (omega (arith, freed-heights r (left p r (view s)), left-heights p r (view s)))
-  does-paid c S (polled h P) = omega (arith, moves-are-heights S h P)
+  does-paid c S (polled h P) = omega (arith, poll-paid S h (P .good S .done h .1))
   does-paid c S (woke W e) = same-paid c e (wakes-moves W)
   does-paid c S (measured m e) = same-paid c e (ap movesOf m)
   does-paid c S (cleared K) = answered-paid c (K .done) refl (omega (arith, clears-heights (K .clears)))
 
 -- ---- a run
 
--- from any sound store: what is left of the heights and five for each accepted insert or reset pay for all moves
-pub run-paid : {s u : QueueWords} {l : List Asked} → Sound s → Runs s l u
-    → moves l + heights (view u .lists) ≤ heights (view s .lists) + 5 * tally isPlacing l
+-- from any sound store: what is left of the heights and five for each accepted insert or reset, a re-placing among them, pay for all moves
+pub run-paid : {s u : QueueWords} {l : List Asked} → Sound s → (R : Runs s l u)
+    → moves l + heights (view u .lists) ≤ heights (view s .lists) + 5 * (tally isPlacing l + resettings R)
 run-paid S rest = omega arith
 run-paid S (next {s} {t} {u} {x} {l} A R) =
     omega (arith, does-paid s (x .answer) t (x .call) S (does S (x .call) A), run-paid (call-sound (x .call) s (x .answer) t A S) R)
 
--- "over any run from a fresh store at most five moves for each accepted insert or reset"
-pub moves-bounded : {s t u : QueueWords} {n turn : ℕ} {a : Answer} {l : List Asked} → Formatted s n turn a t → Runs t l u
-    → moves l ≤ 5 * tally isPlacing l
+-- "over any run from a fresh store at most five moves for each accepted insert or reset", 02 [7]: "a re-placing counts as an insert"
+pub moves-bounded : {s t u : QueueWords} {n turn : ℕ} {a : Answer} {l : List Asked} → Formatted s n turn a t → (R : Runs t l u)
+    → moves l ≤ 5 * (tally isPlacing l + resettings R)
 moves-bounded F R = omega (arith, run-paid (F .sound) R, formatted-heights F)

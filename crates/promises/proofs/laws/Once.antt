@@ -2,7 +2,7 @@
 use mathlib.Core.Path.{_≡_, refl, sym, ap, _∙_, subst}
 use mathlib.Core.Logic.{by-cases}
 use mathlib.Core.List.{List, [], _∷_, nil≢cons}
-use mathlib.Core.Option.{Option·some-ne-none}
+use mathlib.Core.Option.{Option, some, Option·some-injective, Option·some-ne-none}
 use Prim.Native.Nat.{ℕ, _≤_, _<_}
 use native.Mathlib.Decide.{decLt}
 use native.Mathlib.Omega.{arith}
@@ -17,7 +17,7 @@ use Rattle.queue.specs.Told.{Told, told}
 use Rattle.queue.specs.Told as T
 use Rattle.records.specs.View.{View}
 use Rattle.records.specs.Records.{At, freed, left}
-use Rattle.queue.specs.Steps.{QueuePolls, polled, popped, handed, nothing, Wakes, sleeps, starts, NextWake, at-once, from-wheel, Clears, begun, kept, gave}
+use Rattle.queue.specs.Steps.{TakesOut, GoesOn, once, again, ended, QueuePolls, polled, popped, handed, nothing, Wakes, sleeps, starts, NextWake, at-once, from-wheel, Clears, begun, kept, gave}
 use Rattle.records.specs.Words.{QueueWords, words, count, elapsed, view, Sound, PastKept, Standing}
 use Rattle.records.proofs.laws.Words.{view-fixed}
 use Rattle.records.proofs.laws.Inner.{mark-at, left-size, placed-size, freed-size}
@@ -36,6 +36,7 @@ untold T.ok = A.Done
 untold (T.key k) = A.Key k
 untold (T.gone v d) = A.Gone v d
 untold (T.out k v d m n) = A.Out k v d m n
+untold (T.last k v d m n) = A.Last k v d m n
 untold (T.none m n) = A.Nothing m n
 untold (T.wake t) = A.Wake t
 untold T.never = A.NoWake
@@ -48,6 +49,7 @@ untold-told A.Done = refl
 untold-told (A.Key k) = refl
 untold-told (A.Gone v d) = refl
 untold-told (A.Out k v d m n) = refl
+untold-told (A.Last k v d m n) = refl
 untold-told (A.Nothing m n) = refl
 untold-told (A.Wake t) = refl
 untold-told A.NoWake = refl
@@ -120,8 +122,8 @@ judging-once {s} J K f = by-cases (sound-dec s) (λ S. f S (J .good S) (K .good 
 -- ---- insert, reset, remove
 
 module _ {s t t′ : QueueWords} {a a′ : Answer} where
-  module _ {value when : ℕ} where
-    insert-on : InsertOn s value when a t → InsertOn s value when a′ t′ → Same a t a′ t′
+  module _ {value when period : ℕ} where
+    insert-on : InsertOn s value when period a t → InsertOn s value when period a′ t′ → Same a t a′ t′
     insert-on C D = by (view s .lists free) refl
       where
         by : (l : List ℕ) → view s .lists free ≡ l → Same a t a′ t′
@@ -132,7 +134,7 @@ module _ {s t t′ : QueueWords} {a a′ : Answer} where
             (λ f. one-refusal (C .other r l e f) (D .other r l e f))
             (λ f. answered-once (placed-size r when _) (C .done r l e f) (D .done r l e f))
 
-    pub insert-once : InsertClaim s value when a t → InsertClaim s value when a′ t′ → (a ≡ a′) × (t ≡ t′)
+    pub insert-once : InsertClaim s value when period a t → InsertClaim s value when period a′ t′ → (a ≡ a′) × (t ≡ t′)
     insert-once C D = judging-once C D (λ S. insert-on)
 
   module _ {key when : ℕ} where
@@ -159,25 +161,45 @@ module _ {s t t′ : QueueWords} {a a′ : Answer} where
 
 -- ---- poll
 
--- what a poll hands out, and the view after it
-queue-polls-one : {v : View} {now : ℕ} {x y : Told} {u w : View} → QueuePolls v now x u → QueuePolls v now y w → (x ≡ y) × (u ≡ w)
-queue-polls-one {v} (handed (popped {r} {l} e)) (handed (popped {r = q} {l = k} f)) =
+-- what a poll takes out, and the view with it in no list
+record OneTaken (o : Option ℕ) (m n : ℕ) (u : View) (o′ : Option ℕ) (m′ n′ : ℕ) (u′ : View) : Type 0 where
+  got : o ≡ o′
+  moves : m ≡ m′
+  drains : n ≡ n′
+  view : u ≡ u′
+
+takes-one : {v : View} {now : ℕ} {got got′ : Option ℕ} {m n m′ n′ : ℕ} {u u′ : View} → TakesOut v now got m n u → TakesOut v now got′ m′ n′ u′
+    → OneTaken got m n u got′ m′ n′ u′
+takes-one {v} (popped {r} {l} e) (popped {r = q} {l = k} f) =
     let a : r ≡ q = cc in
     let b : l ≡ k = cc in
-    (rw a, rw (a, b))
-queue-polls-one (handed (popped e)) (handed (polled f P)) = absurd (nil≢cons (sym f ∙ e))
-queue-polls-one (handed (popped e)) (nothing (polled f P)) = absurd (nil≢cons (sym f ∙ e))
-queue-polls-one (handed (polled e P)) (handed (popped f)) = absurd (nil≢cons (sym e ∙ f))
-queue-polls-one {v} (handed {r} (polled e P)) (handed {r = q} (polled f Q)) =
+    record { got = ap some a; moves = refl; drains = refl; view = rw b }
+takes-one (popped e) (polled f P) = absurd (nil≢cons (sym f ∙ e))
+takes-one (polled e P) (popped f) = absurd (nil≢cons (sym e ∙ f))
+takes-one (polled e P) (polled f Q) =
     let S = polls-one P Q in
-    let a : r ≡ q = cc in
-    (rw (a, S .moves, S .drains), rw (a, S .elapsed, S .lists))
-queue-polls-one (handed (polled e P)) (nothing (polled f Q)) = absurd (Option·some-ne-none _ (polls-one P Q .got))
-queue-polls-one (nothing (polled e P)) (handed (popped f)) = absurd (nil≢cons (sym e ∙ f))
-queue-polls-one (nothing (polled e P)) (handed (polled f Q)) = absurd (Option·some-ne-none _ (polls-one Q P .got))
-queue-polls-one (nothing (polled e P)) (nothing (polled f Q)) =
-    let S = polls-one P Q in
-    (rw (S .moves, S .drains), rw (S .elapsed, S .lists))
+    record { got = S .got; moves = S .moves; drains = S .drains; view = rw (S .elapsed, S .lists) }
+
+-- what becomes of the record, and the answer
+goes-on-one : {v : View} {r m n : ℕ} {u : View} {x y : Told} {w w′ : View} → GoesOn v r m n u x w → GoesOn v r m n u y w′ → (x ≡ y) × (w ≡ w′)
+goes-on-one (once z) (once z′) = (refl, refl)
+goes-on-one (once z) (again p f) = absurd (omega arith)
+goes-on-one (once z) (ended p f) = absurd (omega arith)
+goes-on-one (again p f) (once z) = absurd (omega arith)
+goes-on-one (again p f) (again p′ f′) = (refl, refl)
+goes-on-one (again p f) (ended p′ g) = absurd (f g)
+goes-on-one (ended p f) (once z) = absurd (omega arith)
+goes-on-one (ended p f) (again p′ g) = absurd (g f)
+goes-on-one (ended p f) (ended p′ f′) = (refl, refl)
+
+queue-polls-one : {v : View} {now : ℕ} {x y : Told} {u w : View} → QueuePolls v now x u → QueuePolls v now y w → (x ≡ y) × (u ≡ w)
+queue-polls-one {v} (handed {r} T G) (handed {r = q} T′ G′) =
+    let O = takes-one T T′ in
+    let a : r ≡ q = Option·some-injective r q (O .got) in
+    goes-on-one G (rw (a, O .moves, O .drains, O .view) G′)
+queue-polls-one (handed T G) (nothing T′) = absurd (Option·some-ne-none _ (takes-one T T′ .got))
+queue-polls-one (nothing T) (handed T′ G′) = absurd (Option·some-ne-none _ (takes-one T′ T .got))
+queue-polls-one (nothing T) (nothing T′) = let O = takes-one T T′ in (rw (O .moves, O .drains), O .view)
 
 module _ {s t t′ : QueueWords} {a a′ : Answer} where
   module _ {time : ℕ} where

@@ -15,7 +15,7 @@ use Rattle.queue.specs.declared.Answer.the-variants as A
 use Rattle.queue.specs.Told.{Told, told}
 use Rattle.queue.specs.Told as T
 use Rattle.records.specs.View.{View}
-use Rattle.queue.specs.Steps.{QueuePolls, polled, popped, handed, nothing, sleeps, starts, NextWake, at-once, from-wheel}
+use Rattle.queue.specs.Steps.{QueuePolls, polled, popped, handed, nothing, sleeps, starts, NextWake, at-once, from-wheel, once, again, ended}
 use Rattle.records.specs.Words.{QueueWords, count, elapsed, view, Sound, slices, PastKept}
 use Rattle.records.proofs.laws.Words.{past-refl}
 use Rattle.queue.specs.Calls.{Answered, InsertOn, ResetOn, RemoveOn, PollOn}
@@ -35,7 +35,7 @@ use Rattle.promises.specs.OneCall.{reach, isNo, Ends, accepted, refused,
 pub call-once : (c : Call) (s : QueueWords) (a a′ : Answer) (t t′ : QueueWords) → CallClaim c s a t → CallClaim c s a′ t′
     → (a ≡ a′) × (t ≡ t′)
 call-once (C.Format n turn) s a a′ t t′ A B = format-once A B
-call-once (C.Insert value when) s a a′ t t′ A B = insert-once A B
+call-once (C.Insert value when period) s a a′ t t′ A B = insert-once A B
 call-once (C.Reset key when) s a a′ t t′ A B = reset-once A B
 call-once (C.Remove key) s a a′ t t′ A B = remove-once A B
 call-once (C.Poll now) s a a′ t t′ A B = poll-once A B
@@ -46,7 +46,7 @@ call-once C.Clear s a a′ t t′ A B = clear-once A B
 -- and there is such an answer, whatever the call and whatever is lent
 pub call-met : (c : Call) (s : QueueWords) → Met (CallClaim c s)
 call-met (C.Format n turn) s = format-met s n turn
-call-met (C.Insert value when) s = insert-met s value when
+call-met (C.Insert value when period) s = insert-met s value when period
 call-met (C.Reset key when) s = reset-met s key when
 call-met (C.Remove key) s = remove-met s key
 call-met (C.Poll now) s = poll-met s now
@@ -67,8 +67,9 @@ left-so : {s t : QueueWords} {a : Answer} → t ≡ s → Ends (count s) s a s �
 left-so {s} {t} {a} e E = rw e E
 
 pub polls-says : {v : View} {now : ℕ} {x : Told} {u : View} → QueuePolls v now x u → isNo x ≡ false
-polls-says (handed (popped e)) = refl
-polls-says (handed (polled e P)) = refl
+polls-says (handed T (once z)) = refl
+polls-says (handed T (again p f)) = refl
+polls-says (handed T (ended p f)) = refl
 polls-says (nothing (polled e P)) = refl
 
 pub wakes-says : {v : View} {x : Told} → NextWake v x → isNo x ≡ false
@@ -89,7 +90,7 @@ module _ {s t : QueueWords} {a : Answer} where
       (λ f. refused 8 (F .outside x f)))
       (λ f. refused 1 (F .short f))
 
-  insert-ends : {value when : ℕ} → InsertOn s value when a t → Ends (count s) s a t
+  insert-ends : {value when period : ℕ} → InsertOn s value when period a t → Ends (count s) s a t
   insert-ends {value} {when} I = by (view s .lists free) refl
     where
       by : (l : List ℕ) → view s .lists free ≡ l → Ends (count s) s a t
@@ -121,7 +122,7 @@ module _ {s t : QueueWords} {a : Answer} where
 
 pub call-ends : (c : Call) (s : QueueWords) (a : Answer) (t : QueueWords) → CallClaim c s a t → Ends (reach c s) s a t
 call-ends (C.Format n turn) s a t A = format-ends A
-call-ends (C.Insert value when) s a t A = judging-ends A (λ S. insert-ends)
+call-ends (C.Insert value when period) s a t A = judging-ends A (λ S. insert-ends)
 call-ends (C.Reset key when) s a t A = judging-ends A reset-ends
 call-ends (C.Remove key) s a t A = judging-ends A remove-ends
 call-ends (C.Poll now) s a t A = judging-ends A (λ S. poll-ends)
@@ -184,10 +185,10 @@ unfolding range
 one-free = ap (λ v. v .lists free) (one-made .view) ∙ change-same (λ p. []) free (range 1 0)
 
 -- a call that is accepted: the first key of a first turn of 1
-pub insert-shown : (t : QueueWords) × InsertClaim one 7 70 (A.Key 65536) t × Sound t
+pub insert-shown : (t : QueueWords) × InsertClaim one 7 70 0 (A.Key 65536) t × Sound t
 unfolding over
 insert-shown =
-    let m = insert-met one 7 70 in
+    let m = insert-met one 7 70 0 in
     let D = m .2 .good one-sound .done 0 [] one-free (λ h. refl) in
     let e : m .0 ≡ A.Key 65536 = told-one (m .0) (A.Key 65536) (D .told) in
     (m .1, rw e at (m .2), D .sound)

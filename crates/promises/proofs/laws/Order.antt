@@ -4,33 +4,36 @@ use mathlib.Core.Logic.{_≢_, inl, inr, by-cases}
 use mathlib.Core.Bool.{Bool, true, false, cond, true≢false}
 use mathlib.Core.List.{List, [], _∷_, _++_, append-nil, append-assoc, nil≢cons}
 use mathlib.Core.Option.{some}
-use Prim.Native.Nat.{ℕ, suc, _/_, _≤_, _<_}
+use Prim.Native.Nat.{ℕ, suc, _/_, _≤_, _<_, _+_, max, _*_, _%_}
 use native.Mathlib.Decide.{ℕ-discrete}
 use native.Mathlib.Omega.{arith}
 use lib.Dec.{eqb}
 use borrow.Author.Tests.{eqb-true, eq-eqb, ne-eqb}
-use Rattle.times.specs.Times.{slotOf}
+use Rattle.times.specs.Times.{slotOf, width, levelOf}
 use Rattle.times.proofs.laws.Quotients.{slot-lt}
 use Rattle.links.specs.Lists.{Mem, change}
 use Rattle.links.proofs.laws.Lists.{change-same, change-other}
 use Rattle.stack.specs.Places.{slotPlace, slots, expired, free, put, levelAt}
 use Rattle.stack.proofs.laws.Places.{put-tail}
-use Rattle.wheel.specs.Wheel.{Lists, FirstSlot, arrive, Drains, drained, moved, Polls, out, drain}
+use Rattle.wheel.specs.Wheel.{Lists, FirstSlot, arrive, Drains, drained, moved, Polls, out, drain, placeFor}
 use Rattle.wheel.specs.Between.{Between}
 use Rattle.wheel.proofs.laws.Between.{rule-between, place-level}
 use Rattle.wheel.proofs.laws.Next.{slot-below, here-below}
 use Rattle.wheel.proofs.laws.Drain.{move-rest, drains-law, drain-law}
 use Rattle.queue.specs.declared.Answer.{Answer}
-use Rattle.queue.specs.Told.{Told, told}
+use Rattle.queue.specs.Told.{Told, told, Hands, timer}
 use Rattle.queue.specs.Told as T
-use Rattle.records.specs.View.{View, withElapsed, withLists}
-use Rattle.records.specs.Records.{keyOf, At, Names}
+use Rattle.records.specs.View.{View, withElapsed, withLists, upd}
+use Rattle.records.specs.Records.{keyOf, At, Names, placed, target, freed}
 use Rattle.queue.proofs.laws.Calls.{names-one}
-use Rattle.queue.specs.Steps.{QueuePolls, polled, popped, handed, nothing}
+use Rattle.queue.specs.Steps.{QueuePolls, polled, popped, handed, nothing, GoesOn, once, ended, again}
 use Rattle.records.specs.Words.{QueueWords, elapsed, view, Sound}
 use Rattle.delay_queue.specs.Claims.{PollClaim}
-use Rattle.promises.proofs.laws.Polling.{none-out, freed-beside, one-list, key-of-names}
+use Rattle.promises.proofs.laws.Polling.{none-out, freed-beside, goes-on-says, goes-on-clock, clock-before}
 use Rattle.promises.specs.Order.{keep, ofDeadline, goesTo, PollOrder}
+use Rattle.promises.proofs.laws.TakesOut.{one-list, key-of-names, taken-out}
+use Rattle.times.proofs.laws.Levels.{level-is}
+use Rattle.records.proofs.laws.Words.{upd-same, upd-other}
 
 -- ---- lists
 
@@ -41,6 +44,16 @@ add-cond false x xs ys = refl
 keep-none : (f : ℕ → Bool) (l : List ℕ) → ((x : ℕ) → f x ≡ false) → keep f l ≡ []
 keep-none f [] h = refl
 keep-none f (x ∷ l) h = rw (h x) (keep-none f l h)
+
+-- the same pass
+keep-same : (f g : ℕ → Bool) (l : List ℕ) → ((y : ℕ) → Mem y l → f y ≡ g y) → keep f l ≡ keep g l
+keep-same f g [] h = refl
+keep-same f g (x ∷ l) h = rw (h x (inl refl), keep-same f g l (λ y m. h y (inr m)))
+
+-- the last does not
+keep-end : (f : ℕ → Bool) (l : List ℕ) (x : ℕ) → f x ≡ false → keep f (l ++ x ∷ []) ≡ keep f l
+keep-end f [] x h = rw h
+keep-end f (y ∷ l) x h = rw (keep-end f l x h)
 
 -- who passes f passes g
 keep-keep : (f g : ℕ → Bool) (l : List ℕ) → ((x : ℕ) → f x ≡ true → g x ≡ true) → keep f (keep g l) ≡ keep f l
@@ -174,11 +187,76 @@ polls-order B (drain F due D r) = drained-order B F D (polls-order (drain-law B 
 -- at level 0 already, it is the head of its slot
 polls-head : {d : ℕ → ℕ} {now e : ℕ} {L : Lists} {x m n c : ℕ} {N : Lists} → Polls d now e L (some x) m n c N → (p : ℕ) → p < 64
     → Mem x (L p)
-    → ((q : ℕ) → Mem x (L q) → q ≡ p) → (l : List ℕ) × (L p ≡ x ∷ l) × (N p ≡ l)
+    → ((q : ℕ) → Mem x (L q) → q ≡ p) → (l : List ℕ) × (L p ≡ x ∷ l) × (N p ≡ l) × (c ≡ e)
 polls-head (out {e} {s} {x} {L} {l} F due is) p low m one =
     let z : slotPlace 0 s ≡ p = one (slotPlace 0 s) (rw is (inl refl)) in
-    (l, ap L (sym z) ∙ is, ap (change L (slotPlace 0 s) l) (sym z) ∙ change-same L (slotPlace 0 s) l)
+    (l, ap L (sym z) ∙ is, ap (change L (slotPlace 0 s) l) (sym z) ∙ change-same L (slotPlace 0 s) l, refl)
 polls-head {x = x} (drain {k = k} F due D r) p low m one = absurd (rw (F .lowest p (omega arith)) at m)
+
+-- ---- what becomes of the record that is handed out
+
+-- two hand-outs of one answer are one
+same-key : (x : Told) {a b c d e a′ b′ c′ d′ e′ : ℕ} → Hands x a b c d e → Hands x a′ b′ c′ d′ e′ → (a ≡ a′) × (c ≡ c′)
+same-key x {a} {b} {c} {d} {e} {a′} {b′} {c′} {d′} {e′} p q =
+    let z : timer a b c d e ≡ timer a′ b′ c′ d′ e′ = sym p ∙ q in
+    let f : a ≡ a′ = cc in
+    let g : c ≡ c′ = cc in
+    (f, g)
+
+-- a deadline past elapsed has a slot
+target-slot : (e w : ℕ) → e < w → (target e (max w e) ≡ placeFor e w) × (placeFor e w < slots)
+unfolding target placeFor
+target-slot e w h =
+    let m : max w e ≡ w = omega arith in
+    let n : w ≢ e = omega arith in
+    (rw (m, ne-eqb w e n), omega (arith, slot-lt w (levelOf e w), level-is e w .within))
+
+-- and in the row of elapsed it is its own
+low-deadline : (p e w : ℕ) → p < 64 → p ≡ placeFor e w → w ≡ 64 * (e / 64) + p
+unfolding placeFor slotOf width
+low-deadline p e w h q =
+    let low : levelOf e w ≡ 0 = omega (arith, q, slot-lt w (levelOf e w)) in
+    let row : e / 64 ≡ w / 64 = level-is e w .above 1 (omega (arith, low)) (omega arith) in
+    let slot : p ≡ 64 * 0 + w / width 0 % 64 = q ∙ ap (λ k. 64 * k + w / width k % 64) low in
+    omega (arith, row, slot)
+
+module _ {v : View} {r m n : ℕ} {u : View} (late : u .elapsed ≤ v .deadline r) where
+  -- a list below the free one is as it was, but for the slot where the timer is set again
+  goes-list : {x : Told} {w : View} → GoesOn v r m n u x w → (p : ℕ) → p < free → (0 < v .period r → p ≢ placeFor (u .elapsed) (v .deadline r + v .period r))
+      → w .lists p ≡ u .lists p
+  unfolding placed
+  goes-list (once z) p h f = freed-beside r u .lists p h
+  goes-list (ended q g) p h f = freed-beside r u .lists p h
+  goes-list (again q g) p h f =
+      let t = target-slot (u .elapsed) (v .deadline r + v .period r) (omega (arith, late)) in
+      change-other (u .lists) _ _ p (λ z. f q (z ∙ t .0))
+
+  -- those with the deadline of the one that was handed out are as they were, wherever it is set again
+  goes-equals : {x : Told} {w : View} → GoesOn v r m n u x w → u .deadline ≡ v .deadline → (p : ℕ) → p < free → (Mem r (u .lists p) → ⊥)
+      → ofDeadline (w .deadline) (v .deadline r) (w .lists p) ≡ ofDeadline (v .deadline) (v .deadline r) (u .lists p)
+  unfolding placed
+  goes-equals (once z) q p h f =
+      let B = freed-beside r u in
+      ap (λ g. ofDeadline g (v .deadline r) (freed r u .lists p)) (B .deadline ∙ q) ∙ ap (ofDeadline (v .deadline) (v .deadline r)) (B .lists p h)
+  goes-equals (ended y g) q p h f =
+      let B = freed-beside r u in
+      ap (λ g. ofDeadline g (v .deadline r) (freed r u .lists p)) (B .deadline ∙ q) ∙ ap (ofDeadline (v .deadline) (v .deadline r)) (B .lists p h)
+  goes-equals (again pos g) q p h f =
+      let d = v .deadline r in
+      let next = max (d + v .period r) (u .elapsed) in
+      let o = target (u .elapsed) next in
+      let new : ℕ → ℕ = upd (u .deadline) r next in
+      let ours : new r ≢ d = λ y. omega (arith, y, upd-same (u .deadline) r next, pos, late) in
+      let same : (y : ℕ) → Mem y (u .lists p) → eqb (new y) d ≡ eqb (v .deadline y) d
+      = λ y m. ap (λ c. eqb c d) (upd-other (u .deadline) r next y (λ (z : y ≡ r). f (rw z at m)) ∙ ap (λ c. c y) q) in
+      let kept : ofDeadline new d (u .lists p) ≡ ofDeadline (v .deadline) d (u .lists p)
+      = keep-same (λ y. eqb (new y) d) (λ y. eqb (v .deadline y) d) (u .lists p) same in
+      by-cases (ℕ-discrete p o)
+      (λ (z : p ≡ o).
+      let is : change (u .lists) o (put o r (u .lists o)) p ≡ u .lists p ++ r ∷ []
+      = rw (← z) (change-same (u .lists) p (put p r (u .lists p)) ∙ put-tail p r (u .lists p) (omega (arith, h))) in
+      ap (ofDeadline new d) is ∙ keep-end (λ y. eqb (new y) d) (u .lists p) r (ne-eqb (new r) d ours) ∙ kept)
+      (λ z. ap (ofDeadline new d) (change-other (u .lists) o (put o r (u .lists o)) p z) ∙ kept)
 
 -- ---- a poll of the queue
 
@@ -189,39 +267,53 @@ module _ {s : QueueWords} (S : Sound s) where
 
   module _ {now : ℕ} (not-back : elapsed s ≤ now) where
     order-of : {x : Told} {u : View} → QueuePolls (view s) now x u → PollOrder (view s) x u
-    order-of (handed (popped {r} {l} e)) =
+    order-of {x} {u = w} (handed {r} {m} {n} (popped {l = l} e) G) =
         let v = view s in
         let a : At v r expired = record { timed = omega arith; member = rw e (inl refl) } in
-        let away : (k w d m n i p : ℕ) → T.out (keyOf v r) (v .value r) (v .deadline r) 0 0 ≡ T.out k w d m n → Names v k i p → p < slots
-        → ⊥
-        = λ k w d m n i p is N h. let f : keyOf v r ≡ k = cc in omega (arith, names-it a f N .1) in
+        let late : v .elapsed ≤ v .deadline r = omega (arith, S .rule .stack r (a .member)) in
+        let z = goes-on-says G in
+        let away : (k y d m n i p : ℕ) → Hands x k y d m n → Names v k i p → p < slots → ⊥
+        = λ k y d m n i p is N h. omega (arith, names-it a (same-key x z is .0) N .1) in
         record {
           stack = λ i j f.
-              let z : r ∷ l ≡ i ∷ j = sym e ∙ f in
-              let z₁ : r ≡ i = cc in
-              let z₂ : l ≡ j = cc in
-              let B = freed-beside r (withLists (change (v .lists) expired l) v) in
-              (rw z₁, B .lists expired (omega arith) ∙ change-same (v .lists) expired l ∙ z₂, B .elapsed);
-          head = λ k w d m n i p is N h. absurd (away k w d m n i p is N (omega arith));
-          equals = λ k w d m n i p is N h. absurd (away k w d m n i p is N h);
+              let q : r ∷ l ≡ i ∷ j = sym e ∙ f in
+              let q₁ : r ≡ i = cc in
+              let q₂ : l ≡ j = cc in
+              let B = goes-list late G expired (omega arith)
+              (λ some y. omega (arith, target-slot (v .elapsed) (v .deadline r + v .period r) (omega (arith, late)) .1, y)) in
+              (rw (← q₁) z, B ∙ change-same (v .lists) expired l ∙ q₂, goes-on-clock G);
+          head = λ k y d m n i p is N h. absurd (away k y d m n i p is N (omega arith));
+          equals = λ k y d m n i p is N h. absurd (away k y d m n i p is N h);
         }
-    order-of (handed {r} {m} {n} (polled {e = e} {L = L} empty P)) =
+    order-of {x} {u = w} (handed {r} {m} {n} (polled {e = e} {L = L} empty P) G) =
         let v = view s in
-        let B = freed-beside r (withElapsed e (withLists L v)) in
         let O = polls-order (rule-between (S .rule)) P in
         let a : At v r (O .place) = record { timed = omega arith; member = O .member } in
+        let T = taken-out S not-back (polled empty P) in
+        let late : e ≤ v .deadline r = clock-before S not-back (polled empty P) in
+        let z = goes-on-says G in
         record {
           stack = λ i j f. absurd (nil≢cons (sym empty ∙ f));
-          head = λ k w d m₁ n₁ i p is N h.
-              let f : keyOf v r ≡ k = cc in
-              let z : r ≡ i = names-it a f N .0 in
-              let b : At v r p = rw z (N .pending) in
-              rw (← z, B .lists p (omega (arith, h))) (polls-head P p h (b .member) (λ q m. one-list S r q p m (b .member)));
-          equals = λ k w d m₁ n₁ i p is N h.
-              let f : keyOf v r ≡ k = cc in
-              let g : d ≡ v .deadline r = cc in
-              let z = names-it a f N in
-              (O .slot, O .low, rw (g, ← z .0, ← z .1, B .lists (O .slot) (omega arith)) (O .order));
+          head = λ k y d m₁ n₁ i p is N h.
+              let q : r ≡ i = names-it a (same-key x z is .0) N .0 in
+              let b : At v r p = rw q (N .pending) in
+              let H = polls-head P p h (b .member) (λ o c. one-list S r o p c (b .member)) in
+              let on = S .rule .wheel p r (omega arith) (b .member) in
+              let still : w .lists p ≡ L p
+              = goes-list late G p (omega (arith, h))
+              (λ some f.
+              let own = low-deadline p (v .elapsed) (v .deadline r) h (on .place) in
+              let next = low-deadline p e (v .deadline r + v .period r) h f in
+              omega (arith, own, next, H .3)) in
+              rw (← q) (H .0, H .1, still ∙ H .2);
+          equals = λ k y d m₁ n₁ i p is N h.
+              let q = names-it a (same-key x z is .0) N in
+              let g : d ≡ v .deadline r = sym (same-key x z is .1) in (
+                O .slot,
+                O .low,
+                rw (g, ← q .0, ← q .1)
+                    (O .order ∙ ap (λ c. r ∷ c) (sym (goes-equals late G (T .deadline) (O .slot) (omega (arith, O .low)) (T .gone r refl (O .slot))))),
+              );
         }
     order-of (nothing (polled empty P)) =
         record {

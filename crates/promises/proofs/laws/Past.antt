@@ -18,7 +18,7 @@ use Rattle.promises.specs.Past.{sizeOf}
 
 reach-within : (c : Call) (s : QueueWords) {m : ℕ} → count s ≤ m → sizeOf c ≤ m → reach c s ≤ m
 reach-within (C.Format n turn) s h g = g
-reach-within (C.Insert value when) s h g = h
+reach-within (C.Insert value when period) s h g = h
 reach-within (C.Reset key when) s h g = h
 reach-within (C.Remove key) s h g = h
 reach-within (C.Poll now) s h g = h
@@ -37,7 +37,7 @@ past-beyond h P =
         prevs = kept-beyond h (P .links .prevs);
         marks = kept-beyond h (P .links .marks);
       };
-      values = kept-beyond h (P .values);
+      values = kept-beyond (omega arith) (P .values);
       deadlines = kept-beyond h (P .deadlines);
       turns = kept-beyond h (P .turns);
     }
@@ -65,7 +65,7 @@ run-past m (next {s} {t} {u} {x} c r) h f =
 -- a call that is no accepted format asks for no records
 size-none : (c : Call) {b : Bool} {m : ℕ} → (isFormat c && b) ≡ false → b ≡ true → sizeOf c ≤ m
 size-none (C.Format n turn) e f = absurd (true≢false (sym f ∙ e))
-size-none (C.Insert value when) e f = omega arith
+size-none (C.Insert value when period) e f = omega arith
 size-none (C.Reset key when) e f = omega arith
 size-none (C.Remove key) e f = omega arith
 size-none (C.Poll now) e f = omega arith

@@ -1,35 +1,39 @@
 -- One poll: what it hands out, what stays, the clock and the drains.
 use mathlib.Core.Path.{_≡_, refl, sym, ap, _∙_}
-use mathlib.Core.Logic.{_↔_, _≢_, inl, by-cases}
+use mathlib.Core.Logic.{_↔_, _≢_, inl, by-cases, _⊎_, inr, ⊎-elim}
 use mathlib.Core.List.{List, [], _∷_}
 use mathlib.Core.Option.{Option, none, some}
-use Prim.Native.Nat.{ℕ, zero, suc, _+_, _≤_, _<_}
+use Prim.Native.Nat.{ℕ, zero, suc, _+_, _≤_, _<_, max}
 use native.Mathlib.Decide.{ℕ-discrete, decLt}
 use native.Mathlib.Omega.{arith}
 use borrow.Author.Tests.{eq-eqb, ne-eqb}
 use Rattle.links.specs.Lists.{Mem, change}
-use Rattle.links.proofs.laws.Lists.{Nodup, change-other}
-use Rattle.stack.specs.Places.{slots, expired, free, put, levelAt}
+use Rattle.links.proofs.laws.Lists.{Nodup, change-other, change-same}
+use Rattle.stack.specs.Places.{slots, expired, free, put, levelAt, slotAt}
 use Rattle.stack.proofs.laws.Whole as stack-laws
-use Rattle.wheel.specs.Wheel.{Lists, Rule, Polls}
+use Rattle.wheel.specs.Wheel.{Lists, Rule, Polls, placeFor}
 use Rattle.wheel.specs.Sums.{sumOf, total}
-use Rattle.wheel.proofs.laws.Sums.{total-ext, total-less, hits, mem-sum, lies-times, times-lies}
+use Rattle.wheel.proofs.laws.Sums.{total-ext, total-less, hits, mem-sum, lies-times, times-lies, total-more, mem-joined, mem-kept, put-mem}
 use Rattle.wheel.proofs.laws.Between.{rule-between}
 use Rattle.wheel.specs.Drain.{heights}
 use Rattle.wheel.proofs.laws.Drain.{amount}
 use Rattle.wheel.specs.Poll.{Fair, clockAfter}
 use Rattle.wheel.proofs.laws.Poll.{given, poll-law}
 use Rattle.queue.specs.declared.Answer.{Answer}
-use Rattle.queue.specs.Told.{Told, told}
+use Rattle.queue.specs.Told.{Told, told, Handed, timer, no-timer, handing, Hands}
 use Rattle.queue.specs.Told as T
 use Rattle.records.specs.View.{View, withElapsed, withLists}
-use Rattle.records.specs.Records.{lastTurn, keyOf, At, Names, freed, numberIn}
-use Rattle.queue.specs.Steps.{QueuePolls, polled, popped, handed, nothing, pending}
+use Rattle.records.specs.Records.{lastTurn, keyOf, At, Names, freed, numberIn, target, placed}
+use Rattle.queue.specs.Steps.{QueuePolls, polled, popped, handed, nothing, pending, TakesOut, GoesOn, once, again, ended}
 use Rattle.records.specs.Words.{QueueWords, elapsed, view, Sound}
-use Rattle.records.proofs.laws.Words.{upd-other}
+use Rattle.records.proofs.laws.Words.{upd-other, upd-same}
 use Rattle.delay_queue.specs.Claims.{PollClaim}
 use Rattle.promises.specs.Runs.{movesOf}
-use Rattle.promises.specs.Polling.{IsPending, SameRecord, Beside, PollLeast, PollClock, drainsOf}
+use Rattle.promises.specs.Polling.{IsPending, SameRecord, Beside, PollLeast, PollClock, drainsOf, SaysLast, Finished, Gone, SetAgain, HandsLeast}
+use Rattle.promises.proofs.laws.TakesOut.{TakenOut, taken-out, Other, key-of-names}
+use Rattle.times.proofs.laws.Quotients.{slot-lt}
+use Rattle.times.specs.Times.{levelOf}
+use Rattle.times.proofs.laws.Levels.{level-is}
 
 -- ---- sums over all that is pending
 
@@ -44,46 +48,10 @@ weigh-split : (w : ℕ → ℕ) (L : Lists) → weigh w L ≡ amount w L + sumOf
 unfolding amount
 weigh-split w L = total-last (λ p x. w x) 384 L
 
--- ---- on a sound store every record is in one list at most
-
--- how often it lies there
-sum-none : (y : ℕ) (l : List ℕ) → (Mem y l → ⊥) → sumOf (hits y) l ≡ 0
-sum-none y l out = by-cases (decLt 0 (sumOf (hits y) l)) (λ h. absurd (out (mem-sum y l h))) (λ h. omega arith)
-
-sum-once : (y : ℕ) (l : List ℕ) → Nodup l → sumOf (hits y) l ≤ 1
-sum-once y [] d = omega arith
-sum-once y (x ∷ l) d =
-    by-cases (ℕ-discrete x y)
-    (λ e. rw (eq-eqb x y e) (omega (arith, sum-none y l (λ m. d .0 (rw e m)))))
-    (λ n. rw (ne-eqb x y n) (omega (arith, sum-once y l (d .1))))
-
-module _ {s : QueueWords} (S : Sound s) where
-  -- in two lists at once is nobody
-  pub one-list : (i p q : ℕ) → Mem i (view s .lists p) → Mem i (view s .lists q) → p ≡ q
-  one-list i p q m k = sym (stack-laws.member-mark (S .standing .whole .stack) p i m)
-      ∙ stack-laws.member-mark (S .standing .whole .stack) q i k
-
-  -- nobody lies twice in all the lists together
-  pub lies-once : (y n : ℕ) → total (λ q x. hits y x) n (view s .lists) ≤ 1
-  unfolding total
-  lies-once y zero = omega arith
-  lies-once y (suc n) =
-      by-cases (decLt 0 (total (λ q x. hits y x) n (view s .lists)))
-      (λ h.
-      let b = times-lies n (view s .lists) y h in
-      omega (arith, lies-once y n, sum-none y (view s .lists n) (λ m. omega (arith, one-list y (b .0) n (b .2) m))))
-      (λ h. omega (arith, sum-once y (view s .lists n) (stack-laws.list-nodup (S .standing .whole .stack) n)))
-
-  -- the key of a pending record names it
-  pub key-of-names : {r p : ℕ} → At (view s) r p → Names (view s) (keyOf (view s) r) r p
-  key-of-names {r} {p} a =
-      let b = stack-laws.member-below (S .standing .whole .stack) p r (a .member) in
-      record { number = omega arith; below = b; pending = a; turn = omega arith }
-
 -- ---- a record is freed: below the free list nothing changes, and of the words only its turn
 
 beside-same : (r : ℕ) (v : View) → Beside r v v
-beside-same r v = record { size = refl; elapsed = refl; value = refl; deadline = refl; turn = λ y d. refl; lists = λ p h. refl }
+beside-same r v = record { size = refl; elapsed = refl; value = refl; period = refl; deadline = refl; turn = λ y d. refl; lists = λ p h. refl }
 
 pub freed-beside : (r : ℕ) (v : View) → Beside r v (freed r v)
 unfolding freed
@@ -96,6 +64,7 @@ freed-beside r v =
       size = refl;
       elapsed = refl;
       value = refl;
+      period = refl;
       deadline = refl;
       turn = λ y d. upd-other (v .turn) r (v .turn r + 1) y d;
       lists = λ p h. change-other (v .lists) free (put free r (v .lists free)) p (omega arith);
@@ -103,37 +72,56 @@ freed-beside r v =
 
 -- ---- all of a poll in one law, over what it hands out
 
-abbrev pub saysOf : View → Option ℕ → ℕ → ℕ → Told
-saysOf v none m n = T.none m n
-saysOf v (some r) m n = T.out (keyOf v r) (v .value r) (v .deadline r) m n
+abbrev pub saysOf : View → Option ℕ → ℕ → ℕ → Handed
+saysOf v none m n = no-timer
+saysOf v (some r) m n = timer (keyOf v r) (v .value r) (v .deadline r) m n
 
 abbrev pub Fairly : View → ℕ → Option ℕ → Type 0
 Fairly v now none = (y : ℕ) → IsPending v y → now < v .deadline y
 Fairly v now (some r) = IsPending v r × (v .deadline r ≤ now) × ((y : ℕ) → IsPending v y → v .deadline r ≤ v .deadline y)
 
-abbrev pub Other : Option ℕ → ℕ → Type 0
-Other none y = Unit {0}
-Other (some r) y = y ≢ r
-
-pub record Polled (v : View) (now : ℕ) (x : Told) (u : View) : Type 0 where
-  pub got : Option ℕ
-  pub moves : ℕ
-  pub drains : ℕ
-  pub is : x ≡ saysOf v got moves drains
+-- who is taken out is fair, every weight of the others is kept, and so on: u is the view with it in no list
+pub record TakenBy (v : View) (now : ℕ) (got : Option ℕ) (m n : ℕ) (u : View) : Type 0 where
   pub fair : Fairly v now got
   pub kept : (w : ℕ → ℕ) → weigh w (u .lists) + given w got ≡ weigh w (v .lists)
   pub clock : u .elapsed ≡ clockAfter (v .deadline) now (v .elapsed) got
-  pub counted : moves + heights (u .lists) ≡ heights (v .lists)
-  pub few : drains ≤ moves
-  pub idle : drains ≡ 0 → moves ≡ 0
-  pub size : u .n ≡ v .n
-  pub value : u .value ≡ v .value
-  pub deadline : u .deadline ≡ v .deadline
-  pub turn : (y : ℕ) → Other got y → u .turn y ≡ v .turn y
+  pub counted : m + heights (u .lists) ≡ heights (v .lists)
+  pub few : n ≤ m
+  pub idle : n ≡ 0 → m ≡ 0
+
+-- what became of it
+abbrev pub Became : View → Option ℕ → ℕ → ℕ → View → Told → View → Type 0
+Became v none m n u x w = (x ≡ T.none m n) × (w ≡ u)
+Became v (some r) m n u x w = GoesOn v r m n u x w
+
+pub record Polled (v : View) (now : ℕ) (x : Told) (w : View) : Type 0 where
+  pub got : Option ℕ
+  pub moves : ℕ
+  pub drains : ℕ
+  pub taken : View
+  pub takes : TakesOut v now got moves drains taken
+  pub by : TakenBy v now got moves drains taken
+  pub became : Became v got moves drains taken x w
+  pub is : handing x ≡ saysOf v got moves drains
+  pub clock : w .elapsed ≡ clockAfter (v .deadline) now (v .elapsed) got
+
+pub goes-on-says : {v : View} {r m n : ℕ} {u : View} {x : Told} {w : View} → GoesOn v r m n u x w → handing x ≡ saysOf v (some r) m n
+goes-on-says (once z) = refl
+goes-on-says (again p f) = refl
+goes-on-says (ended p f) = refl
+
+pub placed-clock : (r when : ℕ) (u : View) → placed r when u .elapsed ≡ u .elapsed
+unfolding placed
+placed-clock r when u = refl
+
+pub goes-on-clock : {v : View} {r m n : ℕ} {u : View} {x : Told} {w : View} → GoesOn v r m n u x w → w .elapsed ≡ u .elapsed
+goes-on-clock {r = r} {u = u} (once z) = freed-beside r u .elapsed
+goes-on-clock {v} {r} {u = u} (again p f) = placed-clock r (v .deadline r + v .period r) u
+goes-on-clock {r = r} {u = u} (ended p f) = freed-beside r u .elapsed
 
 module _ (v : View) (R : Rule (v .deadline) (v .elapsed) (v .lists)) {now : ℕ} (not-back : v .elapsed ≤ now) where
   -- nothing is pending before elapsed
-  none-before : (y : ℕ) → IsPending v y → v .elapsed ≤ v .deadline y
+  pub none-before : (y : ℕ) → IsPending v y → v .elapsed ≤ v .deadline y
   none-before y k =
       by-cases (ℕ-discrete (k .0) expired)
       (λ e. omega (arith, R .stack y (rw e at (k .1 .member))))
@@ -155,73 +143,60 @@ module _ (v : View) (R : Rule (v .deadline) (v .elapsed) (v .lists)) {now : ℕ}
       λ y k. f .2 y (in-slot y k),
     )
 
-    -- the wheel's law, with the expired stack and what is freed
-    by-wheel : {o : Option ℕ} {m n e : ℕ} {L : Lists} → Polls (v .deadline) now (v .elapsed) (v .lists) o m n e L → {r : ℕ} (u : View)
-        → Beside r (withElapsed e (withLists L v)) u → ((y : ℕ) → Other o y → u .turn y ≡ v .turn y) → Polled v now (saysOf v o m n) u
-    unfolding heights
-    by-wheel {o} {m} {n} {L = L} P u B turn =
-        let Q = poll-law (rule-between R) empty not-back P in
-        record {
-          got = o;
-          moves = m;
-          drains = n;
-          is = refl;
-          fair = fairly o (Q .fair);
-          kept = λ w.
-              let below = total-ext (λ p x. w x) free (u .lists) L (B .lists) in
-              let aside = ap (sumOf w) (Q .aside expired (omega arith)) in
-              omega (arith, weigh-split w L, weigh-split w (v .lists), Q .kept w);
-          clock = B .elapsed ∙ Q .clock;
-          counted = omega (arith, total-ext (λ p x. levelAt p) slots (u .lists) L (λ p h. B .lists p (omega arith)));
-          few = Q .few;
-          idle = Q .none;
-          size = B .size;
-          value = B .value;
-          deadline = B .deadline;
-          turn = turn;
-        }
-
-  pub poll-works : {x : Told} {u : View} → QueuePolls v now x u → Polled v now x u
+  pub takes-works : {got : Option ℕ} {m n : ℕ} {u : View} → TakesOut v now got m n u → TakenBy v now got m n u
   unfolding heights
-  poll-works (handed (popped {r} {l} e)) =
+  takes-works (popped {r} {l} e) =
       let L = change (v .lists) expired l in
-      let B = freed-beside r (withLists L v) in
-      let M = freed r (withLists L v) .lists in
       let m : Mem r (v .lists expired) = rw e (inl refl) in
       let d = R .stack r m in
       record {
-        got = some r;
-        moves = 0;
-        drains = 0;
-        is = refl;
         fair = ((expired, record { timed = omega arith; member = m }), omega arith, λ y k. omega (arith, d, none-before y k));
-        kept = λ w. omega (
-          arith,
-          total-ext (λ p x. w x) free M L (B .lists),
-          total-less
-              (λ p x. w x) free (v .lists) expired r l (omega arith) e,
-        );
+        kept = λ w. omega (arith, total-less (λ p x. w x) free (v .lists) expired r l (omega arith) e);
         clock = omega arith;
-        counted =
-            let same : (p : ℕ) → p < slots → M p ≡ v .lists p = λ p h. B .lists p (omega arith)
-            ∙ change-other (v .lists) expired l p (omega (arith, h)) in
-            omega (arith, total-ext (λ p x. levelAt p) slots M (v .lists) same);
+        counted = omega (arith, total-ext (λ p x. levelAt p) slots L (v .lists) (λ p h. change-other (v .lists) expired l p (omega (arith, h))));
         few = omega arith;
         idle = λ z. refl;
-        size = B .size;
-        value = B .value;
-        deadline = B .deadline;
-        turn = λ y h. B .turn y h;
       }
-  poll-works (handed {r} (polled {e = e} {L = L} empty P)) =
-      let B = freed-beside r (withElapsed e (withLists L v)) in
-      by-wheel empty P _ B (λ y h. B .turn y h)
-  poll-works (nothing (polled {e = e} {L = L} empty P)) = by-wheel empty P _ (beside-same 0 (withElapsed e (withLists L v))) (λ y h. refl)
+  takes-works (polled {got} {L = L} empty P) =
+      let Q = poll-law (rule-between R) empty not-back P in
+      record {
+        fair = fairly empty got (Q .fair);
+        kept = λ w.
+            let aside = ap (sumOf w) (Q .aside expired (omega arith)) in
+            omega (arith, weigh-split w L, weigh-split w (v .lists), Q .kept w);
+        clock = Q .clock;
+        counted = Q .counted;
+        few = Q .few;
+        idle = Q .none;
+      }
 
--- ---- the promises of one poll
+  pub poll-works : {x : Told} {w : View} → QueuePolls v now x w → Polled v now x w
+  poll-works (handed {r} {m} {n} {u} T G) =
+      let B = takes-works T in
+      record {
+        got = some r;
+        moves = m;
+        drains = n;
+        taken = u;
+        takes = T;
+        by = B;
+        became = G;
+        is = goes-on-says G;
+        clock = goes-on-clock G ∙ B .clock;
+      }
+  poll-works (nothing {m} {n} {u} T) =
+      let B = takes-works T in
+      record { got = none; moves = m; drains = n; taken = u; takes = T; by = B; became = (refl, refl); is = refl; clock = B .clock }
 
-pub none-out : {m n k w d i j : ℕ} → T.none m n ≡ T.out k w d i j → ⊥
+-- ---- an answer that hands out nothing
+
+pub none-out : {k w d i j : ℕ} → no-timer ≡ timer k w d i j → ⊥
 none-out e = let z : _≡_ {A = ℕ} 0 1 = cc in omega arith
+
+pub goes-on-counts : {v : View} {r m n : ℕ} {u : View} {x : Told} {w : View} → GoesOn v r m n u x w → (movesOf x ≡ m) × (drainsOf x ≡ n)
+goes-on-counts (once z) = (refl, refl)
+goes-on-counts (again p f) = (refl, refl)
+goes-on-counts (ended p f) = (refl, refl)
 
 pending-times : (v : View) (y : ℕ) → IsPending v y → 0 < weigh (hits y) (v .lists)
 pending-times v y k = lies-times free (v .lists) y (k .0) (k .1 .timed) (k .1 .member)
@@ -229,88 +204,287 @@ pending-times v y k = lies-times free (v .lists) y (k .0) (k .1 .timed) (k .1 .m
 times-pending : (v : View) (y : ℕ) → 0 < weigh (hits y) (v .lists) → IsPending v y
 times-pending v y h = let r = times-lies free (v .lists) y h in (r .0, record { timed = r .1; member = r .2 })
 
+-- ---- what becomes of the record that is handed out
+
+-- one list changes below the free list, or none: who is pending
+freed-pending : (r : ℕ) (u : View) (y : ℕ) → (IsPending (freed r u) y → IsPending u y) × (IsPending u y → IsPending (freed r u) y)
+freed-pending r u y =
+    let B = freed-beside r u in (
+      λ k. (k .0, record { timed = k .1 .timed; member = rw (B .lists (k .0) (k .1 .timed)) at (k .1 .member) }),
+      λ k. (k .0, record { timed = k .1 .timed; member = rw (B .lists (k .0) (k .1 .timed)) (k .1 .member) }),
+    )
+
+freed-count : (r : ℕ) (u : View) → pending (freed r u) ≡ pending u
+unfolding pending
+freed-count r u = total-ext (λ p x. 1) free (freed r u .lists) (u .lists) (freed-beside r u .lists)
+
+placed-pending : (r when : ℕ) (u : View) (y : ℕ) → (IsPending (placed r when u) y → (y ≡ r) ⊎ IsPending u y) × (IsPending u y → IsPending (placed r when u) y)
+unfolding placed
+placed-pending r when u y =
+    let p = target (u .elapsed) (max when (u .elapsed)) in (
+      λ k.
+          ⊎-elim (λ z. inl (z .1)) (λ m. inr (k .0, record { timed = k .1 .timed; member = m }))
+          (mem-joined (u .lists) p r (k .0) y (k .1 .member)),
+      λ k. (
+        k .0,
+        record { timed = k .1 .timed; member = mem-kept (u .lists) p _ (k .0) y (λ m. put-mem p r y (u .lists p) (inr m)) (k .1 .member) },
+      ),
+    )
+
+-- a place for timers
+pub target-timed : (e w : ℕ) → target e w < free
+unfolding target placeFor
+target-timed e w =
+    by-cases (ℕ-discrete w e) (λ z. rw (eq-eqb w e z) (omega arith))
+    (λ z. rw (ne-eqb w e z) (omega (arith, slot-lt w (levelOf e w), level-is e w .within)))
+
+placed-count : (r when : ℕ) (u : View) → pending (placed r when u) ≡ pending u + 1
+unfolding placed pending
+placed-count r when u =
+    let w = max when (u .elapsed) in
+    total-more (λ p x. 1) free (u .lists) (target (u .elapsed) w) r (target-timed (u .elapsed) w)
+
+-- where it comes, and with which deadline
+placed-there : (r when : ℕ) (u : View) → u .elapsed ≤ when
+    → ((q : ℕ) × At (placed r when u) r q) × (placed r when u .deadline r ≡ when) × (placed r when u .n ≡ u .n)
+    × (placed r when u .turn ≡ u .turn) × (placed r when u .value ≡ u .value) × (placed r when u .period ≡ u .period)
+unfolding placed
+placed-there r when u h =
+    let w = max when (u .elapsed) in
+    let p = target (u .elapsed) w in (
+      (p, record { timed = target-timed (u .elapsed) w; member = rw (change-same (u .lists) p) (put-mem p r r (u .lists p) (inl refl)) }),
+      upd-same (u .deadline) r w ∙ omega arith,
+      refl,
+      refl,
+      refl,
+      refl,
+    )
+
+pub placed-else : (r when : ℕ) (u : View) (y : ℕ) → y ≢ r
+    → (placed r when u .deadline y ≡ u .deadline y) × (placed r when u .turn y ≡ u .turn y) × (placed r when u .value y ≡ u .value y)
+    × (placed r when u .period y ≡ u .period y)
+unfolding placed
+placed-else r when u y d = (upd-other (u .deadline) r (max when (u .elapsed)) y d, refl, refl, refl)
+
+pub no-last : {k w d m n : ℕ} → SaysLast (T.out k w d m n) → ⊥
+no-last x = let e = x .5 in let z : _≡_ {A = ℕ} 0 1 = cc in omega arith
+
+module _ {s : QueueWords} (S : Sound s) {now : ℕ} (not-back : elapsed s ≤ now) {r m n : ℕ} {u : View} (T : TakesOut (view s) now (some r) m n u) where
+  abbrev at-call : View
+  at-call = view s
+
+  O : TakenOut at-call (some r) u
+  O = taken-out S not-back T
+
+  B : TakenBy at-call now (some r) m n u
+  B = takes-works at-call (S .rule) not-back T
+
+  one-fewer : pending u + 1 ≡ pending at-call
+  unfolding pending
+  one-fewer = B .kept (λ x. 1)
+
+  -- the clock does not pass the deadline of what is handed out
+  pub clock-before : u .elapsed ≤ view s .deadline r
+  clock-before =
+      let a = O .out r refl in
+      omega (arith, B .clock, none-before at-call (S .rule) not-back r a)
+
+  -- the record r is freed
+  freed-gone : {k : ℕ} → Names at-call k r (O .out r refl .0) → Gone at-call k r (freed r u)
+  freed-gone {k} N =
+      let gone : IsPending (freed r u) r → ⊥ = λ h. let b = freed-pending r u r .0 h in O .gone r refl (b .0) (b .1 .member) in
+      record {
+        gone = gone;
+        dead = λ j q M. let z : j ≡ r = M .number ∙ sym (N .number) in gone (q, rw z at (M .pending));
+        fewer = omega (arith, freed-count r u, one-fewer);
+      }
+
+  same-but : (w : View) (y : ℕ) → (w .value y ≡ u .value y) → (w .period y ≡ u .period y) → (w .deadline y ≡ u .deadline y)
+      → (w .turn y ≡ u .turn y) → SameRecord at-call w y
+  same-but w y a b c d =
+      record {
+        value = a ∙ ap (λ f. f y) (O .value);
+        period = b ∙ ap (λ f. f y) (O .period);
+        deadline = c ∙ ap (λ f. f y) (O .deadline);
+        turn = d ∙ ap (λ f. f y) (O .turn);
+      }
+
+  freed-others : (y : ℕ) → IsPending at-call y → y ≢ r → IsPending (freed r u) y × SameRecord at-call (freed r u) y
+  freed-others y k d =
+      let F = freed-beside r u in (
+        freed-pending r u y .1 (O .stays y d (k .0) (k .1)),
+        same-but (freed r u) y (ap (λ f. f y) (F .value)) (ap (λ f. f y) (F .period)) (ap (λ f. f y) (F .deadline)) (F .turn y d),
+      )
+
+  freed-only : (y : ℕ) → IsPending (freed r u) y → IsPending at-call y
+  freed-only y k = let b = freed-pending r u y .0 k in O .was y (b .0) (b .1)
+
+  -- the parts of `HandsLeast`, whatever becomes of r
+  module _ {x : Told} {w : View} (G : GoesOn at-call r m n u x w) where
+    module _ (gone : Finished at-call r x → Gone at-call (keyOf at-call r) r w) (again : (Finished at-call r x → ⊥) → SetAgain at-call (keyOf at-call r) r w)
+        (others : (y : ℕ) → IsPending at-call y → y ≢ r → IsPending w y × SameRecord at-call w y) (only : (y : ℕ) → IsPending w y → IsPending at-call y) where
+      hands-least : (i y d m₁ n₁ : ℕ) → Hands x i y d m₁ n₁ → HandsLeast at-call now i y d x w
+      hands-least i y d m₁ n₁ e =
+          let q : timer (keyOf at-call r) (at-call .value r) (at-call .deadline r) m n ≡ timer i y d m₁ n₁ = sym (goes-on-says G) ∙ e in
+          let a : i ≡ keyOf at-call r = cc in
+          let b : d ≡ at-call .deadline r = cc in
+          let c : y ≡ at-call .value r = cc in
+          let F = B .fair in
+          record {
+            timer = r;
+            place = F .0 .0;
+            names = rw a (key-of-names S (F .0 .1));
+            value = c;
+            deadline = b;
+            due = omega (arith, F .1);
+            least = λ j h. omega (arith, F .2 j h);
+            gone = λ z. rw a (gone z);
+            again = λ z. rw a (again z);
+            others = others;
+            only = only;
+          }
+
+  pub least-of : {x : Told} {w : View} → GoesOn at-call r m n u x w → (i y d m₁ n₁ : ℕ) → Hands x i y d m₁ n₁ → HandsLeast at-call now i y d x w
+  least-of (once z) =
+      let N = key-of-names S (O .out r refl .1) in
+      hands-least (once z) (λ d. freed-gone N) (λ d. absurd (d (inl z))) freed-others freed-only
+  least-of (ended p f) =
+      let N = key-of-names S (O .out r refl .1) in
+      hands-least (ended p f) (λ d. freed-gone N) (λ d. absurd (d (inr (_, _, _, _, _, refl)))) freed-others freed-only
+  least-of (again p f) =
+      let next = at-call .deadline r + at-call .period r in
+      let w = placed r next u in
+      let P = placed-there r next u (omega (arith, clock-before)) in
+      let N = key-of-names S (O .out r refl .1) in
+      hands-least (again p f) (λ d. absurd (⊎-elim (λ z. omega arith) no-last d))
+      (λ d.
+      record {
+        place = P .0 .0;
+        names = record {
+          number = N .number;
+          below = rw (P .2 ∙ O .size) (N .below);
+          pending = P .0 .1;
+          turn = ap (λ g. g r) (P .3 ∙ O .turn) ∙ N .turn;
+        };
+        deadline = P .1;
+        value = ap (λ g. g r) (P .4 ∙ O .value);
+        period = ap (λ g. g r) (P .5 ∙ O .period);
+        same = omega (arith, placed-count r next u, one-fewer);
+      })
+      (λ y k d.
+      let E = placed-else r next u y d in
+      (placed-pending r next u y .1 (O .stays y d (k .0) (k .1)), same-but w y (E .2) (E .3) (E .0) (E .1)))
+      (λ y k.
+      ⊎-elim (λ (z : y ≡ r). rw z (O .out r refl)) (λ b. O .was y (b .0) (b .1)) (placed-pending r next u y .0 k))
+
+plainly : Handed → Told
+plainly (timer k v d m n) = T.out k v d m n
+plainly no-timer = T.ok
+
+lastly : Handed → Told
+lastly (timer k v d m n) = T.last k v d m n
+lastly no-timer = T.ok
+
+-- a timer is handed out, or so for the last time
+pub out-or-last : (x : Told) {k v d m n : ℕ} → Hands x k v d m n → (x ≡ T.out k v d m n) ⊎ (x ≡ T.last k v d m n)
+unfolding plainly lastly
+out-or-last T.ok z = absurd (none-out z)
+out-or-last (T.key k) z = absurd (none-out z)
+out-or-last (T.gone v d) z = absurd (none-out z)
+out-or-last (T.out k v d m n) z = inl (ap plainly z)
+out-or-last (T.last k v d m n) z = inr (ap lastly z)
+out-or-last (T.none m n) z = absurd (none-out z)
+out-or-last (T.wake t) z = absurd (none-out z)
+out-or-last T.never z = absurd (none-out z)
+out-or-last (T.len n) z = absurd (none-out z)
+out-or-last (T.no n) z = absurd (none-out z)
+
+-- an answer that hands out a timer which does not repeat is a plain one
+pub plain-out : {s : QueueWords} → Sound s → {now : ℕ} → elapsed s ≤ now → {x : Told} {w : View} → QueuePolls (view s) now x w
+    → {k a d m n r : ℕ} → Hands x k a d m n → r ≡ numberIn k → view s .period r ≡ 0 → x ≡ T.out k a d m n
+unfolding plainly
+plain-out S h (nothing T) z e f = absurd (none-out z)
+plain-out {s} S h (handed {r = i} {m} {n} O G) {k} {a} {d} {m = m₁} {n = n₁} {r} z e f = by G z
+  where
+    place : (p : ℕ) × At (view s) i p
+    place = taken-out S h O .out i refl
+
+    same : timer (keyOf (view s) i) (view s .value i) (view s .deadline i) m n ≡ timer k a d m₁ n₁ → i ≡ r
+    same q =
+        let c : keyOf (view s) i ≡ k = cc in
+        key-of-names S (place .1) .number ∙ ap (λ j. numberIn j) c ∙ sym e
+
+    by : {u : View} {x : Told} {w : View} → GoesOn (view s) i m n u x w → Hands x k a d m₁ n₁ → x ≡ T.out k a d m₁ n₁
+    by (once p) q = ap plainly q
+    by (again p g) q = ap plainly q
+    by (ended p g) q = absurd (omega (arith, ap (view s .period) (same q)))
+
+-- ---- the promises of one poll
+
 module _ {s : QueueWords} (S : Sound s) {now : ℕ} (not-back : elapsed s ≤ now) {a : Answer} {t : QueueWords} (P : PollClaim s now a t) where
   pub poll-parts : Polled (view s) now (told a) (view t)
   poll-parts = poll-works (view s) (S .rule) not-back (P .good S .done not-back .1)
 
   pub poll-least : PollLeast (view s) now (told a) (view t)
   unfolding pending
-  poll-least = by (poll-parts .got) (poll-parts .is) (poll-parts .fair) (poll-parts .kept) (poll-parts .turn)
+  poll-least = of (P .good S .done not-back .1)
     where
-      stays : (o : Option ℕ) → ((y : ℕ) → Other o y → view t .turn y ≡ view s .turn y) → (y : ℕ) → Other o y
-          → SameRecord (view s) (view t) y
-      stays o f y h = record { value = λ i. poll-parts .value i y; deadline = λ i. poll-parts .deadline i y; turn = f y h }
-
-      by : (o : Option ℕ) → told a ≡ saysOf (view s) o (poll-parts .moves) (poll-parts .drains) → Fairly (view s) now o
-          → ((w : ℕ → ℕ) → weigh w (view t .lists) + given w o ≡ weigh w (view s .lists))
-          → ((y : ℕ) → Other o y → view t .turn y ≡ view s .turn y) → PollLeast (view s) now (told a) (view t)
-      by none is f k g =
-          let there : (y : ℕ) → IsPending (view s) y → IsPending (view t) y
-          = λ y h. times-pending (view t) y (omega (arith, k (hits y), pending-times (view s) y h)) in
-          let back : (y : ℕ) → IsPending (view t) y → IsPending (view s) y
-          = λ y h. times-pending (view s) y (omega (arith, k (hits y), pending-times (view t) y h)) in
+      of : {x : Told} {w : View} → QueuePolls (view s) now x w → PollLeast (view s) now x w
+      of (nothing T) =
+          let O = taken-out S not-back T in
+          let F = takes-works (view s) (S .rule) not-back T in
           record {
-            hands-out = (λ o. absurd (none-out (sym is ∙ o .5)), λ d. absurd (omega (arith, f (d .0) (d .1))));
-            otherwise = λ d. (_, _, is);
-            out = λ k w d m n e. absurd (none-out (sym is ∙ e));
-            rest = λ m n e. record { stay = λ y h. (there y h, stays none g y tt); only = back; same = omega (arith, k (λ x. 1)) };
-          }
-      by (some r) is f k g =
-          let gone : IsPending (view t) r → ⊥
-          = λ h. let one : hits r r ≡ 1 = rw (eq-eqb r r refl) in
-          omega (arith, k (hits r), lies-once S r free, pending-times (view t) r h) in
-          record {
-            hands-out = (λ o. (r, f .0, f .1), λ d. (_, _, _, _, _, is));
-            otherwise = λ d. absurd (d (r, f .0, f .1));
-            out = λ i w d m n e.
-                let q : saysOf (view s) (some r) (poll-parts .moves) (poll-parts .drains) ≡ T.out i w d m n = sym is ∙ e in
-                let a : i ≡ keyOf (view s) r = cc in
-                let b : d ≡ view s .deadline r = cc in
+            hands-out = (λ o. absurd (none-out (o .5)), λ d. absurd (omega (arith, F .fair (d .0) (d .1))));
+            otherwise = λ d. (_, _, refl);
+            out = λ k w d m n e. absurd (none-out e);
+            rest = λ m n e. record {
+              stay = λ y h. (
+                O .stays y tt (h .0) (h .1),
                 record {
-                  timer = r;
-                  place = f .0 .0;
-                  names = rw a (key-of-names S (f .0 .1));
-                  value = cc;
-                  deadline = b;
-                  due = omega arith;
-                  least = λ y h. omega (arith, f .2 y h);
-                  gone = gone;
-                  dead = λ j q N.
-                      let z : j ≡ r = N .number ∙ ap (λ x. numberIn x) a ∙ sym (key-of-names S (f .0 .1) .number) in
-                      gone (q, rw z at (N .pending));
-                  others = λ y h z.
-                      let none : hits y r ≡ 0 = rw (ne-eqb r y (λ e. z (sym e))) in
-                      (times-pending (view t) y (omega (arith, k (hits y), pending-times (view s) y h)), stays (some r) g y z);
-                  only = λ y h. (times-pending (view s) y (omega (arith, k (hits y), pending-times (view t) y h)), λ z. gone (rw z at h));
-                  fewer = k (λ x. 1);
-                };
-            rest = λ m n e. absurd (none-out (sym e ∙ is));
+                  value = ap (λ f. f y) (O .value);
+                  period = ap (λ f. f y) (O .period);
+                  deadline = ap (λ f. f y) (O .deadline);
+                  turn = ap (λ f. f y) (O .turn);
+                },
+              );
+              only = λ y h. O .was y (h .0) (h .1);
+              same = omega (arith, F .kept (λ x. 1));
+            };
+          }
+      of (handed T G) =
+          let F = takes-works (view s) (S .rule) not-back T .fair in
+          record {
+            hands-out = (λ o. (_, F .0, F .1), λ d. (_, _, _, _, _, goes-on-says G));
+            otherwise = λ d. absurd (d (_, F .0, F .1));
+            out = least-of S not-back T G;
+            rest = λ m n e. absurd (none-out (ap handing (sym e) ∙ goes-on-says G));
           }
 
   pub poll-clock : PollClock (view s) now (told a) (view t)
   poll-clock = by (poll-parts .got) (poll-parts .is) (poll-parts .clock)
     where
-      by : (o : Option ℕ) → told a ≡ saysOf (view s) o (poll-parts .moves) (poll-parts .drains)
+      by : (o : Option ℕ) → handing (told a) ≡ saysOf (view s) o (poll-parts .moves) (poll-parts .drains)
           → elapsed t ≡ clockAfter (view s .deadline) now (elapsed s) o
           → PollClock (view s) now (told a) (view t)
       by none is c = record { out = λ k w d m n e. absurd (none-out (sym is ∙ e)); rest = λ m n e. c }
       by (some r) is c =
           record {
             out = λ k w d m n e. let b : view s .deadline r ≡ d = cc in rw b at c;
-            rest = λ m n e. absurd (none-out (sym e ∙ is));
+            rest = λ m n e. absurd (none-out (ap handing (sym e) ∙ is));
           }
 
   -- the moves and drains of the answer are those of the wheel
   pub poll-counts : (movesOf (told a) ≡ poll-parts .moves) × (drainsOf (told a) ≡ poll-parts .drains)
-  poll-counts = by (poll-parts .got) (poll-parts .is)
+  poll-counts = by (poll-parts .got) (poll-parts .became)
     where
-      by : (o : Option ℕ) → told a ≡ saysOf (view s) o (poll-parts .moves) (poll-parts .drains)
+      by : (o : Option ℕ) → Became (view s) o (poll-parts .moves) (poll-parts .drains) (poll-parts .taken) (told a) (view t)
           → (movesOf (told a) ≡ poll-parts .moves) × (drainsOf (told a) ≡ poll-parts .drains)
-      by none is = (ap movesOf is, ap drainsOf is)
-      by (some r) is = (ap movesOf is, ap drainsOf is)
+      by none is = (ap movesOf (is .0), ap drainsOf (is .0))
+      by (some r) G = goes-on-counts G
 
   -- "Drains are the drained slots: at most the moves, and 0 exactly when moves are 0."
   pub poll-drains : (drainsOf (told a) ≤ movesOf (told a)) × ((drainsOf (told a) ≡ 0) ↔ (movesOf (told a) ≡ 0))
   poll-drains =
       let c = poll-counts in
-      (omega (arith, poll-parts .few), (λ z. c .0 ∙ poll-parts .idle (sym (c .1) ∙ z), λ z. omega (arith, poll-parts .few)))
+      let B = poll-parts .by in
+      (omega (arith, B .few), (λ z. c .0 ∙ B .idle (sym (c .1) ∙ z), λ z. omega (arith, B .few)))

@@ -1,24 +1,24 @@
 -- Two keys whose timers wait in one list with one deadline, the first before the second: no call hands out the second first (`goes-queued`), and
--- whoever is placed where an equal waits stands behind it (`set-queued`).
+-- whoever is placed where an equal waits stands behind it (`placed-queued`).
 use mathlib.Core.Path.{_≡_, refl, sym, ap, _∙_}
 use mathlib.Core.Logic.{_≢_, _⊎_, inl, inr, ⊎-elim, by-cases}
 use mathlib.Core.Bool.{false, not, true≢false}
-use mathlib.Core.List.{List, [], _∷_}
+use mathlib.Core.List.{List, [], _∷_, prod}
 use mathlib.Core.Option.{Option, some, Option·some-injective, Option·some-ne-none}
-use Prim.Native.Nat.{ℕ, _≤_, _<_, max}
+use Prim.Native.Nat.{ℕ, _≤_, _<_, max, _+_}
 use native.Mathlib.Decide.{ℕ-discrete}
 use native.Mathlib.Omega.{arith}
 use Rattle.links.specs.Lists.{Mem, without, change}
-use Rattle.links.proofs.laws.Lists.{change-same, change-other}
+use Rattle.links.proofs.laws.Lists.{change-same, change-other, mem-app}
 use Rattle.stack.specs.Places.{slots, expired, free, put}
 use Rattle.stack.proofs.laws.Places.{put-tail}
 use Rattle.stack.proofs.laws.Whole as stack-laws
 use Rattle.wheel.specs.Wheel.{Lists}
 use Rattle.wheel.proofs.laws.Between.{rule-between}
-use Rattle.queue.specs.Told.{Told}
+use Rattle.queue.specs.Told.{Told, timer, handing}
 use Rattle.queue.specs.Told as T
-use Rattle.queue.specs.Steps.{TakesOut, QueuePolls, polled, popped, handed, nothing}
-use Rattle.records.specs.View.{View, withValue, upd}
+use Rattle.queue.specs.Steps.{TakesOut, GoesOn, once, again, ended, QueuePolls, polled, popped, handed, nothing}
+use Rattle.records.specs.View.{View, withValue, withPeriod, upd}
 use Rattle.records.specs.Records.{keyOf, At, Names, taken, left, target, placed, freed, numberIn, turnIn}
 use Rattle.records.specs.Words.{QueueWords, elapsed, view, Sound}
 use Rattle.records.proofs.laws.Words.{upd-same, upd-other}
@@ -28,9 +28,8 @@ use Rattle.delay_queue.specs.declared.Call.the-variants as C
 use Rattle.promises.specs.OneCall.{isNo}
 use Rattle.promises.specs.KeysStay.{Aims, Out}
 use Rattle.promises.proofs.laws.Views.{ViewGoes, refuses, formats, inserts, resets, removes, polls, wakes, counts, clears, out-polls}
-use Rattle.promises.proofs.laws.Polling.{freed-beside, one-list, lies-once, none-out}
-use Rattle.promises.proofs.laws.TakesOut.{taken-out}
-use Rattle.promises.proofs.laws.KeysOne.{target-timed}
+use Rattle.promises.proofs.laws.Polling.{target-timed, freed-beside, none-out, goes-on-says}
+use Rattle.promises.proofs.laws.TakesOut.{one-list, lies-once, taken-out}
 use Rattle.promises.proofs.laws.KeysStay.{key-is}
 use Rattle.promises.proofs.laws.Order.{names-it}
 use Rattle.promises.proofs.laws.Precedes.{Precedes, Leads, prec-mem, prec-left, prec-end, prec-without, gone-then, leave-first, polls-first}
@@ -108,7 +107,7 @@ placed-behind i when v r d e m =
 
 -- ---- one call
 
-same-key : {v : View} {j k r s p q : ℕ} → Names v j r p → Names v k s q → r ≡ s → j ≡ k
+pub same-key : {v : View} {j k r s p q : ℕ} → Names v j r p → Names v k s q → r ≡ s → j ≡ k
 same-key {v} M N e = key-is M ∙ ap (keyOf v) e ∙ sym (key-is N)
 
 -- the key names the record in another view too, where it has the same turn
@@ -147,27 +146,39 @@ module _ {st : QueueWords} (S : Sound st) {j k : ℕ} (Q : Queued (view st) j k)
   abbrev pub Ends : Told → View → Type 0
   Ends x u = (Out k x → ⊥) × (Out j x ⊎ Queued u j k)
 
-  -- i is handed out, which is not that of k: it is that of j, or both wait on
-  out-ends : (i p m n : ℕ) (u : View) → At v i p → u .n ≡ v .n → u .turn ≡ v .turn → Q .back ≢ i
-      → (Q .front ≡ i) ⊎ First u (Q .front) (Q .back) → Ends (T.out (keyOf v i) (v .value i) (v .deadline i) m n) (freed i u)
-  out-ends i p m n u a size t back O =
+  -- another than the two goes on, freed or placed again, and both wait on
+  kept-placed : (i when : ℕ) (u : View) → u .n ≡ v .n → u .turn ≡ v .turn → First (placed i when u) (Q .front) (Q .back)
+      → Queued (placed i when u) j k
+  unfolding placed
+  kept-placed i when u n t O = requeued Q n (ap (λ f. f (Q .front)) t) (ap (λ f. f (Q .back)) t) O
+
+  kept-freed : (i : ℕ) (u : View) → u .n ≡ v .n → u .turn ≡ v .turn → Q .front ≢ i → Q .back ≢ i → First u (Q .front) (Q .back) → Queued (freed i u) j k
+  kept-freed i u n t f g O =
       let B = freed-beside i u in
-      let given : keyOf v i ≡ j → Out j (T.out (keyOf v i) (v .value i) (v .deadline i) m n)
-      = λ z. (v .value i, v .deadline i, m, n, ap (λ y. T.out y (v .value i) (v .deadline i) m n) z) in
-      let gives : Q .front ≡ i → Out j (T.out (keyOf v i) (v .value i) (v .deadline i) m n)
-      = λ z. given (sym (key-is (Q .front-key) ∙ ap (keyOf v) z)) in (
-        λ z. let f : keyOf v i ≡ k = by z in back (sym (names-it S a f (Q .back-key) .0)),
-        by-cases (ℕ-discrete (Q .front) i) (λ z. inl (gives z))
-            (λ z.
-            ⊎-elim (λ y. inl (gives y))
-            (λ y.
-            inr (requeued Q (B .size ∙ size) (B .turn (Q .front) z ∙ ap (λ f. f (Q .front)) t) (B .turn (Q .back) back ∙ ap (λ f. f (Q .back)) t)
-            (freed-first i u y)))
-            O),
+      requeued Q (B .size ∙ n) (B .turn (Q .front) f ∙ ap (λ h. h (Q .front)) t) (B .turn (Q .back) g ∙ ap (λ h. h (Q .back)) t) (freed-first i u O)
+
+  kept-on : {i m n : ℕ} {u : View} {x : Told} {w : View} → GoesOn v i m n u x w → u .n ≡ v .n → u .turn ≡ v .turn → Q .front ≢ i → Q .back ≢ i
+      → First u (Q .front) (Q .back) → Queued w j k
+  kept-on {i} {u = u} (once z) n t f g O = kept-freed i u n t f g O
+  kept-on {i} {u = u} (again p z) n t f g O =
+      let when = v .deadline i + v .period i in
+      kept-placed i when u n t (placed-first i when u f g O)
+  kept-on {i} {u = u} (ended p z) n t f g O = kept-freed i u n t f g O
+
+  -- i is handed out, which is not that of k: it is that of j, or both wait on
+  out-ends : (i p : ℕ) {m n : ℕ} {u : View} {x : Told} {w : View} → At v i p → GoesOn v i m n u x w → u .n ≡ v .n → u .turn ≡ v .turn → Q .back ≢ i
+      → (Q .front ≡ i) ⊎ First u (Q .front) (Q .back) → Ends x w
+  out-ends i p {m} {n} {u} {x} {w} a G size t back O =
+      let z : handing x ≡ timer (keyOf v i) (v .value i) (v .deadline i) m n = goes-on-says G in
+      let gives : Q .front ≡ i → Out j x
+      = λ y. (_, _, _, _, z ∙ ap (λ e. timer e (v .value i) (v .deadline i) m n) (sym (key-is (Q .front-key) ∙ ap (keyOf v) y))) in (
+        λ o. back (sym (names-it S a (by x z (o .4)) (Q .back-key) .0)),
+        by-cases (ℕ-discrete (Q .front) i) (λ y. inl (gives y))
+            (λ y. ⊎-elim (λ e. inl (gives e)) (λ e. inr (kept-on G size t y back e)) O),
       )
     where
-      by : {a b c d e : ℕ} → Out k (T.out a b c d e) → a ≡ k
-      by z = let y = z .4 in cc
+      by : (x : Told) {a b c d e a′ b′ c′ d′ e′ : ℕ} → handing x ≡ timer a b c d e → handing x ≡ timer a′ b′ c′ d′ e′ → a ≡ a′
+      by x {a = a} {b} {c} {d} {e} {a′} {b′} {c′} {d′} {e′} p q = let y : timer a b c d e ≡ timer a′ b′ c′ d′ e′ = sym p ∙ q in cc
 
   -- on the wheel, where the expired stack is empty
   on-wheel : v .lists expired ≡ [] → Leads slots (v .deadline) (v .lists) (Q .front) (Q .back)
@@ -193,11 +204,11 @@ module _ {st : QueueWords} (S : Sound st) {j k : ℕ} (Q : Queued (view st) j k)
       (O .0, ⊎-elim inl (λ y. inr (off-wheel y)) (O .1))
 
   poll-ends : {now : ℕ} {x : Told} {u : View} → elapsed st ≤ now → QueuePolls v now x u → Ends x u
-  poll-ends h (handed {r = i} {m = m} {n = n} {u = u} T) =
+  poll-ends h (handed {r = i} T G) =
       let E = takes-ends h T in
       let O = taken-out S h T in
       let a = O .out i refl in
-      out-ends i (a .0) m n u (a .1) (O .size) (O .turn) (λ z. E .0 (ap some (sym z)))
+      out-ends i (a .0) (a .1) G (O .size) (O .turn) (λ z. E .0 (ap some (sym z)))
       (⊎-elim (λ y. inl (sym (Option·some-injective i (Q .front) y))) inr (E .1))
   poll-ends h (nothing T) =
       let E = takes-ends h T in
@@ -211,20 +222,15 @@ module _ {st : QueueWords} (S : Sound st) {j k : ℕ} (Q : Queued (view st) j k)
   unfolding left
   left-same p i = (refl, refl)
 
-  kept-placed : (i when : ℕ) (u : View) → u .n ≡ v .n → u .turn ≡ v .turn → First (placed i when u) (Q .front) (Q .back)
-      → Queued (placed i when u) j k
-  unfolding placed
-  kept-placed i when u n t O = requeued Q n (ap (λ f. f (Q .front)) t) (ap (λ f. f (Q .back)) t) O
-
   -- a call that neither resets, removes, clears nor formats away one of the two
   pub goes-queued : {c : Call} {x : Told} {u : View} → ViewGoes v c x u → (Aims j c → not (isNo x) ≡ false) → (Aims k c → not (isNo x) ≡ false)
       → (Out j x → ⊥) → Queued u j k
   goes-queued refuses a b o = Q
   goes-queued formats a b o = absurd (true≢false (a tt))
-  goes-queued (inserts {value = value} {when = when} {r = i} {l = l} e) a b o =
+  goes-queued (inserts {value = value} {when = when} {period = period} {r = i} {l = l} e) a b o =
       let m : Mem i (v .lists free) = rw e (inl refl) in
       let away : free ≢ Q .place = omega (arith, Q .front-key .pending .timed) in
-      let u = withValue (upd (v .value) i value) (taken l v) in
+      let u = withPeriod (upd (v .period) i period) (withValue (upd (v .value) i value) (taken l v)) in
       let O : First u (Q .front) (Q .back) = first-same v u refl now-first (change-other (v .lists) free l (Q .place) (λ z. away (sym z))) in
       kept-placed i when u refl refl (placed-first i when u (other-front i free away m) (other-back i free away m) O)
   goes-queued (resets {when = when} {r = i} {p = p} N) a b o =
@@ -235,10 +241,8 @@ module _ {st : QueueWords} (S : Sound st) {j k : ℕ} (Q : Queued (view st) j k)
   goes-queued (removes {r = i} {p = p} N) a b o =
       let f : Q .front ≢ i = λ z. true≢false (a (same-key N (Q .front-key) (sym z))) in
       let g : Q .back ≢ i = λ z. true≢false (b (same-key N (Q .back-key) (sym z))) in
-      let B = freed-beside i (left p i v) in
       let L = left-same p i in
-      requeued Q (B .size ∙ L .0) (B .turn (Q .front) f ∙ ap (λ h. h (Q .front)) (L .1)) (B .turn (Q .back) g ∙ ap (λ h. h (Q .back)) (L .1))
-      (freed-first i (left p i v) (left-first p i v f g now-first))
+      kept-freed i (left p i v) (L .0) (L .1) f g (left-first p i v f g now-first)
   goes-queued (polls h P) a b o = ⊎-elim (λ z. absurd (o z)) (λ R. R) (poll-ends h P .1)
   goes-queued (wakes W) a b o = Q
   goes-queued counts a b o = Q
@@ -250,54 +254,25 @@ module _ {st : QueueWords} (S : Sound st) {j k : ℕ} (Q : Queued (view st) j k)
 
 -- ---- a placing
 
--- the timer of j waits in the list where one that is set for `when` comes, and with the deadline that it gets
-module _ {s : QueueWords} (S : Sound s) (when : ℕ) {j r p : ℕ} (N : Names (view s) j r p)
-    (here : p ≡ target (elapsed s) (max when (elapsed s))) (equal : view s .deadline r ≡ max when (elapsed s)) where
-  -- the record i, set so
-  behind : (i k : ℕ) (w : View) → r ≢ i → w .elapsed ≡ elapsed s → w .n ≡ view s .n → w .deadline ≡ view s .deadline
-      → w .turn ≡ view s .turn → i < view s .n → i ≡ numberIn k → view s .turn i ≡ turnIn k → Mem r (w .lists p) → Queued (placed i when w) j k
-  unfolding placed
-  behind i k w d e n dd t below number turn m =
-      let q : p ≡ target (w .elapsed) (max when (w .elapsed)) = rw e here in
-      let O : First (placed i when w) r i = placed-behind i when w r d (rw (e, dd) equal) (rw (← q) m) in
-      let k₂ = prec-mem r i (placed i when w .lists (O .place)) (O .order) in
-      record {
-        front = r;
-        back = i;
-        place = O .place;
-        front-key = renamed N n (ap (λ f. f r) t) (record { timed = O .within; member = k₂ .0 });
-        back-key = record {
-          number = number;
-          below = rw n below;
-          pending = record { timed = O .within; member = k₂ .1 };
-          turn = ap (λ f. f i) t ∙ turn;
-        };
-        order = O .order;
-        equal = O .equal;
-      }
-
-  -- it stands before one that is inserted
-  pub insert-queued : {value : ℕ} {x : Told} {u : View} → ViewGoes (view s) (C.Insert value when) x u → {k : ℕ} → x ≡ T.key k → Queued u j k
-  insert-queued refuses f = let y : _≡_ {A = ℕ} 0 1 = cc in absurd (omega arith)
-  insert-queued {value} (inserts {r = i} {l = l} g) {k} f =
-      let f₁ : keyOf (view s) i ≡ k = cc in
-      let m : Mem i (view s .lists free) = rw g (inl refl) in
-      let b = stack-laws.member-below (S .standing .whole .stack) free i m in
-      let d : r ≢ i = λ y. omega (arith, N .pending .timed, one-list S i p free (rw y at (N .pending .member)) m) in
-      let number : i ≡ numberIn k = omega (arith, f₁, b) in
-      let turn : view s .turn i ≡ turnIn k = omega (arith, f₁, b) in
-      behind i k (withValue (upd (view s .value) i value) (taken l (view s))) d refl refl refl refl b number turn
-      (rw (change-other (view s .lists) free l p (omega (arith, N .pending .timed))) (N .pending .member))
-
-  -- and before one that is reset: "a reset counting as a new placing"
-  pub reset-queued : {k : ℕ} {x : Told} {u : View} → ViewGoes (view s) (C.Reset k when) x u → j ≢ k → x ≡ T.ok → Queued u j k
-  unfolding left
-  reset-queued refuses n f = let y : _≡_ {A = ℕ} 0 1 = cc in absurd (omega arith)
-  reset-queued {k} (resets {r = i} {p = q} M) n f =
-      let d : r ≢ i = λ y. n (same-key N M y) in
-      let l = without i (view s .lists q) in
-      let stays : Mem r (change (view s .lists) q l p)
-      = by-cases (ℕ-discrete p q)
-      (λ (y : p ≡ q). rw (y, change-same (view s .lists) q l) (mem-other i r (view s .lists q) d (rw y at (N .pending .member))))
-      (λ y. rw (change-other (view s .lists) q l p y) (N .pending .member)) in
-      behind i k (left q i (view s)) d refl refl refl refl (M .below) (M .number) (M .turn) stays
+-- the record i was placed last: it stands behind every other that lies where it came, with the deadline that it got
+pub placed-queued : {j k r p q : ℕ} (i when : ℕ) (v : View) → Names (placed i when v) j r p → Names (placed i when v) k i q → r ≢ i
+    → placed i when v .deadline r ≡ max when (v .elapsed) → p ≡ target (v .elapsed) (max when (v .elapsed)) → Queued (placed i when v) j k
+unfolding placed
+placed-queued {r = r} {p} i when v N M d e here =
+    let w : ℕ = max when (v .elapsed) in
+    let L = v .lists in
+    let m : Mem r (put p i (L p)) = rw (change-same L p (put p i (L p))) at (rw (← here) at (N .pending .member)) in
+    let was : Mem r (L p)
+    = ⊎-elim (λ x. x) (λ x. absurd (⊎-elim d (λ y. y) x))
+    (mem-app r (L p) (i ∷ []) (rw (put-tail p i (L p) (omega (arith, N .pending .timed))) at m)) in
+    let O : First (placed i when v) r i = placed-behind i when v r d (sym (upd-other (v .deadline) i w r d) ∙ e) (rw here at was) in
+    let both = prec-mem r i (placed i when v .lists (O .place)) (O .order) in
+    record {
+      front = r;
+      back = i;
+      place = O .place;
+      front-key = renamed N refl refl (record { timed = O .within; member = both .0 });
+      back-key = renamed M refl refl (record { timed = O .within; member = both .1 });
+      order = O .order;
+      equal = O .equal;
+    }

@@ -19,7 +19,7 @@ use Rattle.wheel.proofs.laws.One.{polls-one}
 use Rattle.wheel.proofs.laws.Sums.{put-mem}
 use Rattle.queue.specs.declared.Answer.{Answer}
 use Rattle.queue.specs.Told.{Told}
-use Rattle.records.specs.View.{View, withValue, upd}
+use Rattle.records.specs.View.{withPeriod, View, withValue, upd}
 use Rattle.records.specs.Records.{Takes, taken, target, placed}
 use Rattle.queue.specs.Steps.{QueuePolls, polled, popped, handed, nothing}
 use Rattle.records.specs.Words.{QueueWords, words, slices, count, elapsed, view, Sound}
@@ -34,8 +34,8 @@ use Rattle.promises.specs.Looking.{OnSlot}
 -- a poll takes it to any time
 quiet-polls : {v : View} {now : ℕ} → ((p : ℕ) → p < free → v .lists p ≡ []) → {y : Told} {u : View} → QueuePolls v now y u
     → (u .elapsed ≡ now) × (u .lists ≡ v .lists)
-quiet-polls E (handed (popped e)) = absurd (nil≢cons (sym (E expired (omega arith)) ∙ e))
-quiet-polls E (handed (polled e P)) = absurd (Option·some-ne-none _ (polls-one P (idle (λ q h. E q (omega arith))) .got))
+quiet-polls E (handed (popped e) G) = absurd (nil≢cons (sym (E expired (omega arith)) ∙ e))
+quiet-polls E (handed (polled e P) G) = absurd (Option·some-ne-none _ (polls-one P (idle (λ q h. E q (omega arith))) .got))
 quiet-polls E (nothing (polled e P)) = let S = polls-one P (idle (λ q h. E q (omega arith))) in (S .elapsed, S .lists)
 
 pub quiet-poll : {s t : QueueWords} {a : Answer} {e now : ℕ} → Quiet s e → e ≤ now → PollClaim s now a t → Quiet t now
@@ -91,11 +91,12 @@ placed-expired v x when h e =
     )
 
 -- one that is inserted with a deadline not past elapsed waits on the expired stack
-pub quiet-expired : {s t : QueueWords} {a : Answer} {value when e : ℕ} (Q : Quiet s e) → when ≤ e → InsertClaim s value when a t
+pub quiet-expired : {s t : QueueWords} {a : Answer} {value when period e : ℕ} (Q : Quiet s e) → when ≤ e → InsertClaim s value when period a t
     → Sound t × (elapsed t ≡ e) × (view t .lists expired ≡ Q .item ∷ [])
-quiet-expired {s} {t} {value = value} {when = when} Q h I =
+quiet-expired {s} {t} {value = value} {when = when} {period = period} Q h I =
     let A = I .good (Q .sound) .done (Q .item) (Q .rest) (Q .first) (λ k. absurd (omega arith)) in
-    let v = withValue (upd (view s .value) (Q .item) value) (taken (Q .rest) (view s)) in
+    let v =
+    withPeriod (upd (view s .period) (Q .item) period) (withValue (upd (view s .value) (Q .item) value) (taken (Q .rest) (view s))) in
     let e = change-other (view s .lists) free (Q .rest) expired (omega arith) ∙ Q .empty expired (omega arith) in
     let P = placed-expired v (Q .item) when (omega (arith, Q .clock)) e in
     (A .sound, cc, cc)
@@ -104,7 +105,7 @@ quiet-expired {s} {t} {value = value} {when = when} Q h I =
 pub expired-shown : (e : ℕ) → (s : QueueWords) × Sound s × (elapsed s ≡ e) × ((r : ℕ) × (view s .lists expired ≡ r ∷ []))
 expired-shown e =
     let q = quiet-shown e in
-    let m = insert-met (q .0) 0 0 in
+    let m = insert-met (q .0) 0 0 0 in
     let x = quiet-expired (q .1) (omega arith) (m .2) in
     (m .1, x .0, x .1, (q .1 .item, x .2))
 
@@ -127,11 +128,11 @@ record Came (s t : QueueWords) (x p : ℕ) (l : List ℕ) : Type 0 where
   member : Mem x (view t .lists p)
   else : (q : ℕ) → q < free → q ≢ p → view t .lists q ≡ view s .lists q
 
-came : {s t : QueueWords} {a : Answer} {value when p x : ℕ} {l : List ℕ} → InsertClaim s value when a t → Sound s → view s .lists free ≡ x ∷ l
+came : {s t : QueueWords} {a : Answer} {value when period p x : ℕ} {l : List ℕ} → InsertClaim s value when period a t → Sound s → view s .lists free ≡ x ∷ l
     → Takes (elapsed s) when → target (elapsed s) (max when (elapsed s)) ≡ p → p < free → Came s t x p l
-came {s} {t} {value = value} {when = when} {p = p} {x = x} {l = l} I S f k e h =
+came {s} {t} {value = value} {when = when} {period = period} {p = p} {x = x} {l = l} I S f k e h =
     let A = I .good S .done x l f k in
-    let v = withValue (upd (view s .value) x value) (taken l (view s)) in
+    let v = withPeriod (upd (view s .period) x period) (withValue (upd (view s .value) x value) (taken l (view s))) in
     let L = change (view s .lists) free l in
     let is : view t .lists ≡ change L p (put p x (L p)) = ap (λ u. u .lists) (A .view) ∙ placed-lists x when v p e in
     record {
@@ -151,7 +152,7 @@ two-made : (s : QueueWords) × Sound s × (elapsed s ≡ 0) × (view s .lists fr
 unfolding range
 two-made =
     let w : List ℕ = 0 ∷ 0 ∷ [] in
-    let s = words (record { elapsed = 0; occupied = []; stacks = record { n = 0; expired = 0; free = 0 } }) [] w w w w w w in
+    let s = words (record { elapsed = 0; occupied = []; stacks = record { n = 0; expired = 0; free = 0 } }) [] (0 ∷ 0 ∷ w) w w w w w in
     let F : Fits (slices s) 2
     = record {
       some = omega arith;
@@ -179,9 +180,9 @@ target-0 e = let w : max 0 e ≡ e = omega arith in rw (w, eq-eqb e e refl)
 pub both-shown : (s : QueueWords) × Sound s × ((r : ℕ) × (l : List ℕ) × (view s .lists expired ≡ r ∷ l)) × OnSlot (view s) 0 65
 both-shown =
     let two = two-made in
-    let m = insert-met (two .0) 0 70 in
+    let m = insert-met (two .0) 0 70 0 in
     let A = came (m .2) (two .1) (two .3) (λ h. rw (two .2)) (target-70 (elapsed (two .0)) (two .2)) (omega arith) in
-    let n = insert-met (m .1) 0 0 in
+    let n = insert-met (m .1) 0 0 0 in
     let B = came (n .2) (A .sound) (A .left) (λ h. absurd (omega arith)) (target-0 (elapsed (m .1))) (omega arith) in
     let on : Mem 0 (view (n .1) .lists 65) = rw (B .else 65 (omega arith) (omega arith)) (A .member) in
     (n .1, B .sound, some-first 1 (view (n .1) .lists expired) (B .member), record { slot = omega arith; member = on })

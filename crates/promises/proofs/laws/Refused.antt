@@ -115,13 +115,13 @@ module _ {s t : QueueWords} {a : Answer} where
       (λ f. stop f (F .outside x f))))
       (λ f. stop f (F .short f))
 
-  insert-settled : {value when : ℕ} → Judging s a t (InsertOn s value when a t) → Settled (count s) s a t (linesOf (C.Insert value when) s)
-  insert-settled {value} {when} J = judged J (λ S I. by I (view s .lists free) refl)
+  insert-settled : {value when period : ℕ} → Judging s a t (InsertOn s value when period a t) → Settled (count s) s a t (linesOf (C.Insert value when period) s)
+  insert-settled {value} {when} {period} J = judged J (λ S I. by I (view s .lists free) refl)
     where
       some : {r : ℕ} {l : List ℕ} → view s .lists free ≡ r ∷ l → view s .lists free ≡ [] → ⊥
       some e f = let z : _≡_ {A = ℕ} 0 1 = cc in omega arith
 
-      by : InsertOn s value when a t → (l : List ℕ) → view s .lists free ≡ l
+      by : InsertOn s value when period a t → (l : List ℕ) → view s .lists free ≡ l
           → Settled (count s) s a t (line 3 (view s .lists free ≡ [])
           (line 4 (TooFar (elapsed s) when) (line 5 (OtherBlock (elapsed s) when) end)))
       by I [] e = stop e (I .full e)
@@ -146,7 +146,7 @@ looks {s} {t} {a} {l} e E = rw e E
 
 settled : (c : Call) (s : QueueWords) (a : Answer) (t : QueueWords) → CallClaim c s a t → Settled (reach c s) s a t (linesOf c s)
 settled (C.Format n turn) s a t A = format-settled A
-settled (C.Insert value when) s a t A = insert-settled A
+settled (C.Insert value when period) s a t A = insert-settled A
 settled (C.Reset key when) s a t A =
     judged A (λ S R. by-names S key (R .dead) (λ r p N. by-when when (R .far r p N) (R .other r p N)
     (λ x. done-so refl (placed-size r when _ ∙ left-size p r (view s)) (R .done r p N x))))
@@ -199,7 +199,7 @@ module _ (c : Call) (s : QueueWords) (a : Answer) (t : QueueWords) (A : CallClai
 
 two : (c : Call) (s : QueueWords) → isFormat c ≡ false → (Sound s → ⊥) → RefusedBy c s 2
 two (C.Format n turn) s e f = absurd (true≢false e)
-two (C.Insert value when) s e f = inl (refl, f)
+two (C.Insert value when period) s e f = inl (refl, f)
 two (C.Reset key when) s e f = inl (refl, f)
 two (C.Remove key) s e f = inl (refl, f)
 two (C.Poll now) s e f = inl (refl, f)
@@ -249,7 +249,7 @@ far x = ⊎-elim (λ y. y .1 .0) (λ y. ⊎-elim (λ z. z .1 .0) (λ z. absurd (
 
 later : (c : Call) (s : QueueWords) (k : ℕ) → 3 < k → k < 6 → RefusedBy c s k → elapsed s < whenOf c
 later (C.Format n turn) s k h g x = absurd (passed (omega arith) (passed (omega arith) x))
-later (C.Insert value when) s k h g x = far (passed (omega arith) (passed (omega arith) x))
+later (C.Insert value when period) s k h g x = far (passed (omega arith) (passed (omega arith) x))
 later (C.Reset key when) s k h g x = far (passed (omega arith) (passed (omega arith) x))
 later (C.Remove key) s k h g x = absurd (passed (omega arith) (passed (omega arith) x))
 later (C.Poll now) s k h g x = absurd (passed (omega arith) (passed (omega arith) x))

@@ -17,9 +17,13 @@ use Rattle.wheel.proofs.laws.Sums.{total-ext, total-more, put-mem}
 use Rattle.wheel.specs.Drain.{heights}
 use Rattle.queue.specs.declared.Answer.{Answer}
 use Rattle.queue.specs.declared.Answer.the-variants as A
-use Rattle.queue.specs.Told.{told, Hands}
-use Rattle.records.specs.View.{withValue, upd}
-use Rattle.records.specs.Records.{keyOf, At, taken, target, placed}
+use Rattle.queue.specs.Told.{Told, timer, told, Hands}
+use Rattle.queue.specs.Told as T
+use Rattle.records.specs.View.{View, withValue, withPeriod, upd}
+use Rattle.records.specs.Records.{keyOf, At, taken, target, placed, numberIn}
+use Rattle.queue.proofs.laws.Polls.{polls-size}
+use Rattle.promises.specs.Bounded.{IsSetAgain}
+use Rattle.promises.proofs.laws.Polling.{plain-out}
 use Rattle.queue.specs.Steps.{pending}
 use Rattle.records.specs.Words.{QueueWords, count, elapsed, view, Sound}
 use Rattle.records.proofs.laws.Words.{upd-same}
@@ -66,7 +70,7 @@ waiting = insert-shown .0
 abbrev pub waiting-sound : Sound waiting
 waiting-sound = insert-shown .2
 
-waiting-view : view waiting ≡ placed 0 70 (withValue (upd (view one .value) 0 7) (taken [] (view one)))
+waiting-view : view waiting ≡ placed 0 70 (withPeriod (upd (view one .period) 0 0) (withValue (upd (view one .value) 0 7) (taken [] (view one))))
 waiting-view = insert-shown .1 .good one-sound .done 0 [] one-free (λ h. refl) .view
 
 place-70 : target 0 70 ≡ 65
@@ -90,6 +94,10 @@ waiting-elapsed = ap (λ v. v .elapsed) waiting-view
 waiting-value : view waiting .value 0 ≡ 7
 unfolding placed
 waiting-value = ap (λ v. v .value 0) waiting-view ∙ upd-same (view one .value) 0 7
+
+waiting-period : view waiting .period 0 ≡ 0
+unfolding placed
+waiting-period = ap (λ v. v .period 0) waiting-view ∙ upd-same (view one .period) 0 0
 
 pub waiting-deadline : view waiting .deadline 0 ≡ 70
 unfolding placed
@@ -125,8 +133,15 @@ waiting-pending = waiting-total (λ p x. 1) free (omega arith) (omega arith)
 
 -- ---- and polled
 
+-- who is set again is who is handed out
+again-is : (v : View) {x : Told} {k w d m n r y : ℕ} → Hands x k w d m n → r ≡ numberIn k → IsSetAgain v x y → y ≡ r
+again-is v {k = k} {w} {d} {m} {n} z e g =
+    let q : timer k w d m n ≡ timer (g .0) (g .1) (g .2) (g .3) (g .4) = sym z ∙ g .5 in
+    let c : g .0 ≡ k = cc in
+    g .6 ∙ ap (λ j. numberIn j) c ∙ sym e
+
 module _ {s : QueueWords} (S : Sound s) (c : count s ≡ 1) {p now : ℕ} (b : At (view s) 0 p) (not-back : elapsed s ≤ now)
-    (due : view s .deadline 0 ≤ now) where
+    (due : view s .deadline 0 ≤ now) (once : view s .period 0 ≡ 0) where
   -- nothing is pending when the only record has left
   left-empty : {t : QueueWords} → Sound t → count t ≡ 1 → ((q : ℕ) → At (view t) 0 q → ⊥) → heights (view t .lists) ≡ 0
   unfolding heights
@@ -137,27 +152,32 @@ module _ {s : QueueWords} (S : Sound s) (c : count s ≡ 1) {p now : ℕ} (b : A
 
   -- the only timer, due and at height 1, comes out with one move and one drain
   comes-out : heights (view s .lists) ≡ 1 → {a : Answer} {t : QueueWords} → PollClaim s now a t
-      → Hands (told a) (keyOf (view s) 0) (view s .value 0) (view s .deadline 0) 1 1
+      → told a ≡ T.out (keyOf (view s) 0) (view s .value 0) (view s .deadline 0) 1 1
   comes-out high {a} {t} P =
       let L = poll-least S not-back P in
       let o = L .hands-out .1 (0, (p, b), due) in
       by (L .out (o .0) (o .1) (o .2) (o .3) (o .4) (o .5)) (o .5)
     where
-      by : {k w d m n : ℕ} → HandsLeast (view s) now k w d (view t) → Hands (told a) k w d m n
-          → Hands (told a) (keyOf (view s) 0) (view s .value 0) (view s .deadline 0) 1 1
-      by {k} {w} {d} {m} {n} H is =
+      by : {k w d m n : ℕ} → HandsLeast (view s) now k w d (told a) (view t) → Hands (told a) k w d m n
+          → told a ≡ T.out (keyOf (view s) 0) (view s .value 0) (view s .deadline 0) 1 1
+      by {k} {w} {d} {m} {n} H hands =
           let z : H .timer ≡ 0 = omega arith in
+          let zero : view s .period (H .timer) ≡ 0 = ap (view s .period) z ∙ once in
+          let is : told a ≡ T.out k w d m n = plain-out S not-back (P .good S .done not-back .1) hands (H .names .number) zero in
+          let E = H .gone (inl zero) in
           let t₀ : view s .turn (H .timer) ≡ view s .turn 0 = ap (view s .turn) z in
           let e₁ : k ≡ keyOf (view s) 0 = omega arith in
           let e₂ : w ≡ view s .value 0 = H .value ∙ ap (view s .value) z in
           let e₃ : d ≡ view s .deadline 0 = H .deadline ∙ ap (view s .deadline) z in
-          let size : count t ≡ 1 = poll-parts S not-back P .size ∙ c in
+          let size : count t ≡ 1 = polls-size (P .good S .done not-back .1) ∙ c in
           let low : heights (view t .lists) ≡ 0
-          = left-empty (P .good S .done not-back .0) size (λ q x. H .gone (q, rw z x)) in
+          = left-empty (P .good S .done not-back .0) size (λ q x. E .gone (q, rw z x)) in
           let D = poll-drains S not-back P in
           let m₁ : movesOf (told a) ≡ m = ap movesOf is in
           let n₁ : drainsOf (told a) ≡ n = ap drainsOf is in
-          let e₄ : m ≡ 1 = omega (arith, moves-are-heights S not-back P) in
+          let M = moves-are-heights S not-back P in
+          let still : M .0 ≡ 0 = M .2 (λ y g. g .7 (inl (ap (view s .period) (again-is (view s) hands (H .names .number) g) ∙ zero))) in
+          let e₄ : m ≡ 1 = omega (arith, M .1, still) in
           let some : n ≡ 0 → m ≡ 0 = λ q. sym m₁ ∙ D .1 .0 (n₁ ∙ q) in
           let e₅ : n ≡ 1 = by-cases (ℕ-discrete n 0) (λ q. absurd (omega (arith, some q))) (λ q. omega arith) in
           is ∙ rw (e₁, e₂, e₃, e₄, e₅)
@@ -167,7 +187,7 @@ pub poll-shown : (t : QueueWords) × PollClaim waiting 70 (A.Out 65536 7 70 1 1)
 poll-shown =
     let m = poll-met waiting 70 in
     let e = comes-out waiting-sound waiting-size waiting-at (omega (arith, waiting-elapsed))
-    (omega (arith, waiting-deadline)) waiting-heights (m .2) in
+    (omega (arith, waiting-deadline)) waiting-period waiting-heights (m .2) in
     let k : keyOf (view waiting) 0 ≡ 65536 = omega (arith, waiting-turn) in
     let f : m .0 ≡ A.Out 65536 7 70 1 1 = told-one (m .0) (A.Out 65536 7 70 1 1) (e ∙ rw (k, waiting-value, waiting-deadline)) in
     (m .1, rw f at (m .2))
@@ -181,6 +201,10 @@ waited-shown =
       record {
         sound = waiting-sound;
         names = record { number = refl; below = omega (arith, waiting-size); pending = waiting-at; turn = waiting-turn };
+        once = λ y k.
+            let b = stack-laws.member-below (waiting-sound .standing .whole .stack) (k .0) y (k .1 .member) in
+            let z : y ≡ 0 = omega (arith, b, waiting-size) in
+            ap (view waiting .period) z ∙ waiting-period;
         runs = next (m .1) rest;
         undisturbed = (refl, tt);
         enough = rw (waiting-deadline, waiting-pending) (omega arith);

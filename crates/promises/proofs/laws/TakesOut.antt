@@ -1,32 +1,76 @@
 -- What a poll takes out, by its lists: who was pending stays pending but the one taken out, which is in no list, and nobody comes (`taken-out`). It does not
 -- matter whether it came from the expired stack or from the wheel.
-use mathlib.Core.Path.{_≡_, refl, sym}
+use mathlib.Core.Path.{_≡_, refl, sym, _∙_}
 use mathlib.Core.Logic.{_≢_, inl, ⊎-elim, by-cases}
-use mathlib.Core.List.{List, []}
+use mathlib.Core.List.{List, [], _∷_}
 use mathlib.Core.Option.{Option, none, some, Option·some-injective, Option·some-ne-none}
-use Prim.Native.Nat.{ℕ, _≤_, _<_}
+use Prim.Native.Nat.{ℕ, zero, suc, _≤_, _<_}
 use native.Mathlib.Decide.{ℕ-discrete, decLt}
 use native.Mathlib.Omega.{arith}
 use borrow.Author.Tests.{eq-eqb, ne-eqb}
 use Rattle.links.specs.Lists.{Mem, change}
-use Rattle.links.proofs.laws.Lists.{change-same, change-other}
+use Rattle.links.proofs.laws.Lists.{Nodup, change-same, change-other}
 use Rattle.stack.specs.Places.{slots, expired, free}
 use Rattle.stack.proofs.laws.Whole as stack-laws
 use Rattle.wheel.specs.Wheel.{Lists, Polls}
-use Rattle.wheel.proofs.laws.Sums.{mem-change, mem-kept, mem-left, hits, lies-times, times-lies}
+use Rattle.wheel.specs.Sums.{sumOf, total}
+use Rattle.wheel.proofs.laws.Sums.{mem-change, mem-kept, mem-left, mem-sum, hits, lies-times, times-lies}
 use Rattle.wheel.proofs.laws.Between.{rule-between}
 use Rattle.wheel.proofs.laws.Drain.{amount}
 use Rattle.wheel.proofs.laws.Poll.{Promise, given, waits-on, poll-law}
 use Rattle.records.specs.View.{View}
-use Rattle.records.specs.Records.{At}
+use Rattle.records.specs.Records.{keyOf, At, Names}
 use Rattle.queue.specs.Steps.{TakesOut, polled, popped}
 use Rattle.records.specs.Words.{QueueWords, view, Sound}
-use Rattle.promises.proofs.laws.Polling.{Other, one-list, lies-once}
+
+-- ---- on a sound store every record is in one list at most
+
+-- how often it lies there
+sum-none : (y : ℕ) (l : List ℕ) → (Mem y l → ⊥) → sumOf (hits y) l ≡ 0
+sum-none y l out = by-cases (decLt 0 (sumOf (hits y) l)) (λ h. absurd (out (mem-sum y l h))) (λ h. omega arith)
+
+sum-once : (y : ℕ) (l : List ℕ) → Nodup l → sumOf (hits y) l ≤ 1
+sum-once y [] d = omega arith
+sum-once y (x ∷ l) d =
+    by-cases (ℕ-discrete x y)
+    (λ e. rw (eq-eqb x y e) (omega (arith, sum-none y l (λ m. d .0 (rw e m)))))
+    (λ n. rw (ne-eqb x y n) (omega (arith, sum-once y l (d .1))))
+
+module _ {s : QueueWords} (S : Sound s) where
+  -- in two lists at once is nobody
+  pub one-list : (i p q : ℕ) → Mem i (view s .lists p) → Mem i (view s .lists q) → p ≡ q
+  one-list i p q m k = sym (stack-laws.member-mark (S .standing .whole .stack) p i m)
+      ∙ stack-laws.member-mark (S .standing .whole .stack) q i k
+
+  -- nobody lies twice in all the lists together
+  pub lies-once : (y n : ℕ) → total (λ q x. hits y x) n (view s .lists) ≤ 1
+  unfolding total
+  lies-once y zero = omega arith
+  lies-once y (suc n) =
+      by-cases (decLt 0 (total (λ q x. hits y x) n (view s .lists)))
+      (λ h.
+      let b = times-lies n (view s .lists) y h in
+      omega (arith, lies-once y n, sum-none y (view s .lists n) (λ m. omega (arith, one-list y (b .0) n (b .2) m))))
+      (λ h. omega (arith, sum-once y (view s .lists n) (stack-laws.list-nodup (S .standing .whole .stack) n)))
+
+  -- the key of a pending record names it
+  pub key-of-names : {r p : ℕ} → At (view s) r p → Names (view s) (keyOf (view s) r) r p
+  key-of-names {r} {p} a =
+      let b = stack-laws.member-below (S .standing .whole .stack) p r (a .member) in
+      record { number = omega arith; below = b; pending = a; turn = omega arith }
+
+-- ---- what is taken out
+
+-- y is not the one
+abbrev pub Other : Option ℕ → ℕ → Type 0
+Other none y = Unit {0}
+Other (some r) y = y ≢ r
 
 -- from v to u nobody comes, and nobody leaves but who is taken out
 pub record TakenOut (v : View) (got : Option ℕ) (u : View) : Type 0 where
   pub size : u .n ≡ v .n
   pub value : u .value ≡ v .value
+  pub period : u .period ≡ v .period
   pub deadline : u .deadline ≡ v .deadline
   pub turn : u .turn ≡ v .turn
   pub free : u .lists free ≡ v .lists free
@@ -95,6 +139,7 @@ module _ {s : QueueWords} (S : Sound s) where
       record {
         size = refl;
         value = refl;
+        period = refl;
         deadline = refl;
         turn = refl;
         free = change-other (v .lists) expired l free (omega arith);
@@ -110,6 +155,7 @@ module _ {s : QueueWords} (S : Sound s) where
       record {
         size = refl;
         value = refl;
+        period = refl;
         deadline = refl;
         turn = refl;
         free = W .aside free (omega arith);

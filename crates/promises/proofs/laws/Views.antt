@@ -4,13 +4,13 @@ use mathlib.Core.List.{List, _∷_}
 use Prim.Native.Nat.{ℕ, _≤_}
 use native.Mathlib.Omega.{arith}
 use Rattle.stack.specs.Places.{free}
-use Rattle.records.specs.View.{View, withElapsed, withValue, upd}
+use Rattle.records.specs.View.{View, withElapsed, withValue, upd, withPeriod}
 use Rattle.records.specs.Records.{keyOf, Names, taken, left, placed, freed}
 use Rattle.records.specs.Words.{QueueWords, view, Sound}
 use Rattle.queue.specs.declared.Answer.{Answer}
 use Rattle.queue.specs.Told.{Told, told, Hands}
 use Rattle.queue.specs.Told as T
-use Rattle.queue.specs.Steps.{QueuePolls, polled, popped, handed, nothing, sleeps, starts, NextWake, at-once, from-wheel, pending, Clears}
+use Rattle.queue.specs.Steps.{QueuePolls, polled, popped, handed, nothing, sleeps, starts, NextWake, at-once, from-wheel, pending, Clears, once, again, ended}
 use Rattle.delay_queue.specs.declared.Call.{Call}
 use Rattle.delay_queue.specs.declared.Call.the-variants as C
 use Rattle.delay_queue.specs.Claims.{fresh, CallClaim}
@@ -21,8 +21,9 @@ use Rattle.promises.proofs.laws.Does.{does}
 pub data ViewGoes (v : View) : Call → Told → View → Type 0 where
   refuses : {c : Call} {k : ℕ} → ViewGoes v c (T.no k) v
   formats : {n turn : ℕ} → ViewGoes v (C.Format n turn) T.ok (fresh n turn v)
-  inserts : {value when r : ℕ} {l : List ℕ} → v .lists free ≡ r ∷ l
-      → ViewGoes v (C.Insert value when) (T.key (keyOf v r)) (placed r when (withValue (upd (v .value) r value) (taken l v)))
+  inserts : {value when period r : ℕ} {l : List ℕ} → v .lists free ≡ r ∷ l
+      → ViewGoes v (C.Insert value when period) (T.key (keyOf v r))
+      (placed r when (withPeriod (upd (v .period) r period) (withValue (upd (v .value) r value) (taken l v))))
   resets : {k when r p : ℕ} → Names v k r p → ViewGoes v (C.Reset k when) T.ok (placed r when (left p r v))
   removes : {k r p : ℕ} → Names v k r p → ViewGoes v (C.Remove k) (T.gone (v .value r) (v .deadline r)) (freed r (left p r v))
   polls : {now : ℕ} {x : Told} {w : View} → v .elapsed ≤ now → QueuePolls v now x w → ViewGoes v (C.Poll now) x w
@@ -49,8 +50,9 @@ call-goes c s a t S A = of (does S c A)
 -- ---- who answers so
 
 poll-no-key : {v : View} {now : ℕ} {x : Told} {w : View} → QueuePolls v now x w → {k : ℕ} → x ≡ T.key k → ⊥
-poll-no-key (handed (popped e)) z = let y : _≡_ {A = ℕ} 0 1 = cc in omega arith
-poll-no-key (handed (polled e P)) z = let y : _≡_ {A = ℕ} 0 1 = cc in omega arith
+poll-no-key (handed T (once p)) z = let y : _≡_ {A = ℕ} 0 1 = cc in omega arith
+poll-no-key (handed T (again p f)) z = let y : _≡_ {A = ℕ} 0 1 = cc in omega arith
+poll-no-key (handed T (ended p f)) z = let y : _≡_ {A = ℕ} 0 1 = cc in omega arith
 poll-no-key (nothing (polled e P)) z = let y : _≡_ {A = ℕ} 0 1 = cc in omega arith
 
 wake-no-key : {v : View} {x : Told} → NextWake v x → {k : ℕ} → x ≡ T.key k → ⊥
@@ -65,10 +67,10 @@ wake-no-out (from-wheel e (starts F)) z = let y : _≡_ {A = ℕ} 0 1 = cc in om
 
 -- a key is answered by an insert alone
 pub key-inserts : {v : View} {c : Call} {x : Told} {w : View} → ViewGoes v c x w → {k : ℕ} → x ≡ T.key k
-    → (value : ℕ) × (when : ℕ) × (c ≡ C.Insert value when)
+    → (value : ℕ) × (when : ℕ) × (period : ℕ) × (c ≡ C.Insert value when period)
 key-inserts refuses z = let y : _≡_ {A = ℕ} 0 1 = cc in absurd (omega arith)
 key-inserts formats z = let y : _≡_ {A = ℕ} 0 1 = cc in absurd (omega arith)
-key-inserts (inserts {value} {when} e) z = (value, when, refl)
+key-inserts (inserts {value} {when} {period} e) z = (value, when, period, refl)
 key-inserts (resets N) z = let y : _≡_ {A = ℕ} 0 1 = cc in absurd (omega arith)
 key-inserts (removes N) z = let y : _≡_ {A = ℕ} 0 1 = cc in absurd (omega arith)
 key-inserts (polls h Q) z = absurd (poll-no-key Q z)
@@ -78,13 +80,13 @@ key-inserts (clears r) z = let y : _≡_ {A = ℕ} 0 1 = cc in absurd (omega ari
 
 -- a timer is handed out by a poll alone
 pub out-polls : {v : View} {c : Call} {x : Told} {w : View} → ViewGoes v c x w → {k a d m n : ℕ} → Hands x k a d m n
-    → (now : ℕ) × (v .elapsed ≤ now) × QueuePolls v now x w
+    → (now : ℕ) × (v .elapsed ≤ now) × QueuePolls v now x w × (c ≡ C.Poll now)
 out-polls refuses z = let y : _≡_ {A = ℕ} 0 1 = cc in absurd (omega arith)
 out-polls formats z = let y : _≡_ {A = ℕ} 0 1 = cc in absurd (omega arith)
 out-polls (inserts e) z = let y : _≡_ {A = ℕ} 0 1 = cc in absurd (omega arith)
 out-polls (resets N) z = let y : _≡_ {A = ℕ} 0 1 = cc in absurd (omega arith)
 out-polls (removes N) z = let y : _≡_ {A = ℕ} 0 1 = cc in absurd (omega arith)
-out-polls (polls {now} h Q) z = (now, h, Q)
+out-polls (polls {now} h Q) z = (now, h, Q, refl)
 out-polls (wakes W) z = absurd (wake-no-out W z)
 out-polls counts z = let y : _≡_ {A = ℕ} 0 1 = cc in absurd (omega arith)
 out-polls (clears r) z = let y : _≡_ {A = ℕ} 0 1 = cc in absurd (omega arith)

@@ -1,6 +1,6 @@
 -- How long a due timer waits: no more accepted polls than timers were pending.
 use mathlib.Core.Path.{_≡_, refl, sym, ap, _∙_}
-use mathlib.Core.Logic.{inl, inr, ⊎-elim, by-cases}
+use mathlib.Core.Logic.{inl, inr, ⊎-elim, by-cases, _≢_}
 use mathlib.Core.Bool.{Bool, true, false, not, _&&_, cond, true≢false, and-false}
 use mathlib.Core.List.{List, [], _∷_}
 use mathlib.Core.Option.{Option, none, some}
@@ -13,11 +13,11 @@ use Rattle.links.specs.Count.{bit}
 use Rattle.stack.specs.Places.{free}
 use Rattle.wheel.proofs.laws.Sums.{hits, total-le, lies-times}
 use Rattle.wheel.proofs.laws.Poll.{given}
-use Rattle.queue.specs.Told.{Told, told, Hands}
+use Rattle.queue.specs.Told.{Told, told, Hands, timer}
 use Rattle.queue.specs.Told as T
 use Rattle.records.specs.View.{View}
 use Rattle.records.specs.Records.{keyOf, At, left, freed}
-use Rattle.queue.specs.Steps.{QueuePolls, pending}
+use Rattle.queue.specs.Steps.{QueuePolls, pending, nothing, handed}
 use Rattle.records.specs.Words.{QueueWords, view, Sound}
 use Rattle.delay_queue.specs.declared.Call.{Call}
 use Rattle.delay_queue.specs.declared.Call.the-variants as C
@@ -26,8 +26,8 @@ use Rattle.promises.specs.OneCall.{isNo}
 use Rattle.promises.proofs.laws.OneCall.{call-sound}
 use Rattle.promises.specs.Runs.{Asked, Runs, rest, next, accepted, All, tally}
 use Rattle.promises.proofs.laws.Views.{ViewGoes, refuses, formats, inserts, resets, removes, polls, wakes, counts, clears, call-goes, key-inserts}
-use Rattle.promises.specs.Polling.{Dead}
-use Rattle.promises.proofs.laws.Polling.{saysOf, Fairly, Polled, poll-works, none-out}
+use Rattle.promises.specs.Polling.{Dead, Finished}
+use Rattle.promises.proofs.laws.Polling.{saysOf, Fairly, Polled, poll-works, none-out, TakenBy, freed-beside, takes-works, goes-on-says, least-of}
 use Rattle.promises.proofs.laws.Moves.{left-total, freed-total}
 use Rattle.promises.proofs.laws.KeysGone.{spent-unnamed, remove-spent, out-spent}
 use Rattle.promises.specs.KeysStay.{Aims, Out}
@@ -35,7 +35,9 @@ use Rattle.promises.proofs.laws.KeysStay.{does-stays}
 use Rattle.promises.specs.KeysReach.{Reaches}
 use Rattle.promises.proofs.laws.KeysReach.{poll-tells, stays-reaches}
 use Rattle.promises.proofs.laws.Outs.{does-was, emptied}
-use Rattle.promises.specs.Waiting.{disturbs, Undisturbed, duePoll, Some, ComesOut, NotRemoved, Waited}
+use Rattle.promises.specs.Waiting.{disturbs, Undisturbed, duePoll, Some, ComesOut, NotRemoved, Waited, NoneRepeats}
+use Rattle.promises.proofs.laws.TakesOut.{taken-out, key-of-names}
+use Rattle.queue.proofs.laws.Polls.{left-less}
 
 -- ---- how many are pending
 
@@ -66,41 +68,65 @@ counted-one d c x = by (duePoll d c && not (isNo x))
     by true = omega arith
     by false = omega arith
 
+none-fewer : {v u : View} {now m n : ℕ} → TakenBy v now none m n u → pending u ≡ pending v
+unfolding pending
+none-fewer F = omega (arith, F .kept (λ x. 1))
+
 -- it waits on, and each accepted poll at which it was due has handed out another; or it comes out; or it is removed
 pub data Went (v : View) (k y d : ℕ) (c : Call) (x : Told) (w : View) : Type 0 where
-  waits : Reaches w k y d → pending w + counted d c x ≤ pending v → Went v k y d c x w
+  waits : Reaches w k y 0 d → NoneRepeats w → pending w + counted d c x ≤ pending v → Went v k y d c x w
   comes : {now m n : ℕ} → c ≡ C.Poll now → Hands x k y d m n → Dead w k → Went v k y d c x w
   leaves : c ≡ C.Remove k → isNo x ≡ false → Dead w k → Went v k y d c x w
 
-module _ {s : QueueWords} (S : Sound s) {k y d : ℕ} (R : Reaches (view s) k y d) where
+-- where nothing repeats, nothing does after a record was removed
+removed-once : (p i : ℕ) (v : View) → NoneRepeats v → NoneRepeats (freed i (left p i v))
+unfolding left
+removed-once p i v f y k =
+    let B = freed-beside i (left p i v) in
+    let m = left-less p i v (k .0) y (rw (B .lists (k .0) (k .1 .timed)) at (k .1 .member)) in
+    ap (λ g. g y) (B .period) ∙ f y (k .0, record { timed = k .1 .timed; member = m })
+
+module _ {s : QueueWords} (S : Sound s) (once : NoneRepeats (view s)) {k y d : ℕ} (R : Reaches (view s) k y 0 d) where
   -- the call does not take it
-  waits-on : {c : Call} {x : Told} {w : View} → ViewGoes (view s) c x w → (Aims k c → not (isNo x) ≡ false) → (Out k x → ⊥)
+  waits-on : {c : Call} {x : Told} {w : View} → ViewGoes (view s) c x w → (Aims k c → not (isNo x) ≡ false) → (Out k x → ⊥) → NoneRepeats w
       → pending w + counted d c x ≤ pending (view s) → Went (view s) k y d c x w
-  waits-on D aims out few = waits (stays-reaches R (does-stays S (R .names) D aims out)) few
+  waits-on D aims out f few = waits (stays-reaches R (does-stays S (R .names) D aims out)) f few
 
   went-poll : {now : ℕ} {x : Told} {w : View} → view s .elapsed ≤ now → QueuePolls (view s) now x w → Went (view s) k y d (C.Poll now) x w
-  unfolding pending
-  went-poll {now} {x} {w} h Q = by (P .got) (P .is) (P .fair) (P .kept (λ x. 1))
+  went-poll {now} h (nothing {m} {n} {u} T) =
+      let O = taken-out S h T in
+      let F = takes-works (view s) (S .rule) h T in
+      let late : now < d = omega (arith, F .fair (R .number) (R .place, R .names .pending), R .deadline) in
+      waits-on (polls h (nothing T)) (λ a. absurd a) (λ o. none-out (o .4))
+      (λ i q. ap (λ g. g i) (O .period) ∙ once i (O .was i (q .0) (q .1)))
+      (rw (lt-leb d now late) (omega (arith, none-fewer F)))
+  went-poll {now} {x} {w} h (handed {r = i} {m} {n} {u} T G) =
+      let a = taken-out S h T .out i refl in
+      let z : Hands x (keyOf (view s) i) (view s .value i) (view s .deadline i) m n = goes-on-says G in
+      let H = least-of S h T G (keyOf (view s) i) (view s .value i) (view s .deadline i) m n z in
+      let is : H .timer ≡ i = H .names .number ∙ sym (key-of-names S (a .1) .number) in
+      let zero : view s .period i ≡ 0 = once i a in
+      let done : Finished (view s) (H .timer) x = inl (ap (view s .period) is ∙ zero) in
+      let E = H .gone done in
+      let stays : NoneRepeats w
+      = λ j q.
+      let d₁ : j ≢ H .timer = λ (e : j ≡ H .timer). E .gone (rw e at q) in
+      let b = H .only j q in
+      H .others j b d₁ .1 .period ∙ once j b in
+      by-cases (ℕ-discrete (keyOf (view s) i) k)
+      (λ e.
+      let q = poll-tells S h (handed T G) R (rw e at z) in
+      comes refl (rw (q .0, q .1) at (rw e at z)) (rw e at (E .dead)))
+      (λ j.
+      waits-on (polls h (handed T G)) (λ b. absurd b) (λ o. j (same x z (o .4))) stays
+      (omega (arith, counted-one d (C.Poll now) x, E .fewer)))
     where
-      P : Polled (view s) now x w
-      P = poll-works (view s) (S .rule) h Q
-
-      by : (o : Option ℕ) → x ≡ saysOf (view s) o (P .moves) (P .drains) → Fairly (view s) now o
-          → pending w + given (λ x. 1) o ≡ pending (view s)
-          → Went (view s) k y d (C.Poll now) x w
-      by none is f few =
-          let late : now < d = omega (arith, f (R .number) (R .place, R .names .pending), R .deadline) in
-          waits-on (polls h Q) (λ a. absurd a) (λ o. none-out (sym is ∙ o .4)) (rw (lt-leb d now late) (omega arith))
-      by (some i) is f few =
-          by-cases (ℕ-discrete (keyOf (view s) i) k)
-          (λ e.
-          let z = rw e at is in
-          let q = poll-tells S h Q R z in
-          comes refl (rw (q .0, q .1) at z) (spent-unnamed (out-spent S (polls h Q) z .spent)))
-          (λ n. waits-on (polls h Q) (λ a. absurd a) (λ o. n (cc)) (omega (arith, counted-one d (C.Poll now) x)))
+      same : (x : Told) {a b c e f a′ b′ c′ e′ f′ : ℕ} → Hands x a b c e f → Hands x a′ b′ c′ e′ f′ → a ≡ a′
+      same x {a = a} {b} {c} {e} {f} {a′} {b′} {c′} {e′} {f′} p q =
+          let z : timer a b c e f ≡ timer a′ b′ c′ e′ f′ = sym p ∙ q in cc
 
   pub went : {c : Call} {x : Told} {w : View} → ViewGoes (view s) c x w → (disturbs c && not (isNo x)) ≡ false → Went (view s) k y d c x w
-  went (refuses {c}) quiet = waits R (rw (and-false (duePoll d c)) (omega arith))
+  went (refuses {c}) quiet = waits R once (rw (and-false (duePoll d c)) (omega arith))
   went formats quiet = absurd (true≢false quiet)
   went (inserts e) quiet = absurd (true≢false quiet)
   went (resets N) quiet = absurd (true≢false quiet)
@@ -109,11 +135,11 @@ module _ {s : QueueWords} (S : Sound s) {k y d : ℕ} (R : Reaches (view s) k y 
       (λ e. leaves (ap C.Remove e) refl (spent-unnamed (rw e at (remove-spent S N))))
       (λ n.
       waits-on (removes N) (λ e. absurd (n e))
-      (λ o. let z : _≡_ {A = ℕ} 0 1 = cc in omega arith)
+      (λ o. none-out (o .4)) (removed-once p i (view s) once)
       (omega (arith, removed-fewer p i (view s))))
   went (polls h Q) quiet = went-poll h Q
-  went (wakes W) quiet = waits R (omega arith)
-  went counts quiet = waits R (omega arith)
+  went (wakes W) quiet = waits R once (omega arith)
+  went counts quiet = waits R once (omega arith)
   went (clears r) quiet = absurd (true≢false quiet)
 
 -- a quiet call gives no key: one that names nobody goes on naming nobody
@@ -122,7 +148,7 @@ dead-on : {s : QueueWords} {k : ℕ} (x : Asked) (t : QueueWords) → Sound s �
 dead-on {s} {k} x t S A quiet d r p N =
     let D = call-goes (x .call) s (x .answer) t S A in
     ⊎-elim
-    (λ (e : told (x .answer) ≡ T.key k). let i = key-inserts D e in true≢false (rw (i .2, e) at quiet))
+    (λ (e : told (x .answer) ≡ T.key k). let i = key-inserts D e in true≢false (rw (i .3, e) at quiet))
     (λ M. d r (M .0) (M .1))
     (does-was S D (emptied S x t A) N)
 
@@ -138,15 +164,15 @@ IsRemoved k x = (x .call ≡ C.Remove k) × (accepted x ≡ true)
 
 -- the timer waits on; or it is out or removed, and its key is dead
 data Ended (s : QueueWords) (l : List Asked) (u : QueueWords) (k y d : ℕ) : Type 0 where
-  still : Reaches (view u) k y d → pending (view u) + tally (duePoll d) l ≤ pending (view s) → Ended s l u k y d
+  still : Reaches (view u) k y 0 d → pending (view u) + tally (duePoll d) l ≤ pending (view s) → Ended s l u k y d
   out : Some (ComesOut k y d) l → Dead (view u) k → Ended s l u k y d
   gone : Some (IsRemoved k) l → Dead (view u) k → Ended s l u k y d
 
-run-ends : {s u : QueueWords} {l : List Asked} {k y d : ℕ} → Sound s → Reaches (view s) k y d → Runs s l u → All Undisturbed l
-    → Ended s l u k y d
-run-ends S R rest q = still R (omega arith)
-run-ends {k = k} {y = y} {d = d} S R (next {s} {t} {u} {x} {l} A r) q =
-    by (went S R (call-goes (x .call) s (x .answer) t S A) (q .0)) (λ M. run-ends T M r (q .1))
+run-ends : {s u : QueueWords} {l : List Asked} {k y d : ℕ} → Sound s → NoneRepeats (view s) → Reaches (view s) k y 0 d → Runs s l u
+    → All Undisturbed l → Ended s l u k y d
+run-ends S once R rest q = still R (omega arith)
+run-ends {k = k} {y = y} {d = d} S once R (next {s} {t} {u} {x} {l} A r) q =
+    by (went S once R (call-goes (x .call) s (x .answer) t S A) (q .0)) (λ f M. run-ends T f M r (q .1))
   where
     T : Sound t
     T = call-sound (x .call) s (x .answer) t A S
@@ -156,17 +182,21 @@ run-ends {k = k} {y = y} {d = d} S R (next {s} {t} {u} {x} {l} A r) q =
     later c (out m h) = out (inr m) h
     later c (gone m h) = gone (inr m) h
 
-    by : Went (view s) k y d (x .call) (told (x .answer)) (view t) → (Reaches (view t) k y d → Ended t l u k y d) → Ended s (x ∷ l) u k y d
-    by (waits M c) f = later c (f M)
+    by : Went (view s) k y d (x .call) (told (x .answer)) (view t) → (NoneRepeats (view t) → Reaches (view t) k y 0 d → Ended t l u k y d)
+        → Ended s (x ∷ l) u k y d
+    by (waits M o c) f = later c (f o M)
     by (comes e z h) f = out (inl (_, _, _, e, z)) (dead-run T r (q .1) h)
     by (leaves e z h) f = gone (inl (e, ap not z)) (dead-run T r (q .1) h)
 
 module _ {s u : QueueWords} {l : List Asked} {k r p : ℕ} (W : Waited s l u k r p) where
   ends : Ended s l u k (view s .value r) (view s .deadline r)
-  ends = run-ends (W .sound) (record { number = r; place = p; names = W .names; value = refl; deadline = refl }) (W .runs) (W .undisturbed)
+  ends =
+      run-ends (W .sound) (W .once)
+      (record { number = r; place = p; names = W .names; value = refl; period = W .once r (p, W .names .pending); deadline = refl })
+      (W .runs) (W .undisturbed)
 
   -- it cannot wait on
-  out-of-time : {y : ℕ} → Reaches (view u) k y (view s .deadline r)
+  out-of-time : {y : ℕ} → Reaches (view u) k y 0 (view s .deadline r)
       → pending (view u) + tally (duePoll (view s .deadline r)) l ≤ pending (view s) → ⊥
   out-of-time R c = omega (arith, W .enough, pending-some (R .names .pending))
 

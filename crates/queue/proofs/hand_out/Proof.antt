@@ -1,21 +1,45 @@
--- `hand_out` meets its contract: the answer is read before the record is freed (`out-done`).
+-- `hand_out` meets its contract: the answer is read before the record is freed (`out-done`, `out-last`) or placed again (`out-again`).
 use borrow.Author.Needs.{needs}
-use Rattle.queue.proofs.laws.Polls.{out-words, out-frees, out-done}
+use Rattle.records.proofs.laws.Again.{again-at, again-never}
+use Rattle.queue.proofs.laws.Polls.{out-words, out-frees, out-places, out-done, out-again, out-last}
 use Rattle.queue.proofs.hand_out.Statement.{statement}
 use Rattle.queue.proofs.hand_out.Tie as tie
 
-abbrev to-start : tie.After-slice-known5 → tie.Start
+abbrev to-start : tie.After-slice-known6 → tie.Start
 to-start c =
     let a = c .before .before .before .before in
     a .before .before .before
 
-abbrev to-key-of : tie.After-leave-arg6 → tie.After-key-of
-to-key-of c =
+abbrev to-key-of : tie.After-slice-known7 → tie.After-key-of
+to-key-of c = c .before .before .before
+
+abbrev to-then1 : tie.After-leave-arg7 → tie.Then1
+to-then1 c =
+    let a = c .before .before .before .before in
+    a .before .before .before
+
+abbrev to-leave : tie.After-slice-known11 → tie.After-leave
+to-leave c =
     let a = c .before .before .before .before in
     a .before .before .before .before
 
-abbrev to-leave : tie.After-slice-known9 → tie.After-leave
-to-leave c =
+abbrev to-told : tie.After-leave-arg14 → tie.After-enum-told
+to-told c =
+    let a = c .before .before .before .before in
+    a .before .before .before
+
+abbrev to-leave2 : tie.After-slice-known15 → tie.After-leave2
+to-leave2 c =
+    let a = c .before .before .before .before in
+    a .before .before .before .before
+
+abbrev to-next : tie.After-place-arg7 → tie.After-next
+to-next c =
+    let a = c .before .before .before .before in
+    a .before .before .before .before
+
+abbrev to-place : tie.After-slice-known19 → tie.After-place
+to-place c =
     let a = c .before .before .before .before in
     a .before .before .before .before
 
@@ -23,9 +47,7 @@ mul-key-of : tie.Need-mul-key-of
 mul-key-of c = search needs
 
 slice-read-key-of : tie.Need-slice-read-key-of
-slice-read-key-of c =
-    let start = to-start c in
-    out-words (start .pre .0) (start .pre .1) .2
+slice-read-key-of c = search needs
 
 key-of-requires : tie.Need-key-of-requires
 key-of-requires c κs =
@@ -35,22 +57,33 @@ key-of-requires c κs =
 mul-value : tie.Need-mul-value
 mul-value c = search needs
 
+mul-value-2 : tie.Need-mul-value-2
+mul-value-2 c = search needs
+
 shared-slice-read-value : tie.Need-shared-slice-read-value
-shared-slice-read-value c =
-    let start = to-start (c .before .before) in
-    out-words (start .pre .0) (start .pre .1) .0
+shared-slice-read-value c = search needs
+
+mul-period : tie.Need-mul-period
+mul-period c = search needs
+
+add-period : tie.Need-add-period
+add-period c = search needs
+
+mul-period-2 : tie.Need-mul-period-2
+mul-period-2 c = search needs
+
+shared-slice-read-period : tie.Need-shared-slice-read-period
+shared-slice-read-period c = search needs
 
 mul-deadline : tie.Need-mul-deadline
 mul-deadline c = search needs
 
-shared-slice-read-deadline : tie.Need-shared-slice-read-deadline
-shared-slice-read-deadline c =
-    let start = to-start (c .before .before .before) in
-    out-words (start .pre .0) (start .pre .1) .1
+slice-read-deadline : tie.Need-slice-read-deadline
+slice-read-deadline c = search needs
 
 leave-requires : tie.Need-leave-requires
 leave-requires c κs =
-    let start = to-start (to-key-of c .before) in
+    let start = to-start (to-key-of (to-then1 c .before) .before) in
     out-frees (start .pre .0) (start .pre .1)
 
 same-length : tie.Need-same-length
@@ -68,9 +101,78 @@ same-length-4 c = search needs
 returns : tie.Need-returns
 returns c =
     let at-leave = to-leave c in
-    let at-key-of = to-key-of (at-leave .before) in
+    let then1 = to-then1 (at-leave .before) in
+    let at-key-of = to-key-of (then1 .before) in
     let start = to-start (at-key-of .before) in
-    out-done (start .pre .0) (start .pre .1) _ _ (at-leave .leave .ensures) (at-key-of .key-of .ensures)
+    out-done (start .pre .0) (start .pre .1) _ _ (at-key-of .key-of .ensures) (then1 .if1 .taken) (at-leave .leave .ensures)
+
+next-time-requires : tie.Need-next-time-requires
+next-time-requires c κs = search needs
+
+enum-known-next : tie.Need-enum-known-next
+enum-known-next c = search needs
+
+enum-told : tie.Need-enum-told
+enum-told c = search needs
+
+leave-requires-2 : tie.Need-leave-requires-2
+leave-requires-2 c κs =
+    let at-next-time = to-told c .before .before in
+    let start = to-start (to-key-of (at-next-time .before .before) .before) in
+    out-frees (start .pre .0) (start .pre .1)
+
+same-length-5 : tie.Need-same-length-5
+same-length-5 c = search needs
+
+same-length-6 : tie.Need-same-length-6
+same-length-6 c = search needs
+
+same-length-7 : tie.Need-same-length-7
+same-length-7 c = search needs
+
+same-length-8 : tie.Need-same-length-8
+same-length-8 c = search needs
+
+returns-2 : tie.Need-returns-2
+returns-2 c =
+    let at-leave = to-leave2 c in
+    let at-told = to-told (at-leave .before) in
+    let at-next-time = at-told .before .before in
+    let else1 = at-next-time .before in
+    let at-key-of = to-key-of (else1 .before) in
+    let start = to-start (at-key-of .before) in
+    out-last (start .pre .0) (start .pre .1) _ _ (at-key-of .key-of .ensures) (else1 .if1 .left)
+    (again-never (at-next-time .next-time .ensures) (at-told .enum-told .given .1)) (at-leave .leave2 .ensures)
+
+place-requires : tie.Need-place-requires
+place-requires c κs =
+    let at-next = to-next c in
+    let at-next-time = at-next .before .before in
+    let start = to-start (to-key-of (at-next-time .before .before) .before) in
+    out-places (start .pre .0) (start .pre .1) (again-at (at-next-time .next-time .ensures) _ (at-next .next .given .1))
+
+same-length-9 : tie.Need-same-length-9
+same-length-9 c = search needs
+
+same-length-10 : tie.Need-same-length-10
+same-length-10 c = search needs
+
+same-length-11 : tie.Need-same-length-11
+same-length-11 c = search needs
+
+same-length-12 : tie.Need-same-length-12
+same-length-12 c = search needs
+
+returns-3 : tie.Need-returns-3
+returns-3 c =
+    let at-place = to-place c in
+    let at-next = to-next (at-place .before) in
+    let at-next-time = at-next .before .before in
+    let else1 = at-next-time .before in
+    let at-key-of = to-key-of (else1 .before) in
+    let start = to-start (at-key-of .before) in
+    out-again (start .pre .0) (start .pre .1) _ _ (at-key-of .key-of .ensures) (else1 .if1 .left)
+    (again-at (at-next-time .next-time .ensures) _ (at-next .next .given .1)) (at-place .place .ensures)
 
 pub hand-out-spec : {M : Type 1} → statement M
 hand-out-spec =
@@ -80,12 +182,32 @@ hand-out-spec =
     slice-read-key-of
     key-of-requires
     mul-value
+    mul-value-2
     shared-slice-read-value
+    mul-period
+    add-period
+    mul-period-2
+    shared-slice-read-period
     mul-deadline
-    shared-slice-read-deadline
+    slice-read-deadline
     leave-requires
     same-length
     same-length-2
     same-length-3
     same-length-4
-    returns)
+    returns
+    next-time-requires
+    enum-known-next
+    enum-told
+    leave-requires-2
+    same-length-5
+    same-length-6
+    same-length-7
+    same-length-8
+    returns-2
+    place-requires
+    same-length-9
+    same-length-10
+    same-length-11
+    same-length-12
+    returns-3)

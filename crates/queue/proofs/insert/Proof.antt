@@ -1,6 +1,7 @@
--- `insert` meets its contract: full, a deadline that is refused, or taken, given its value and placed (`insert-done`).
+-- `insert` meets its contract: full, a deadline that is refused, or taken, given its value and period and placed (`insert-done`).
 use borrow.Author.Needs.{needs}
 use native.Mathlib.Omega.{arith}
+use lib.ListN.{length-set}
 use Rattle.queue.proofs.laws.Calls.{insert-full, insert-refused, insert-words, insert-place, insert-done}
 use Rattle.queue.proofs.insert.Statement.{statement}
 use Rattle.queue.proofs.insert.Tie as tie
@@ -30,23 +31,30 @@ to-place c =
     let a = c .before .before .before .before in
     a .before .before .before .before
 
+element-copy-out-if1 : tie.Need-element-copy-out-if1
+element-copy-out-if1 c = search needs
+
 returns : tie.Need-returns
-returns c = insert-full (to-start (c .before) .pre) _ _ (c .if1 .taken)
+returns c = insert-full (to-start (c .before) .pre) _ _ _ (c .if1 .taken)
 
 deadline-no-requires : tie.Need-deadline-no-requires
 deadline-no-requires c κs = search needs
 
 returns-2 : tie.Need-returns-2
 returns-2 c =
-    insert-refused (to-start (c .before .before .before) .pre) _ _ (c .before .before .if1 .left) (c .before .deadline-no .ensures) (c .if2 .taken)
+    insert-refused (to-start (c .before .before .before) .pre) _ _ _ (c .before .before .if1 .left) (c .before .deadline-no .ensures)
+    (c .if2 .taken)
 
 pop-requires : tie.Need-pop-requires
 pop-requires c κs =
     let start = to-start (to-else2 c .before .before .before) in
     (start .pre .standing .whole, omega arith, omega arith)
 
-cast-values : tie.Need-cast-values
-cast-values c = search needs
+cast-at : tie.Need-cast-at
+cast-at c = search needs
+
+mul-at : tie.Need-mul-at
+mul-at c = search needs
 
 mul-values : tie.Need-mul-values
 mul-values c = search needs
@@ -57,8 +65,25 @@ slice-write-values c =
     let else2 = to-else2 (at-pop .before) in
     let at-deadline-no = else2 .before in
     let else1 = at-deadline-no .before in
-    insert-words (to-start (else1 .before) .pre) 0 _ (else1 .if1 .left) (at-deadline-no .deadline-no .ensures) (else2 .if2 .left)
-    (at-pop .pop .ensures) .0
+    let w = insert-words (to-start (else1 .before) .pre) 0 _ 0 (else1 .if1 .left) (at-deadline-no .deadline-no .ensures) (else2 .if2 .left)
+    (at-pop .pop .ensures) in
+    omega (arith, w .0)
+
+add-values : tie.Need-add-values
+add-values c = search needs
+
+mul-values-2 : tie.Need-mul-values-2
+mul-values-2 c = search needs
+
+slice-write-values-2 : tie.Need-slice-write-values-2
+slice-write-values-2 c =
+    let at-pop = to-pop c in
+    let else2 = to-else2 (at-pop .before) in
+    let at-deadline-no = else2 .before in
+    let else1 = at-deadline-no .before in
+    let w = insert-words (to-start (else1 .before) .pre) 0 _ 0 (else1 .if1 .left) (at-deadline-no .deadline-no .ensures) (else2 .if2 .left)
+    (at-pop .pop .ensures) in
+    simp length-set (omega (arith, w .0))
 
 cast-key-of : tie.Need-cast-key-of
 cast-key-of c = search needs
@@ -72,7 +97,7 @@ shared-slice-read-key-of c =
     let else2 = to-else2 (at-pop .before) in
     let at-deadline-no = else2 .before in
     let else1 = at-deadline-no .before in
-    insert-words (to-start (else1 .before) .pre) 0 _ (else1 .if1 .left) (at-deadline-no .deadline-no .ensures) (else2 .if2 .left)
+    insert-words (to-start (else1 .before) .pre) 0 _ 0 (else1 .if1 .left) (at-deadline-no .deadline-no .ensures) (else2 .if2 .left)
     (at-pop .pop .ensures) .1
 
 key-of-requires : tie.Need-key-of-requires
@@ -81,7 +106,7 @@ key-of-requires c κs =
     let else2 = to-else2 (at-pop .before) in
     let at-deadline-no = else2 .before in
     let else1 = at-deadline-no .before in
-    insert-words (to-start (else1 .before) .pre) 0 _ (else1 .if1 .left) (at-deadline-no .deadline-no .ensures) (else2 .if2 .left)
+    insert-words (to-start (else1 .before) .pre) 0 _ 0 (else1 .if1 .left) (at-deadline-no .deadline-no .ensures) (else2 .if2 .left)
     (at-pop .pop .ensures) .2
 
 place-requires : tie.Need-place-requires
@@ -90,7 +115,7 @@ place-requires c κs =
     let else2 = to-else2 (at-pop .before) in
     let at-deadline-no = else2 .before in
     let else1 = at-deadline-no .before in
-    insert-place (to-start (else1 .before) .pre) 0 _ (else1 .if1 .left) (at-deadline-no .deadline-no .ensures) (else2 .if2 .left)
+    insert-place (to-start (else1 .before) .pre) 0 _ 0 (else1 .if1 .left) (at-deadline-no .deadline-no .ensures) (else2 .if2 .left)
     (at-pop .pop .ensures)
 
 same-length : tie.Need-same-length
@@ -116,11 +141,8 @@ returns-3 c =
     let else2 = to-else2 (at-pop .before) in
     let at-deadline-no = else2 .before in
     let else1 = at-deadline-no .before in
-    insert-done (to-start (else1 .before) .pre) _ _ (else1 .if1 .left) (at-deadline-no .deadline-no .ensures) (else2 .if2 .left)
+    insert-done (to-start (else1 .before) .pre) _ _ _ (else1 .if1 .left) (at-deadline-no .deadline-no .ensures) (else2 .if2 .left)
     (at-pop .pop .ensures) _ (at-key-of .key-of .ensures) (at-place .place .ensures)
-
-element-copy-out-if1 : tie.Need-element-copy-out-if1
-element-copy-out-if1 c = search needs
 
 pub insert-spec : {M : Type 1} → statement M
 insert-spec =
@@ -131,9 +153,13 @@ insert-spec =
     deadline-no-requires
     returns-2
     pop-requires
-    cast-values
+    cast-at
+    mul-at
     mul-values
     slice-write-values
+    add-values
+    mul-values-2
+    slice-write-values-2
     cast-key-of
     mul-key-of
     shared-slice-read-key-of

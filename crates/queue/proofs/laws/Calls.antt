@@ -3,9 +3,9 @@ use mathlib.Core.Path.{_≡_, refl, sym, ap, _∙_}
 use mathlib.Core.Logic.{_≢_}
 use mathlib.Core.List.{List, [], _∷_, nil≢cons}
 use mathlib.Core.Option.{some}
-use Prim.Native.Nat.{ℕ, _^_, _≤_, _<_}
+use Prim.Native.Nat.{ℕ, _+_, _*_, _^_, _≤_, _<_}
 use native.Mathlib.Omega.{arith}
-use lib.ListN.{length, set}
+use lib.ListN.{length}
 use Rattle.links.specs.Lists.{nobody}
 use Rattle.links.specs.Links.{at}
 use Rattle.stack.specs.Places.{free}
@@ -17,14 +17,15 @@ use Rattle.queue.specs.declared.Answer.{Answer}
 use Rattle.queue.specs.declared.Answer.the-variants as A
 use Rattle.queue.specs.Told.{Told, told, no}
 use Rattle.queue.specs.Told as T
-use Rattle.records.specs.View.{View, withValue, upd}
+use Rattle.records.specs.View.{View, withValue, withPeriod, upd}
 use Rattle.records.specs.Records.{packed, Names, Near, taken, left, placed, freed}
 use Rattle.queue.specs.Steps.{kept}
 use Rattle.records.specs.Words.{QueueWords, queueWords, count, elapsed, markOf, view, Sound}
-use Rattle.records.proofs.laws.Words.{past-then}
+use Rattle.records.proofs.laws.Words.{past-then, given}
 use Rattle.queue.specs.Calls.{Answered, InsertOn, ResetOn, RemoveOn}
 use Rattle.records.specs.Inner.{StandsBut, GoesBut, Goes, LooseAt, CanPlace, PlacesTo, CanFree, LeavesTo}
-use Rattle.records.proofs.laws.Inner.{goes-taken, goes-valued, can-leave, goes-left, goes-placed, goes-freed}
+use Rattle.records.proofs.laws.Inner.{goes-taken, goes-given, can-leave, goes-left, goes-placed, goes-freed}
+use Rattle.records.specs.Slices.{valueAt}
 use Rattle.records.specs.Found.{DeadlineNo, KeyIs}
 use Rattle.records.proofs.laws.Found.{key-names, names-key}
 
@@ -53,7 +54,7 @@ answered e G = record { told = e; sound = G .sound; view = G .view; kept = G .ke
 
 -- ---- insert
 
-module _ {s : QueueWords} (S : Sound s) (value when : ℕ) where
+module _ {s : QueueWords} (S : Sound s) (value when period : ℕ) where
   free-head : s .wheel .stack .stacks .free ≡ headAt (s .wheel .stack) free
   free-head = sym (head-free (s .wheel .stack .stacks) (s .wheel .stack .heads))
 
@@ -64,7 +65,7 @@ module _ {s : QueueWords} (S : Sound s) (value when : ℕ) where
   some-free d = let c = stack-laws.list-cons (S .standing .whole .stack) free (λ z. d (free-head ∙ z)) in (_, c .0, c .1)
 
   -- no record is free
-  pub insert-full : s .wheel .stack .stacks .free ≡ nobody → InsertOn s value when (A.No 3) s
+  pub insert-full : s .wheel .stack .stacks .free ≡ nobody → InsertOn s value when period (A.No 3) s
   insert-full z =
       let e = none-free z in
       record {
@@ -76,7 +77,7 @@ module _ {s : QueueWords} (S : Sound s) (value when : ℕ) where
 
   module _ (some : s .wheel .stack .stacks .free ≢ nobody) {n : ℕ} (D : DeadlineNo (elapsed s) when n) where
     -- the deadline is refused
-    pub insert-refused : n ≢ 0 → InsertOn s value when (A.No n) s
+    pub insert-refused : n ≢ 0 → InsertOn s value when period (A.No n) s
     insert-refused d =
         let c = some-free some in
         record {
@@ -106,7 +107,7 @@ module _ {s : QueueWords} (S : Sound s) (value when : ℕ) where
       item-below = omega (arith, loose₁ .below, G₁ .size)
 
       -- what the code asks on the way
-      pub insert-words : (item < length (s .values)) × (item < length (s .turns)) × (at (s .turns) item < 2 ^ 48)
+      pub insert-words : (2 * item + 1 < length (s .values)) × (item < length (s .turns)) × (at (s .turns) item < 2 ^ 48)
       insert-words = (
         omega (arith, item-below),
         omega (arith, item-below),
@@ -114,10 +115,13 @@ module _ {s : QueueWords} (S : Sound s) (value when : ℕ) where
       )
 
       abbrev s₂ : QueueWords
-      s₂ = queueWords t (set (s .values) item value) (s .deadlines) (s .turns)
+      s₂ = queueWords t (given (s .values) item value period) (s .deadlines) (s .turns)
 
-      G₂ : GoesBut item s (withValue (upd (view s .value) item value) (taken (c .1) (view s))) s₂
-      G₂ = goes-then (λ v. withValue (upd (v .value) item value) v) G₁ (goes-valued (G₁ .sound) item value (loose₁ .below))
+      abbrev told-words : View → View
+      told-words v = withPeriod (upd (v .period) item period) (withValue (upd (v .value) item value) v)
+
+      G₂ : GoesBut item s (told-words (taken (c .1) (view s))) s₂
+      G₂ = goes-then told-words G₁ (goes-given (G₁ .sound) item value period (loose₁ .below))
 
       near : Near (elapsed s₂) when
       near = let e : elapsed s₂ ≡ elapsed s = ap (λ v. v .elapsed) (G₂ .view) in rw e (D .taken z)
@@ -132,7 +136,7 @@ module _ {s : QueueWords} (S : Sound s) (value when : ℕ) where
 
       pub insert-done : (k : ℕ) → k ≡ packed (at (s .turns) item) item → {u : WheelWords} {ds : List ℕ}
           → PlacesTo t (s .deadlines) item when u ds
-          → InsertOn s value when (A.Key k) (queueWords u (set (s .values) item value) ds (s .turns))
+          → InsertOn s value when period (A.Key k) (queueWords u (given (s .values) item value period) ds (s .turns))
       insert-done k ek {u} {ds} P =
           let G₃ = goes-then (placed item when) G₂ (goes-placed (G₂ .sound) loose₁ when near P) in
           record {
@@ -181,7 +185,7 @@ module _ {s : QueueWords} (S : Sound s) (key when : ℕ) where
     pub found-leaves : CanLeave (s .wheel) i
     found-leaves = can-leave (S .standing) (M .pending)
 
-    pub found-words : (i < length (s .values)) × (i < length (s .deadlines)) × (i < length (s .turns))
+    pub found-words : (2 * i < length (s .values)) × (i < length (s .deadlines)) × (i < length (s .turns))
     found-words = (omega arith, omega arith, omega arith)
 
     module _ {n : ℕ} (D : DeadlineNo (elapsed s) when n) where
@@ -227,7 +231,7 @@ module _ {s : QueueWords} (S : Sound s) (key when : ℕ) where
         turn = S .standing .turns i (K .below) .1;
       }
 
-      pub remove-done : (x w : ℕ) → x ≡ at (s .values) i → w ≡ at (s .deadlines) i → {u : WheelWords} {ts : List ℕ}
+      pub remove-done : (x w : ℕ) → x ≡ valueAt (s .values) i → w ≡ at (s .deadlines) i → {u : WheelWords} {ts : List ℕ}
           → LeavesTo t (s .turns) i u ts
           → RemoveOn s key (A.Gone x w) (queueWords u (s .values) (s .deadlines) ts)
       remove-done x w ex ew P =

@@ -4,7 +4,7 @@ use mathlib.Core.Logic.{_≢_, ⊎-elim, by-cases}
 use mathlib.Core.Bool.{Bool, true, false}
 use mathlib.Core.List.{List, [], _∷_}
 use mathlib.Core.Option.{Option, none, some}
-use Prim.Native.Nat.{ℕ, suc, _+_, _^_, _≤_, _<_}
+use Prim.Native.Nat.{ℕ, suc, _+_, _*_, _^_, _≤_, _<_}
 use native.Mathlib.Decide.{ℕ-discrete, decLt}
 use native.Mathlib.Omega.{arith}
 use native.Mathlib.Numerals.{add-one}
@@ -19,7 +19,7 @@ use Rattle.links.proofs.laws.Count.{elem, cnt-ext, cnt-elem, mem-elem, elem-mem
 use Rattle.links.proofs.laws.Judge.{cat, mem-cat, cat-mem, cat-nodup}
 use Rattle.stack.specs.Places.{slots, expired, free}
 use Rattle.stack.proofs.laws.Whole as stack-laws
-use Rattle.wheel.specs.Wheel.{Polls}
+use Rattle.wheel.specs.Wheel.{Lists, Polls}
 use Rattle.wheel.proofs.laws.Sums.{mem-change, mem-left, total-zero, total-scale, hits}
 use Rattle.wheel.proofs.laws.Between.{rule-less, rule-between}
 use Rattle.wheel.proofs.laws.Poll.{given, Promise, waits-on, poll-law}
@@ -33,20 +33,22 @@ use Rattle.queue.specs.declared.Answer.{Answer}
 use Rattle.queue.specs.declared.Answer.the-variants as A
 use Rattle.queue.specs.Told.{Told, told, out, wake, never}
 use Rattle.records.specs.View.{View, withElapsed, withLists}
-use Rattle.records.specs.Records.{lastTurn, packed, At, left, freed}
-use Rattle.queue.specs.Steps.{TakesOut, popped, polled, QueuePolls, handed, nothing, Wakes, sleeps, starts, NextWake, at-once, from-wheel, pending, Clears, begun, kept, gave}
+use Rattle.records.specs.Records.{lastTurn, packed, At, NoMore, left, freed}
+use Rattle.queue.specs.Steps.{TakesOut, popped, polled, GoesOn, once, again, ended, QueuePolls, handed, nothing, Wakes, sleeps, starts, NextWake, at-once, from-wheel, pending, Clears, begun, kept, gave}
+use Rattle.records.specs.Slices.{valueAt, periodAt}
 use Rattle.records.specs.Words.{QueueWords, queueWords, count, elapsed, markOf, view, Standing, SoundBut, Sound, PastKept}
 use Rattle.records.proofs.laws.Words.{past-refl, past-then}
 use Rattle.queue.specs.Calls.{PollOn, ClearOn}
-use Rattle.records.specs.Inner.{StandsBut, GoesBut, Goes, LooseAt, CanFree, LeavesTo}
-use Rattle.records.proofs.laws.Inner.{with-rule, loose-out, StayBut, stay-all, stay-popped, stands-wheel, stands-lists, can-leave, mem-without, stands-left, stands-freed, goes-freed, left-size, freed-size}
-use Rattle.queue.proofs.laws.Calls.{stands-then, goes-then}
+use Rattle.records.specs.Inner.{StandsBut, GoesBut, Goes, LooseAt, CanPlace, PlacesTo, CanFree, LeavesTo}
+use Rattle.records.proofs.laws.Inner.{with-rule, loose-out, StayBut, stay-all, stay-popped, stands-wheel, stands-lists, can-leave, mem-without, stands-left, stands-freed, goes-placed, goes-freed, left-size, placed-size, freed-size}
+use Rattle.records.proofs.laws.Again.{again-near}
+use Rattle.queue.proofs.laws.Calls.{stands-then}
 use Rattle.queue.specs.Inner.{HandsOut, Shows, pendingIn, ClearsOne}
 
--- ---- a loose record is handed out and freed
+-- ---- a loose record is handed out, and freed or placed again
 
 module _ {s : QueueWords} {i : ℕ} (S : SoundBut i s) (o : LooseAt s i) where
-  pub out-words : (i < length (s .values)) × (i < length (s .deadlines)) × (i < length (s .turns)) × (at (s .turns) i < 2 ^ 48)
+  pub out-words : (2 * i + 1 < length (s .values)) × (i < length (s .deadlines)) × (i < length (s .turns)) × (at (s .turns) i < 2 ^ 48)
   out-words = (
     omega arith,
     omega arith,
@@ -57,11 +59,36 @@ module _ {s : QueueWords} {i : ℕ} (S : SoundBut i s) (o : LooseAt s i) where
   pub out-frees : CanFree (s .wheel) (s .turns) i
   out-frees = record { whole = S .standing .whole; item = o; word = out-words .2; turn = S .standing .turns i (o .below) .1 }
 
-  pub out-done : (moves drains : ℕ) {t : WheelWords} {ts : List ℕ} → LeavesTo (s .wheel) (s .turns) i t ts
-      → {k : ℕ} → k ≡ packed (at (s .turns) i) i
-      → HandsOut s i moves drains (A.Out k (at (s .values) i) (at (s .deadlines) i) moves drains)
-      (queueWords t (s .values) (s .deadlines) ts)
-  out-done moves drains P e = record { told = rw e; goes = goes-freed S o P }
+  -- the next deadline, as a number
+  abbrev next : ℕ
+  next = at (s .deadlines) i + periodAt (s .values) i
+
+  pub out-places : {w : ℕ} → (w ≡ next) × (NoMore (elapsed s) next → ⊥) → CanPlace (s .wheel) (s .deadlines) i w
+  out-places A = record { whole = S .standing .whole; item = o; word = out-words .1; near = rw (A .0) (again-near (A .1)) }
+
+  module _ (moves drains : ℕ) {k : ℕ} (e : k ≡ packed (at (s .turns) i) i) where
+    hands-out : {a : Answer} {v : View} {s′ : QueueWords} → GoesOn (view s) i moves drains (view s) (told a) v → Goes s v s′
+        → HandsOut s i moves drains a s′
+    hands-out G H = record { goes-on = rw (H .view) G; sound = H .sound; size = H .size; kept = H .kept }
+
+    -- it has no period
+    pub out-done : periodAt (s .values) i ≡ 0 → {t : WheelWords} {ts : List ℕ} → LeavesTo (s .wheel) (s .turns) i t ts
+        → HandsOut s i moves drains (A.Out k (valueAt (s .values) i) (at (s .deadlines) i) moves drains) (queueWords t (s .values) (s .deadlines) ts)
+    out-done z P = hands-out (rw e (once z)) (goes-freed S o P)
+
+    module _ (d : periodAt (s .values) i ≢ 0) where
+      -- it is set again
+      pub out-again : {w : ℕ} → (w ≡ next) × (NoMore (elapsed s) next → ⊥) → {t : WheelWords} {ds : List ℕ}
+          → PlacesTo (s .wheel) (s .deadlines) i w t ds
+          → HandsOut s i moves drains (A.Out k (valueAt (s .values) i) (at (s .deadlines) i) moves drains) (queueWords t (s .values) ds (s .turns))
+      out-again {w} A P =
+          hands-out (rw e (again (omega arith) (A .1)))
+          (goes-placed S o next (again-near (A .1)) (rw (A .0) at P))
+
+      -- it is set no more
+      pub out-last : NoMore (elapsed s) next → {t : WheelWords} {ts : List ℕ} → LeavesTo (s .wheel) (s .turns) i t ts
+          → HandsOut s i moves drains (A.Last k (valueAt (s .values) i) (at (s .deadlines) i) moves drains) (queueWords t (s .values) (s .deadlines) ts)
+      out-last f P = hands-out (rw e (ended (omega arith) f)) (goes-freed S o P)
 
 -- ---- poll
 
@@ -71,6 +98,17 @@ not-given {i} {x} d =
     by-cases (ℕ-discrete i nobody)
     (λ z. rw (eq-eqb i nobody z))
     (λ z. rw (ne-eqb i nobody z, ne-eqb i x d))
+
+-- who is in no list any more goes on by the words that it had
+goes-on-from : {v u : View} {e : ℕ} {L : Lists} → u ≡ withElapsed e (withLists L v) → {r m n : ℕ} {x : Told} {w : View}
+    → GoesOn u r m n u x w → GoesOn v r m n (withElapsed e (withLists L v)) x w
+goes-on-from {v} {u} {e} {L} q {r} {m} {n} {x} {w} G = by (subst (λ z. GoesOn z r m n z x w) q G)
+  where
+    by : {x : Told} {w : View} → GoesOn (withElapsed e (withLists L v)) r m n (withElapsed e (withLists L v)) x w
+        → GoesOn v r m n (withElapsed e (withLists L v)) x w
+    by (once z) = once z
+    by (again p f) = again p f
+    by (ended p f) = ended p f
 
 module _ {s : QueueWords} (S : Sound s) (time : ℕ) where
   pub poll-back : time < elapsed s → PollOn s time (A.No 7) s
@@ -101,8 +139,7 @@ module _ {s : QueueWords} (S : Sound s) (time : ℕ) where
 
         pub poll-popped : {a : Answer} {s′ : QueueWords} → HandsOut s₁ item 0 0 a s′ → PollOn s time a s′
         poll-popped {a} {s′} H =
-            let G = goes-then (freed item) G₁ (H .goes) in
-            ends (G .sound) (rw (H .told, G .view) (handed (popped (was .1)))) (G .kept)
+            ends (H .sound) (handed (popped (was .1)) (goes-on-from (G₁ .view) (H .goes-on))) (past-then (G₁ .size) (G₁ .kept) (H .kept))
 
       -- it is empty
       module _ (absent : item ≡ nobody) where
@@ -154,8 +191,9 @@ module _ {s : QueueWords} (S : Sound s) (time : ℕ) where
 
           pub poll-handed : i ≢ nobody → {a : Answer} {s′ : QueueWords} → HandsOut s₂ i m n a s′ → PollOn s time a s′
           poll-handed d {a} {s′} H =
-              let G = goes-then (freed i) G₃ (H .goes) in
-              ends (G .sound) (rw (H .told, G .view) (handed (polled empty (polls (some i) (rw (ne-eqb i nobody d)))))) (G .kept)
+              ends (H .sound)
+              (handed (polled empty (polls (some i) (rw (ne-eqb i nobody d)))) (goes-on-from (G₃ .view) (H .goes-on)))
+              (past-then (G₃ .size) (G₃ .kept) (H .kept))
 
 -- ---- next wake
 
@@ -336,8 +374,13 @@ takes-size : {v : View} {now : ℕ} {got : Option ℕ} {m n : ℕ} {u : View} �
 takes-size (popped e) = refl
 takes-size (polled e P) = refl
 
+goes-on-size : {v : View} {r m n : ℕ} {u : View} {x : Told} {w : View} → GoesOn v r m n u x w → w .n ≡ u .n
+goes-on-size {r = r} {u = u} (once z) = freed-size r u
+goes-on-size {r = r} {u = u} (again p f) = placed-size r _ u
+goes-on-size {r = r} {u = u} (ended p f) = freed-size r u
+
 pub polls-size : {v : View} {now : ℕ} {x : Told} {u : View} → QueuePolls v now x u → u .n ≡ v .n
-polls-size (handed {r} {u = w} T) = freed-size r w ∙ takes-size T
+polls-size (handed T G) = goes-on-size G ∙ takes-size T
 polls-size (nothing T) = takes-size T
 
 pub clears-size : {v : View} {k : ℕ} {u : View} → Clears v k u → u .n ≡ v .n

@@ -12,13 +12,11 @@ to-start c =
     let b = a .before .before .before .before in
     b .before
 
-abbrev to-find : tie.After-found → tie.After-find
-to-find c = c .before .before
-
-abbrev to-shared-slice-known4 : tie.After-remove-arg6 → tie.After-shared-slice-known4
-to-shared-slice-known4 c =
+abbrev to-found : tie.After-remove-arg6 → tie.After-found
+to-found c =
     let a = c .before .before .before .before in
-    a .before .before
+    let b = a .before .before .before .before in
+    b .before
 
 abbrev to-remove : tie.After-leave-arg7 → tie.After-remove
 to-remove c =
@@ -31,6 +29,9 @@ abbrev to-leave : tie.After-slice-known11 → tie.After-leave
 to-leave c =
     let a = c .before .before .before .before in
     a .before .before .before .before
+
+element-copy-out-find : tie.Need-element-copy-out-find
+element-copy-out-find c = search needs
 
 find-requires : tie.Need-find-requires
 find-requires c κs = find-room (to-start c .pre)
@@ -51,38 +52,40 @@ returns : tie.Need-returns
 returns c =
     remove-dead (to-start (c .before .before .before) .pre) _ 0 (find-nowhere (c .before .before .find .ensures) (c .enum-told .given .1))
 
-cast-value : tie.Need-cast-value
-cast-value c = search needs
+cast-k : tie.Need-cast-k
+cast-k c = search needs
 
 mul-value : tie.Need-mul-value
 mul-value c = search needs
 
+mul-value-2 : tie.Need-mul-value-2
+mul-value-2 c = search needs
+
 shared-slice-read-value : tie.Need-shared-slice-read-value
 shared-slice-read-value c =
-    let at-find = c .before .before .before .before in
-    found-words (to-start (at-find .before) .pre) _ 0 (find-at (at-find .find .ensures) _ (c .before .before .found .given .1)) .0
-
-cast-deadline : tie.Need-cast-deadline
-cast-deadline c = search needs
+    let at-found = c .before .before in
+    let at-find = at-found .before .before in
+    found-words (to-start (at-find .before) .pre) _ 0 (find-at (at-find .find .ensures) _ (at-found .found .given .1)) .0
 
 mul-deadline : tie.Need-mul-deadline
 mul-deadline c = search needs
 
 shared-slice-read-deadline : tie.Need-shared-slice-read-deadline
 shared-slice-read-deadline c =
-    let at-find = to-find (c .before .before .before) in
-    found-words (to-start (at-find .before) .pre) _ 0 (find-at (at-find .find .ensures) _ (c .before .before .before .found .given .1)) .1
+    let at-found = c .before .before .before in
+    let at-find = at-found .before .before in
+    found-words (to-start (at-find .before) .pre) _ 0 (find-at (at-find .find .ensures) _ (at-found .found .given .1)) .1
 
 remove-requires : tie.Need-remove-requires
 remove-requires c κs =
-    let at-found = to-shared-slice-known4 c .before .before .before in
+    let at-found = to-found c in
     let at-find = at-found .before .before in
     found-leaves (to-start (at-find .before) .pre) _ 0 (find-at (at-find .find .ensures) _ (at-found .found .given .1))
 
 leave-requires : tie.Need-leave-requires
 leave-requires c κs =
     let at-remove = to-remove c in
-    let at-found = to-shared-slice-known4 (at-remove .before) .before .before .before in
+    let at-found = to-found (at-remove .before) in
     let at-find = at-found .before .before in
     remove-frees (to-start (at-find .before) .pre) _ 0 (find-at (at-find .find .ensures) _ (at-found .found .given .1)) (at-remove .remove .ensures)
 
@@ -102,13 +105,10 @@ returns-2 : tie.Need-returns-2
 returns-2 c =
     let at-leave = to-leave c in
     let at-remove = to-remove (at-leave .before) in
-    let at-found = to-shared-slice-known4 (at-remove .before) .before .before .before in
+    let at-found = to-found (at-remove .before) in
     let at-find = at-found .before .before in
     remove-done (to-start (at-find .before) .pre) _ 0 (find-at (at-find .find .ensures) _ (at-found .found .given .1))
     (at-remove .remove .ensures) _ _ refl refl (at-leave .leave .ensures)
-
-element-copy-out-find : tie.Need-element-copy-out-find
-element-copy-out-find c = search needs
 
 pub remove-spec : {M : Type 1} → statement M
 remove-spec =
@@ -121,10 +121,10 @@ remove-spec =
     same-length
     same-length-2
     returns
-    cast-value
+    cast-k
     mul-value
+    mul-value-2
     shared-slice-read-value
-    cast-deadline
     mul-deadline
     shared-slice-read-deadline
     remove-requires

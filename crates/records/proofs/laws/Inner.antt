@@ -1,13 +1,13 @@
--- One record at a time: taken from the free list, given a value, placed, unlinked, freed. Each takes a sound store to a sound store, and its view to what
+-- One record at a time: taken from the free list, given a value and a period, placed, unlinked, freed. Each takes a sound store to a sound store, and its view to what
 -- document 01 makes of it; unlinked and freed also where the store only stands. A record on its way is in no
 -- list, as a retired one is: the store stands, and is sound, but for it.
 use mathlib.Core.Path.{_≡_, refl, sym, ap, _∙_, subst}
 use mathlib.Core.Logic.{_≢_, inl, inr, ⊎-elim, by-cases}
 use mathlib.Core.List.{List, [], _∷_}
-use Prim.Native.Nat.{ℕ, _+_, _^_, _≤_, _<_, max}
+use Prim.Native.Nat.{ℕ, _+_, _*_, _^_, _≤_, _<_, max}
 use native.Mathlib.Decide.{ℕ-discrete}
 use native.Mathlib.Omega.{arith}
-use lib.ListN.{set}
+use lib.ListN.{length, set}
 use borrow.Author.Tests.{eq-eqb, ne-eqb}
 use Rattle.times.specs.Times.{levelOf, block}
 use Rattle.times.proofs.laws.Quotients.{slot-lt}
@@ -16,7 +16,7 @@ use Rattle.links.specs.Lists.{nobody, Mem, without, change}
 use Rattle.links.proofs.laws.Lists.{change-same, change-other}
 use Rattle.links.specs.Links.{at}
 use Rattle.links.specs.Whole.{Kept}
-use Rattle.links.proofs.laws.Whole.{kept-refl, kept-set}
+use Rattle.links.proofs.laws.Whole.{kept-refl, kept-trans, kept-set}
 use Rattle.stack.specs.Places.{slots, expired, free, put}
 use Rattle.stack.specs.Whole as stack
 use Rattle.stack.proofs.laws.Whole as stack-laws
@@ -25,11 +25,12 @@ use Rattle.wheel.proofs.laws.Sums.{mem-kept, put-mem, mem-joined}
 use Rattle.wheel.proofs.laws.Between.{rule-less}
 use Rattle.wheel.specs.Words.{WheelWords, WheelWhole, Becomes, CanPush, CanLeave, Leaves, lists as listsIn, markOf as markIn}
 use Rattle.wheel.specs.Turns.{CanInsert}
-use Rattle.records.specs.View.{View, viewOf, withElapsed, withLists, withValue, upd}
+use Rattle.records.specs.View.{View, viewOf, withElapsed, withLists, withValue, withPeriod, upd}
 use Rattle.records.proofs.laws.View.{view-eq}
+use Rattle.records.specs.Slices.{valueAt, periodAt}
 use Rattle.records.specs.Records.{lastTurn, At, Near, taken, left, target, placed, freed}
 use Rattle.records.specs.Words.{QueueWords, queueWords, count, elapsed, markOf, view, StandingBut, Standing, SoundBut, Sound}
-use Rattle.records.proofs.laws.Words.{past-refl, upd-same, upd-other, at-set}
+use Rattle.records.proofs.laws.Words.{past-refl, upd-same, upd-other, at-set, given, given-value, given-period}
 use Rattle.records.specs.Inner.{StandsBut, Stands, GoesBut, Goes, LooseAt, PlacesTo, CanPlace, LeavesTo, CanFree}
 
 pub with-rule : {item : ℕ} {s s′ : QueueWords} {v : View} → StandsBut item s v s′ → Rule (v .deadline) (v .elapsed) (v .lists)
@@ -76,11 +77,12 @@ stay-popped L p x l e q y m d = (q, mem-kept L p l q y (λ k. ⊎-elim (λ z. ab
 
 stands : {j : ℕ} {s : QueueWords} → StandingBut j s → {e : ℕ} {L : Lists} {t : WheelWords} → WheelWhole t
     → stack.StackKept (s .wheel .stack) (t .stack)
-    → t .elapsed ≡ e → listsIn t ≡ L → {vs ds ts : List ℕ} → Kept (count s) (s .values) vs
-    → Kept (count s) (s .deadlines) ds → Kept (count s) (s .turns) ts → {v d k : ℕ → ℕ} → at vs ≡ v → at ds ≡ d → at ts ≡ k
+    → t .elapsed ≡ e → listsIn t ≡ L → {vs ds ts : List ℕ} → Kept (2 * count s) (s .values) vs
+    → Kept (count s) (s .deadlines) ds → Kept (count s) (s .turns) ts → {v p d k : ℕ → ℕ}
+    → valueAt vs ≡ v → periodAt vs ≡ p → at ds ≡ d → at ts ≡ k
     → ((i : ℕ) → i < count s → (0 < k i) × (k i < 2 ^ 48)) → {item : ℕ} → RetiredBut item (count s) L k
-    → StandsBut item s (viewOf (count s) e L v d k) (queueWords t vs ds ts)
-stands S W K ee el vals dues terms ev ed et turns retired =
+    → StandsBut item s (viewOf (count s) e L v p d k) (queueWords t vs ds ts)
+stands S W K ee el vals dues terms ev ep ed et turns retired =
     record {
       standing = record {
         fits = record {
@@ -92,7 +94,7 @@ stands S W K ee el vals dues terms ev ed et turns retired =
         turns = λ i h. rw (ap (λ f. f i) et) (turns i (omega arith));
         retired = λ i h d z. rw (ap (λ f. f i) et) (retired i (omega arith) d (rw el at (unmarked-out W i z)));
       };
-      view = view-eq (K .size) ee el ev ed et;
+      view = view-eq (K .size) ee el ev ep ed et;
       size = K .size;
       kept = record { links = K .links; values = vals; deadlines = dues; turns = terms };
     }
@@ -105,7 +107,7 @@ module _ {s : QueueWords} (S : Standing s) {t : WheelWords} where
   pub stands-wheel : {e item : ℕ} {L : Lists} → WheelWhole t → stack.StackKept (s .wheel .stack) (t .stack) → t .elapsed ≡ e
       → listsIn t ≡ L → StayBut item (view s .lists) L → StandsBut item s (withElapsed e (withLists L (view s))) (shifted s t)
   stands-wheel W K ee el stay =
-      stands S W K ee el (kept-refl _ _) (kept-refl _ _) (kept-refl _ _) refl refl refl (S .turns)
+      stands S W K ee el (kept-refl _ _) (kept-refl _ _) (kept-refl _ _) refl refl refl refl (S .turns)
       (λ i h d out. retired-but S i h (omega arith) (λ p m. let r = stay p i m d in out (r .0) (r .1)))
 
   -- its lists alone
@@ -129,15 +131,20 @@ pub goes-taken : {s : QueueWords} (S : Sound s) {i : ℕ} {l : List ℕ} → vie
 goes-taken {s} S {i} {l} e B =
     with-rule (stands-lists (S .standing) B (stay-popped (view s .lists) free i l e)) (rule-beside (S .rule) l)
 
--- ---- given a value
+-- ---- given a value and a period
 
-pub goes-valued : {j : ℕ} {s : QueueWords} → SoundBut j s → (i x : ℕ) → i < count s
-    → GoesBut j s (withValue (upd (view s .value) i x) (view s)) (queueWords (s .wheel) (set (s .values) i x) (s .deadlines) (s .turns))
-goes-valued {s = s} S i x h =
+pub goes-given : {j : ℕ} {s : QueueWords} → SoundBut j s → (i x y : ℕ) → i < count s
+    → GoesBut j s (withPeriod (upd (view s .period) i y) (withValue (upd (view s .value) i x) (view s)))
+    (queueWords (s .wheel) (given (s .values) i x y) (s .deadlines) (s .turns))
+goes-given {s = s} S i x y h =
     let T = S .standing in
+    let n : ℕ = 2 * count s in
+    let room : 2 * i + 1 < length (s .values) = omega arith in
     with-rule
-    (stands T (T .whole) (stack-laws.kept-refl (s .wheel .stack)) refl refl (kept-set (count s) (s .values) i x h) (kept-refl _ _)
-    (kept-refl _ _) (at-set (s .values) i x (omega arith)) refl refl (T .turns) (retired-but T))
+    (stands T (T .whole) (stack-laws.kept-refl (s .wheel .stack)) refl refl
+    (kept-trans (kept-set n (s .values) (2 * i) x (omega arith)) (kept-set n (set (s .values) (2 * i) x) (2 * i + 1) y (omega arith)))
+    (kept-refl _ _) (kept-refl _ _) (given-value (s .values) i x y room) (given-period (s .values) i x y room) refl refl
+    (T .turns) (retired-but T))
     (S .rule)
 
 -- ---- unlinked from the list of p
@@ -282,7 +289,7 @@ goes-placed {s} {i} S o when near P =
     with-rule
     (stands T (B .whole) (B .kept) (B .elapsed) (B .lists) (kept-refl _ _)
     (rw (P .deadlines) (kept-set (count s) (s .deadlines) i w (o .below))) (kept-refl _ _)
-    refl (ap at (P .deadlines) ∙ at-set (s .deadlines) i w (omega arith)) refl (T .turns) (λ x h d out. come-retired T p x h out .1))
+    refl refl (ap at (P .deadlines) ∙ at-set (s .deadlines) i w (omega arith)) refl (T .turns) (λ x h d out. come-retired T p x h out .1))
     R
 
 -- ---- freed
@@ -313,7 +320,7 @@ stands-freed {s} {i} S o {t} {ts} P =
     rw (ne-eqb (at (s .turns) i) lastTurn z)
     (stands S (r .0 .whole) (r .0 .kept) (r .0 .elapsed) (r .0 .lists) (kept-refl _ _) (kept-refl _ _)
     (rw (r .1) (kept-set (count s) (s .turns) i x (o .below)))
-    refl refl (ap at (r .1) ∙ at-set (s .turns) i x (omega arith))
+    refl refl refl (ap at (r .1) ∙ at-set (s .turns) i x (omega arith))
     (λ j g.
     by-cases (ℕ-discrete j i)
     (λ (q : j ≡ i). rw (q, upd-same) (omega (arith, S .turns i (o .below))))

@@ -2,9 +2,10 @@
 use mathlib.Core.Path.{_≡_, refl, sym, ap, _∙_, subst, fun-ext}
 use mathlib.Core.Logic.{_≢_, by-cases}
 use mathlib.Core.List.{List}
-use Prim.Native.Nat.{ℕ, _<_}
+use Prim.Native.Nat.{ℕ, _+_, _*_, _/_, _%_, _<_}
 use native.Mathlib.Decide.{ℕ-discrete}
-use lib.ListN.{length, set}
+use native.Mathlib.Omega.{arith}
+use lib.ListN.{length, set, length-set}
 use lib.Seq.{ext-getD, getD-set-same, getD-set-other}
 use borrow.Author.Tests.{eq-eqb, ne-eqb}
 use Rattle.links.specs.Links.{links, at}
@@ -13,13 +14,14 @@ use Rattle.stack.proofs.laws.Whole as stack-laws
 use Rattle.wheel.proofs.laws.Rows.{rows-fixed}
 use Rattle.wheel.specs.Words.{wheelWords, lists as listsIn}
 use Rattle.records.specs.View.{upd}
+use Rattle.records.specs.Slices.{valueAt, periodAt}
 use Rattle.records.specs.Words.{QueueWords, queueWords, count, elapsed, view, Sound, PastKept}
 
 pub past-refl : (n : ℕ) (s : QueueWords) → PastKept n s s
 past-refl n s =
     record {
       links = links-refl n (s .wheel .stack .links);
-      values = kept-refl n (s .values);
+      values = kept-refl _ (s .values);
       deadlines = kept-refl n (s .deadlines);
       turns = kept-refl n (s .turns);
     }
@@ -47,17 +49,45 @@ pub upd-other : (f : ℕ → ℕ) (i x j : ℕ) → j ≢ i → upd f i x j ≡ 
 unfolding upd
 upd-other f i x j d = rw (ne-eqb j i d)
 
-pub at-set : (l : List ℕ) (i x : ℕ) → i < length l → at (set l i x) ≡ upd (at l) i x
-at-set l i x h =
+-- by the indices that g gives, each its own
+set-at : (g : ℕ → ℕ) (l : List ℕ) (i x : ℕ) → ((j : ℕ) → g j ≡ g i → j ≡ i) → g i < length l
+    → (λ j. at (set l (g i) x) (g j)) ≡ upd (λ j. at l (g j)) i x
+set-at g l i x own h =
     fun-ext (λ j.
     by-cases (ℕ-discrete j i)
-    (λ e. rw e (getD-set-same l i x 0 h ∙ sym (upd-same (at l) i x)))
-    (λ d. getD-set-other l i j x 0 d ∙ sym (upd-other (at l) i x j d)))
+    (λ (e : j ≡ i). rw e (getD-set-same l (g i) x 0 h ∙ sym (upd-same (λ k. at l (g k)) i x)))
+    (λ d. getD-set-other l (g i) (g j) x 0 (λ z. d (own j z)) ∙ sym (upd-other (λ k. at l (g k)) i x j d)))
+
+pub at-set : (l : List ℕ) (i x : ℕ) → i < length l → at (set l i x) ≡ upd (at l) i x
+at-set l i x h = set-at (λ j. j) l i x (λ j e. e) h
+
+-- a record's two words become x and y
+abbrev pub given : List ℕ → ℕ → ℕ → ℕ → List ℕ
+given l i x y = set (set l (2 * i) x) (2 * i + 1) y
+
+module _ (l : List ℕ) (i x y : ℕ) (h : 2 * i + 1 < length l) where
+  pub given-value : valueAt (given l i x y) ≡ upd (valueAt l) i x
+  given-value =
+      fun-ext (λ j. getD-set-other (set l (2 * i) x) (2 * i + 1) (2 * j) y 0 (omega arith))
+      ∙ set-at (λ j. 2 * j) l i x (λ j e. omega (arith, e)) (omega arith)
+
+  pub given-period : periodAt (given l i x y) ≡ upd (periodAt l) i y
+  given-period =
+      set-at (λ j. 2 * j + 1) (set l (2 * i) x) i y (λ j e. omega (arith, e)) (omega (arith, length-set l (2 * i) x))
+      ∙ ap (λ f. upd f i y) (fun-ext (λ j. getD-set-other l (2 * i) (2 * j + 1) x 0 (omega arith)))
 
 -- ---- a view, and the words past N, fix the words of a sound store
 
 words-same : (l m : List ℕ) → length m ≡ length l → at m ≡ at l → m ≡ l
 words-same l m n e = ext-getD 0 m l n (λ i h. ap (λ f. f i) e)
+
+-- values and periods are all of a slice's words
+pairs-same : (l m : List ℕ) → length m ≡ length l → valueAt m ≡ valueAt l → periodAt m ≡ periodAt l → m ≡ l
+pairs-same l m n e f =
+    words-same l m n (fun-ext (λ i.
+    by-cases (ℕ-discrete (i % 2) 0)
+    (λ z. let q : i ≡ 2 * (i / 2) = omega (arith, z) in ap (at m) q ∙ ap (λ g. g (i / 2)) e ∙ sym (ap (at l) q))
+    (λ z. let q : i ≡ 2 * (i / 2) + 1 = omega (arith, z) in ap (at m) q ∙ ap (λ g. g (i / 2)) f ∙ sym (ap (at l) q))))
 
 pub view-fixed : {s s′ : QueueWords} → Sound s → Sound s′ → view s′ ≡ view s → PastKept (count s) s s′ → s′ ≡ s
 view-fixed {s} {s′} S S′ e K =
@@ -66,7 +96,7 @@ view-fixed {s} {s′} S S′ e K =
     (record { size = ap (λ v. v .n) e; links = K .links }) in
     let o : s′ .wheel .occupied ≡ s .wheel .occupied = rows-fixed (S .standing .whole .rows) (rw l at (S′ .standing .whole .rows)) in
     let c : elapsed s′ ≡ elapsed s = ap (λ v. v .elapsed) e in
-    let a = words-same (s .values) (s′ .values) (K .values .size) (ap (λ v. v .value) e) in
+    let a = pairs-same (s .values) (s′ .values) (K .values .size) (ap (λ v. v .value) e) (ap (λ v. v .period) e) in
     let b = words-same (s .deadlines) (s′ .deadlines) (K .deadlines .size) (ap (λ v. v .deadline) e) in
     let f = words-same (s .turns) (s′ .turns) (K .turns .size) (ap (λ v. v .turn) e) in
     λ i. queueWords (wheelWords (c i) (o i) (t i)) (a i) (b i) (f i)

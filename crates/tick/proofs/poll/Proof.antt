@@ -14,12 +14,13 @@ use Rattle.tick.proofs.poll.Tie as tie
 abbrev to-told : tie.After-poll → tie.After-enum-told
 to-told c =
     let a = c .before .before .before .before in
-    a .before
+    a .before .before
 
-abbrev to-poll : tie.After-slice-known8 → tie.After-poll
+abbrev to-poll : tie.After-slice-known10 → tie.After-poll
 to-poll c =
     let a = c .before .before .before .before in
-    a .before .before .before .before
+    let b = a .before .before .before .before in
+    b .before .before
 
 abbrev to-read : tie.After-enum-told → tie.After-read
 to-read c = c .before .before .before
@@ -48,6 +49,9 @@ same-length-3 c = search needs
 same-length-4 : tie.Need-same-length-4
 same-length-4 c = search needs
 
+same-length-5 : tie.Need-same-length-5
+same-length-5 c = search needs
+
 returns : tie.Need-returns
 returns c =
     let at-poll = to-poll c in
@@ -62,7 +66,7 @@ not-ok : (c : tie.At-match-keys2) → told (c .before .before .read .result .ans
 not-ok c e =
     let a = c .before .before .read .result .answer in
     let d : a ≡ A.Done = told-one a A.Done e in
-    past (past (past (past (past (past (past (λ k. omega arith))))))) (rw d at (c .match .keys2))
+    past (past (past (past (past (past (past (past (λ k. omega arith)))))))) (rw d at (c .match .keys2))
 
 returns-2 : tie.Need-returns-2
 returns-2 c =
@@ -80,5 +84,6 @@ poll-spec =
     same-length-2
     same-length-3
     same-length-4
+    same-length-5
     returns
     returns-2)

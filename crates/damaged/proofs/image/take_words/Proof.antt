@@ -1,19 +1,16 @@
--- `words_in` meets its contract: every turn takes one word.
+-- `take_words` meets its contract: every turn takes one word.
 use borrow.Author.Needs.{needs}
 use mathlib.Core.Path.{_≡_}
 use Prim.Native.Nat.{_≤_, _-_}
 use lib.ListN.{length}
-use Rattle.damaged.proofs.image.words_in.Statement.{statement}
-use Rattle.damaged.proofs.image.words_in.Tie as tie
+use Rattle.damaged.proofs.image.take_words.Statement.{statement}
+use Rattle.damaged.proofs.image.take_words.Tie as tie
 
 abbrev Inv-loop : tie.InvT-loop
-Inv-loop image from words₀ i₀ words i = (i ≤ 12) × (length words ≡ 1025)
+Inv-loop words₀ image from count i₀ words i = (i ≤ count) × (length words ≡ length words₀)
 
 abbrev μ-loop : tie.MeasureT-loop
-μ-loop image from words₀ i₀ words i = 12 - i
-
-words-requires : tie.Need-words-requires Inv-loop μ-loop
-words-requires c κs = search needs
+μ-loop words₀ image from count i₀ words i = count - i
 
 loop-holds : tie.Need-loop-holds Inv-loop μ-loop
 loop-holds c = search needs
@@ -30,8 +27,8 @@ element-copy-out-words c = search needs
 mul-words-2 : tie.Need-mul-words-2 Inv-loop μ-loop
 mul-words-2 c = search needs
 
-array-write-words : tie.Need-array-write-words Inv-loop μ-loop
-array-write-words c = search needs
+slice-write-words : tie.Need-slice-write-words Inv-loop μ-loop
+slice-write-words c = search needs
 
 add-i : tie.Need-add-i Inv-loop μ-loop
 add-i c = search needs
@@ -42,23 +39,26 @@ loop-less c = search needs
 loop-again : tie.Need-loop-again Inv-loop μ-loop
 loop-again c = search needs
 
+same-length : tie.Need-same-length Inv-loop μ-loop
+same-length c = search needs
+
 returns : tie.Need-returns Inv-loop μ-loop
 returns c = search needs
 
-pub words-in-spec : {M : Type 1} → statement M
-words-in-spec =
+pub take-words-spec : {M : Type 1} → statement M
+take-words-spec =
     tie.close
     (tie.spec
     Inv-loop
     μ-loop
-    words-requires
     loop-holds
     add-words
     mul-words
     element-copy-out-words
     mul-words-2
-    array-write-words
+    slice-write-words
     add-i
     loop-less
     loop-again
+    same-length
     returns)

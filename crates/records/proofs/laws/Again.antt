@@ -1,0 +1,42 @@
+-- When a timer is set again, and when no more: the laws that the proof of `next_time` cites, and the two cases of its answer.
+use mathlib.Core.Path.{_≡_, subst}
+use mathlib.Core.Logic.{_≢_, inl, inr, ⊎-elim, by-cases}
+use Prim.Native.Nat.{ℕ, _^_, _<_}
+use native.Mathlib.Decide.{decLt}
+use native.Mathlib.Omega.{arith}
+use Rattle.records.specs.declared.Again.{Again}
+use Rattle.records.specs.declared.Again.the-variants as G
+use Rattle.records.specs.Records.{Near, NoMore}
+use Rattle.records.specs.Found.{DeadlineNo, AgainIs}
+use Rattle.records.proofs.laws.Cases.{by-deadline}
+
+module _ {e w : ℕ} where
+  -- by the number of the refusal
+  module _ {n : ℕ} (D : DeadlineNo e w n) where
+    pub set-no-more : n ≢ 0 → NoMore e w
+    set-no-more d = by-deadline e w (λ f. inr (inl f)) (λ f. inr (inr f)) (λ t. absurd (d (D .near t)))
+
+    pub set-again : w < 2 ^ 64 → n ≡ 0 → NoMore e w → ⊥
+    set-again h z = ⊎-elim (λ f. omega arith) (⊎-elim (λ f. omega (arith, D .far f)) (λ f. omega (arith, D .other f)))
+
+  -- by the answer's case
+  pub again-never : {r : Again} → AgainIs e w r → r ≡ G.Never → NoMore e w
+  again-never A q = subst (AgainIs e w) q A
+
+  pub again-at : {r : Again} → AgainIs e w r → (t : ℕ) → r ≡ G.At t → (t ≡ w) × (NoMore e w → ⊥)
+  again-at A t q = subst (AgainIs e w) q A
+
+  -- it is one or the other
+  pub by-next : {P : Type 0} → (NoMore e w → P) → ((NoMore e w → ⊥) → P) → P
+  by-next f g =
+      by-cases (decLt w (2 ^ 64))
+      (λ h.
+      by-deadline e w
+      (λ x. f (inr (inl x)))
+      (λ x. f (inr (inr x)))
+      (λ t. g (⊎-elim (λ x. omega arith) (⊎-elim (λ x. omega (arith, x .1, t (x .0))) (λ x. x .2 (t (x .0)))))))
+      (λ h. f (inl (omega (arith, h))))
+
+  -- such a deadline may be placed
+  pub again-near : (NoMore e w → ⊥) → Near e w
+  again-near f = by-deadline e w (λ x. absurd (f (inr (inl x)))) (λ x. absurd (f (inr (inr x)))) (λ n. n)
