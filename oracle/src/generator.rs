@@ -5,7 +5,7 @@ use crate::line::{Answer, Command};
 use crate::malformed::malformed;
 use crate::rng::Rng;
 use crate::rules::{
-    block, key, unpack, BENCH_ROOM, BLOCK_BITS, FARTHEST, LAST_TURN, MOST_RECORDS, WIDTHS,
+    block, key, unpack, BENCH_ROOM, BLOCK_BITS, FARTHEST, LAST_TURN, MOST_RECORDS, OLDEST, WIDTHS,
 };
 use crate::script::Script;
 
@@ -302,7 +302,7 @@ impl<T: Taker> Generator<'_, T> {
             };
             match self.command(insert) {
                 Some(Answer::Key(_)) => (),
-                Some(Answer::No(4 | 5)) if same.is_none() => (),
+                Some(Answer::No(4 | 5 | 11)) if same.is_none() => (),
                 _ => break,
             }
         }
@@ -324,12 +324,14 @@ impl<T: Taker> Generator<'_, T> {
         };
         self.command(command);
         if self.rng.chance(1, 2) {
-            let base = match self.rng.below(6) {
+            let base = match self.rng.below(7) {
                 0 => self.rng.below(1 << 20),
                 1 => (1 + self.rng.below(8)) << BLOCK_BITS,
                 2 => ((1 + self.rng.below(8)) << BLOCK_BITS) - self.rng.below(200),
                 3 => u64::MAX - self.rng.below(1 << 40),
                 4 => u64::MAX - self.rng.below(200),
+                // The first clocks at which a deadline of 0 is too old.
+                5 => OLDEST,
                 _ => self.rng.next(),
             };
             let now = self.near(base);
@@ -406,9 +408,11 @@ impl<T: Taker> Generator<'_, T> {
         }
     }
 
+    /// Where 2^64 is nearer it does not wrap: that would be too old, and gone back as a time to poll at.
     fn within_reach(&mut self) -> u64 {
+        let elapsed = self.elapsed();
         let ahead = self.ahead();
-        self.elapsed().wrapping_add(ahead)
+        elapsed.checked_add(ahead).unwrap_or(elapsed | ahead)
     }
 
     fn ahead(&mut self) -> u64 {
@@ -420,11 +424,11 @@ impl<T: Taker> Generator<'_, T> {
     fn when(&mut self) -> u64 {
         let elapsed = self.elapsed();
         let block_start = elapsed >> BLOCK_BITS << BLOCK_BITS;
-        match self.rng.below(22) {
+        match self.rng.below(24) {
             0 => elapsed,
             1 => elapsed.wrapping_add(1 + self.rng.below(3)),
             2 => elapsed.wrapping_sub(1 + self.rng.below(70)),
-            3 => self.rng.below(3),
+            3 | 22 | 23 => self.past(),
             4..=7 => self.near_slot_start(),
             8 => {
                 let blocks = block(elapsed).wrapping_add(self.rng.below(3));
@@ -447,12 +451,24 @@ impl<T: Taker> Generator<'_, T> {
         }
     }
 
+    /// About the oldest that is taken; else mostly one that is. At an early clock it may have wrapped.
+    fn past(&mut self) -> u64 {
+        let elapsed = self.elapsed();
+        let about = OLDEST - 1 + self.rng.below(3);
+        match self.rng.below(8) {
+            0 => self.rng.below(3),
+            1 => elapsed.wrapping_sub(about),
+            2..=4 => elapsed.saturating_sub(about),
+            _ => elapsed.saturating_sub(self.rng.below(OLDEST)),
+        }
+    }
+
     /// Near the start of a slot ahead, at any level.
     fn near_slot_start(&mut self) -> u64 {
         let width = self.rng.pick(&WIDTHS);
         let far = self.rng.pick(&[4, 65]);
-        let slots = (self.elapsed() / width).wrapping_add(self.rng.below(far));
-        self.near(slots.wrapping_mul(width))
+        let slots = (self.elapsed() / width).saturating_add(self.rng.below(far));
+        self.near(slots.saturating_mul(width))
     }
 
     /// A time to poll at, seldom gone back.

@@ -23,6 +23,7 @@ pub mod generator;
 pub mod line;
 mod malformed;
 mod original;
+pub mod past;
 #[allow(dead_code)] // the original's slab can do more than is asked of it
 mod queue;
 pub mod rng;

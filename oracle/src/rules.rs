@@ -7,6 +7,8 @@ pub const SLOTS: usize = 64;
 pub const BLOCK_BITS: u32 = 36;
 /// The farthest that a deadline may lie ahead of elapsed.
 pub const FARTHEST: u64 = 68_719_476_735;
+/// The farthest that a deadline may lie below elapsed: an hour (02 [8]).
+pub const OLDEST: u64 = 3_600_000;
 /// The most records that a store may have: the numbers below 65,535, which means nobody.
 pub const MOST_RECORDS: u64 = 65_535;
 /// The bench has room for so many.

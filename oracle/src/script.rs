@@ -1,12 +1,14 @@
 //! Command lines with the oracle's answers.
-use crate::bench::Bench;
-use crate::line::{lines, Answer};
+use crate::bench::{Bench, Store};
+use crate::line::{lines, parse, Answer};
+use crate::past::Past;
 
 pub struct Script {
     pub commands: Vec<u8>,
     pub answers: Vec<u8>,
     /// Where each line's command and answer end, newlines included.
     ends: Vec<(usize, usize)>,
+    pub past: Past,
     bench: Bench,
     with_lists: bool,
 }
@@ -18,6 +20,7 @@ impl Script {
             commands: vec![],
             answers: vec![],
             ends: vec![],
+            past: Past::default(),
             bench: Bench::default(),
             with_lists,
         }
@@ -36,7 +39,11 @@ impl Script {
     }
 
     pub fn add(&mut self, line: &[u8]) -> Answer {
+        let elapsed = self.bench.store().map_or(0, Store::elapsed);
         let answer = self.bench.line(line);
+        if let Some(command) = parse(line) {
+            self.past.count(elapsed, command, answer);
+        }
         self.commands.extend_from_slice(line);
         self.commands.push(b'\n');
         self.answers

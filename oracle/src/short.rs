@@ -1,7 +1,7 @@
 //! Every sequence of a few commands over a small alphabet, each on a store of two records that can
 //! leave once before their last turn.
 use crate::line::Command;
-use crate::rules::{key, BLOCK_BITS, LAST_TURN};
+use crate::rules::{key, BLOCK_BITS, LAST_TURN, OLDEST};
 use crate::script::Script;
 use std::ops::Range;
 
@@ -15,7 +15,8 @@ pub fn alphabet() -> Vec<Command> {
     let repeating = [(63, 1), (64, (1 << BLOCK_BITS) - 64)];
     let inserts = [&once[..], &repeating].concat();
     let inserts: Vec<Command> = inserts.into_iter().map(insert).collect();
-    let polls = [0, 1, 63, 64, 65, 4095, 4096, 4161].map(|now| Command::Poll { now });
+    // After the last, 64 lies 3,600,001 below elapsed and 65 one less.
+    let polls = [0, 1, 63, 64, 65, 4095, 4096, 4161, OLDEST + 65].map(|now| Command::Poll { now });
     let resets = [first, second]
         .map(|key| [0, 64, 65, 4097].map(|when| Command::Reset { key, when }))
         .concat();
@@ -46,7 +47,7 @@ pub fn give(depth: u32, numbers: Range<u64>, mut take: impl FnMut(&[Command])) {
         records: 2,
         turn: TURN,
     };
-    let poll = Command::Poll { now: 8192 };
+    let poll = Command::Poll { now: OLDEST + 8192 };
     let end = [poll, poll, Command::Wake, Command::Length];
     for number in numbers {
         let letter = |place| alphabet[(number / letters.pow(place) % letters) as usize];

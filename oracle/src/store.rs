@@ -4,7 +4,7 @@ mod model;
 
 use crate::line::Answer;
 use crate::original::Original;
-use crate::rules::{block, key, level, unpack, FARTHEST, LAST_TURN, SLOTS};
+use crate::rules::{block, key, level, unpack, FARTHEST, LAST_TURN, OLDEST, SLOTS};
 use checks::Before;
 use model::{Model, EXPIRED};
 use std::fmt::Write;
@@ -87,7 +87,7 @@ impl Store {
         if self.freed.is_empty() && self.fresh == self.records.len() {
             return Answer::No(3);
         }
-        if let Some(number) = self.too_far(when) {
+        if let Some(number) = self.refused(when) {
             return Answer::No(number);
         }
         let record = self.take();
@@ -104,7 +104,7 @@ impl Store {
         let Some(record) = self.find(key) else {
             return Answer::No(6);
         };
-        if let Some(number) = self.too_far(when) {
+        if let Some(number) = self.refused(when) {
             return Answer::No(number);
         }
         self.original.reset(self.records[record].number, when);
@@ -304,6 +304,18 @@ impl Store {
         named.then_some(record)
     }
 
+    /// Refusals 11, 4 and 5, of a deadline as it was handed in: "it applies before raising to elapsed" (02 [8]).
+    fn refused(&self, when: u64) -> Option<u8> {
+        let below = self.elapsed().saturating_sub(when);
+        let number = if below > OLDEST {
+            Some(11)
+        } else {
+            self.too_far(when)
+        };
+        self.check_refused(when, number);
+        number
+    }
+
     /// Refusals 4 and 5.
     fn too_far(&self, when: u64) -> Option<u8> {
         let elapsed = self.elapsed();
@@ -326,7 +338,7 @@ impl Store {
     }
 
     /// Where a timer that was handed out is placed again. "If refusals 4 or 5 would meet that deadline
-    /// at the elapsed time after the hand-out, or it passes 2^64-1", nowhere (02 [7]).
+    /// at the elapsed time after the hand-out, or it passes 2^64-1", nowhere (02 [7]). Refusal 11 is not asked.
     fn again(&self, record: usize) -> Option<u64> {
         let Record {
             period, deadline, ..

@@ -1,22 +1,28 @@
 //! How often each kind of answer was given, so that a generator that misses one is found out.
 use crate::line::lines;
+use crate::past::Past;
+use crate::script::Script;
 use std::collections::BTreeMap;
 use std::fmt;
 
 /// Every kind there is. `last` counts those of `out` that end so, `drains 5` polls with five drains,
 /// answered `out` or `none`.
-const KINDS: [&str; 24] = [
+const KINDS: [&str; 25] = [
     "ok", "key", "gone", "out", "last", "none", "wake", "wake -", "len", "bad", "no 1", "no 2",
-    "no 3", "no 4", "no 5", "no 6", "no 7", "no 8", "drains 0", "drains 1", "drains 2", "drains 3",
-    "drains 4", "drains 5",
+    "no 3", "no 4", "no 5", "no 6", "no 7", "no 8", "no 11", "drains 0", "drains 1", "drains 2",
+    "drains 3", "drains 4", "drains 5",
 ];
 
 #[derive(Default)]
-pub struct Tally(BTreeMap<String, u64>);
+pub struct Tally {
+    kinds: BTreeMap<String, u64>,
+    past: Past,
+}
 
 impl Tally {
-    pub fn add(&mut self, answers: &[u8]) {
-        for line in lines(answers) {
+    pub fn add(&mut self, script: &Script) {
+        self.past += &script.past;
+        for line in lines(&script.answers) {
             let line = String::from_utf8_lossy(line);
             let (word, rest) = line.split_once(' ').unwrap_or((&line, ""));
             match word {
@@ -39,19 +45,19 @@ impl Tally {
 
     fn count(&mut self, kind: &str) {
         assert!(KINDS.contains(&kind), "an answer of no known kind: {kind}");
-        *self.0.entry(kind.to_string()).or_default() += 1;
+        *self.kinds.entry(kind.to_string()).or_default() += 1;
     }
 
-    /// The kinds that were never met.
-    pub fn missing(&self) -> Vec<&'static str> {
-        let missing = KINDS.iter().filter(|&&kind| !self.0.contains_key(kind));
-        missing.copied().collect()
+    /// The kinds that were never met, and the deadlines below elapsed.
+    pub fn missing(&self) -> Vec<String> {
+        let missing = KINDS.iter().filter(|&&kind| !self.kinds.contains_key(kind));
+        missing.map(|kind| kind.to_string()).chain(self.past.missing()).collect()
     }
 }
 
 impl fmt::Display for Tally {
     fn fmt(&self, f: &mut fmt::Formatter<'_>) -> fmt::Result {
-        let counts = KINDS.map(|kind| format!("{kind}: {}", self.0.get(kind).unwrap_or(&0)));
-        write!(f, "{}", counts.join(", "))
+        let counts = KINDS.map(|kind| format!("{kind}: {}", self.kinds.get(kind).unwrap_or(&0)));
+        write!(f, "{}\n{}", counts.join(", "), self.past)
     }
 }

@@ -3,6 +3,7 @@ pub mod Cleared
 pub mod Clock
 pub mod Decided
 pub mod Does
+pub mod Eleven
 pub mod First
 pub mod FirstShown
 pub mod Keys

@@ -1,6 +1,7 @@
 pub mod Bounded
 pub mod Cleared
 pub mod Does
+pub mod Eleven
 pub mod First
 pub mod Keys
 pub mod KeysOne

@@ -8,7 +8,7 @@ use Rattle.stack.specs.Places.{free}
 use Rattle.queue.specs.declared.Answer.{Answer}
 use Rattle.queue.specs.Told.{told}
 use Rattle.records.specs.View.{View}
-use Rattle.records.specs.Records.{At, TooFar, OtherBlock, numberIn, turnIn}
+use Rattle.records.specs.Records.{At, TooOld, TooFar, OtherBlock, numberIn, turnIn}
 use Rattle.records.specs.Words.{QueueWords, count, elapsed, view, Sound, slices, PastKept}
 use Rattle.queue.specs.Calls.{Refused}
 use Rattle.delay_queue.specs.declared.Call.{Call}
@@ -30,16 +30,20 @@ pub data Lines : Type 1 where
   end : Lines
   line : ℕ → Type 0 → Lines → Lines
 
+-- the lines of the deadline w, at elapsed e. 11: "more than 3,600,000 below elapsed", "judged after 3 or 6 and before 4" (02 [8]); 4: "deadline less elapsed is
+-- over 68,719,476,735"; 5: "as 4, but not over, and floor(w/2^36) differs from floor(e/2^36)"
+abbrev pub deadlineLines : ℕ → ℕ → Lines
+deadlineLines e w = line 11 (TooOld e w) (line 4 (TooFar e w) (line 5 (OtherBlock e w) end))
+
 -- "Order: format 1, 8; insert 2, 3, 4, 5; reset 2, 6, 4, 5; remove 2, 6; poll 2, 7; next wake, length and clear only 2."
 -- 1: "N is 0 or over" 65,535 (02 [5]: "Refusal 1 moves to the new limit"), "or a lent slice is too short for N"; 8: "first turn 0 or 2^48 and above"
--- 2: "slices too short or store not sound"; 3: "no record is free and unretired"
--- 4: "deadline less elapsed is over 68,719,476,735"; 5: "as 4, but not over, and floor(w/2^36) differs from floor(e/2^36)"; 7: "now is below elapsed"
+-- 2: "slices too short or store not sound"; 3: "no record is free and unretired"; 7: "now is below elapsed"
 abbrev pub linesOf : Call → QueueWords → Lines
 linesOf (C.Format n turn) s = line 1 (Fits (slices s) n → ⊥) (line 8 (InRange turn → ⊥) end)
 linesOf (C.Insert value when period) s =
-    line 2 (Sound s → ⊥) (line 3 (view s .lists free ≡ []) (line 4 (TooFar (elapsed s) when) (line 5 (OtherBlock (elapsed s) when) end)))
+    line 2 (Sound s → ⊥) (line 3 (view s .lists free ≡ []) (deadlineLines (elapsed s) when))
 linesOf (C.Reset key when) s =
-    line 2 (Sound s → ⊥) (line 6 (NoSuchKey (view s) key) (line 4 (TooFar (elapsed s) when) (line 5 (OtherBlock (elapsed s) when) end)))
+    line 2 (Sound s → ⊥) (line 6 (NoSuchKey (view s) key) (deadlineLines (elapsed s) when))
 linesOf (C.Remove key) s = line 2 (Sound s → ⊥) (line 6 (NoSuchKey (view s) key) end)
 linesOf (C.Poll now) s = line 2 (Sound s → ⊥) (line 7 (now < elapsed s) end)
 linesOf C.Wake s = line 2 (Sound s → ⊥) end

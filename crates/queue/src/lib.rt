@@ -90,7 +90,7 @@ pub fn insert(
     Answer::Key(key)
 }
 
-// The timer of the key is placed anew. 4 and 5 are judged before anything is unlinked.
+// The timer of the key is placed anew. Its deadline is judged before anything is unlinked.
 pub fn reset(
     elapsed: u64,
     rows: &mut [u64; 6],

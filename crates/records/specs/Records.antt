@@ -56,14 +56,21 @@ OtherBlock e w = (e < w) × (w - e ≤ maxDuration) × (block w ≢ block e)
 abbrev pub Near : ℕ → ℕ → Type 0
 Near e w = e < w → block w ≡ block e
 
--- the deadline w is taken at elapsed e: no refusal of a deadline is given
-abbrev pub Takes : ℕ → ℕ → Type 0
-Takes e w = Near e w
-
 -- 02 [7]: "If refusals 4 or 5 would meet that deadline at the elapsed time after the hand-out, or it passes 2^64-1": a timer is not set again to w, which
 -- is a number and no word
 abbrev pub NoMore : ℕ → ℕ → Type 0
 NoMore e w = (2 ^ 64 ≤ w) ⊎ TooFar e w ⊎ OtherBlock e w
+
+-- ---- refusal 11
+
+-- 02 [8]: "An insert or reset whose deadline is more than 3,600,000 below elapsed is refused with 11"; "It applies before raising to elapsed"
+abbrev pub TooOld : ℕ → ℕ → Type 0
+TooOld e w = w + 3600000 < e
+
+-- the deadline w is taken at elapsed e: no refusal of a deadline is given
+pub record Takes (e w : ℕ) : Type 0 where
+  pub recent : TooOld e w → ⊥
+  pub near : Near e w
 
 -- ---- one record moves. 02 [7]: "a reset or leaving keeps the period"
 

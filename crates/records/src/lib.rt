@@ -6,13 +6,16 @@ ghost use Rattle.contracts.specs.Lent.{old, new};
 ghost use Rattle.wheel.specs.Words.{lent, before, after};
 ghost use Rattle.records.specs.Records.{packed, turnIn, numberIn};
 ghost use Rattle.records.specs.Inner.{PlacesTo, CanPlace, LeavesTo, CanFree};
-ghost use Rattle.records.specs.Found.{DeadlineNo, AgainIs, FindIs};
+ghost use Rattle.records.specs.Found.{AheadNo, DeadlineNo, AgainIs, FindIs};
 
 // The last turn: a record that leaves at it is retired.
 pub const LAST_TURN: u64 = (1 << 48) - 1;
 
 // The most records that a store may have: the numbers below nobody.
 pub const LIMIT: u16 = 65535;
+
+// The furthest below elapsed that a deadline may lie: an hour.
+pub const MAX_AGE: u64 = 3_600_000;
 
 // The record that a key names.
 pub enum Found {
@@ -26,9 +29,9 @@ pub enum Again {
     Never,
 }
 
-// 4 or 5 for a deadline that is refused, 0 for one that is taken.
-pub fn deadline_no(elapsed: u64, when: u64) -> u64
-    ensures { λ r. ⌜ DeadlineNo elapsed when r ⌝ }
+// 4 or 5 for a deadline that lies too far ahead of elapsed or in another block, 0 for one that does not.
+fn ahead_no(elapsed: u64, when: u64) -> u64
+    ensures { λ r. ⌜ AheadNo elapsed when r ⌝ }
 {
     if when <= elapsed {
         return 0;
@@ -42,6 +45,19 @@ pub fn deadline_no(elapsed: u64, when: u64) -> u64
     5
 }
 
+// 11, 4 or 5 for a deadline that is refused, 0 for one that is taken.
+pub fn deadline_no(elapsed: u64, when: u64) -> u64
+    ensures { λ r. ⌜ DeadlineNo elapsed when r ⌝ }
+{
+    if when < elapsed {
+        if elapsed - when > MAX_AGE {
+            return 11;
+        }
+        return 0;
+    }
+    ahead_no(elapsed, when)
+}
+
 // When a timer is due again, a period after the deadline that it was handed out at.
 pub fn next_time(elapsed: u64, deadline: u64, period: u64) -> Again
     ensures { λ r. ⌜ AgainIs elapsed (deadline + period) r ⌝ }
@@ -50,7 +66,7 @@ pub fn next_time(elapsed: u64, deadline: u64, period: u64) -> Again
         return Again::Never;
     }
     let when = deadline + period;
-    let no = deadline_no(elapsed, when);
+    let no = ahead_no(elapsed, when);
     if no != 0 {
         return Again::Never;
     }

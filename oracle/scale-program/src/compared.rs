@@ -225,9 +225,11 @@ impl Taker for Compared {
         }
         self.lines += 1;
         self.commands.push(command);
+        let elapsed = self.bench.store().map_or(0, Store::elapsed);
         let answer = self.bench.command(command);
         let again = matches!(answer, Answer::Out { key, .. } if self.bench.store().is_some_and(|store| store.holds(key)));
         self.tally.count(command, answer, again);
+        self.tally.past.count(elapsed, command, answer);
         self.waiting.push(call(command));
         self.expected.push(answer);
         if alone || self.how != How::Inner || self.waiting.len() == self.at_once {

@@ -1,5 +1,6 @@
 //! What was asked and answered, in numbers.
 use oracle::line::{Answer, Command};
+use oracle::past::Past;
 use std::collections::BTreeMap;
 use std::fmt;
 use std::ops::AddAssign;
@@ -7,9 +8,9 @@ use std::ops::AddAssign;
 const COMMANDS: [&str; 8] = [
     "format", "insert", "reset", "remove", "poll", "wake", "length", "clear",
 ];
-const ANSWERS: [&str; 17] = [
+const ANSWERS: [&str; 18] = [
     "ok", "key", "gone", "out", "out last", "none", "wake", "wake -", "len", "no 1", "no 2",
-    "no 3", "no 4", "no 5", "no 6", "no 7", "no 8",
+    "no 3", "no 4", "no 5", "no 6", "no 7", "no 8", "no 11",
 ];
 const DRAINS: usize = 6;
 /// So many sizes are shown.
@@ -28,6 +29,7 @@ pub struct Tally {
     /// Accepted inserts with a period, and how often such a timer was placed again.
     repeating: u64,
     again: u64,
+    pub past: Past,
     /// How often stores of each size were made.
     sizes: BTreeMap<u64, u64>,
     /// How often the lists were compared, and the timers that were then in them.
@@ -57,6 +59,8 @@ impl Tally {
             Answer::Wake(Some(_)) => 6,
             Answer::Wake(None) => 7,
             Answer::Length(_) => 8,
+            // 9 is the gauge's and 10 the tick's.
+            Answer::No(11) => 17,
             Answer::No(number) => 8 + usize::from(number),
             Answer::Bad => unreachable!("a command is no malformed line"),
         }] += 1;
@@ -96,6 +100,7 @@ impl AddAssign<&Tally> for Tally {
         self.drains += other.drains;
         self.repeating += other.repeating;
         self.again += other.again;
+        self.past += &other.past;
         self.lists += other.lists;
         self.timers += other.timers;
         add(&mut self.commands, &other.commands);
@@ -136,6 +141,7 @@ impl fmt::Display for Tally {
             "  repeating timers: {}, placed again {} times",
             self.repeating, self.again
         )?;
+        writeln!(f, "  {}", self.past)?;
         writeln!(f, "  sizes of stores: {} different ones, the largest {}", self.sizes.len(), self.largest())?;
         write!(
             f,

@@ -47,13 +47,13 @@ fn worked(cases: &Path) -> Result<Script, String> {
 /// Hand-written cases, 40 seeds of 400 lines, then 4 of 4,000 that fill stores of 1,024 records.
 fn answers(cases: &Path) -> Result<Script, String> {
     let mut script = Script::new(false);
-    for case in ["lines", "mornings", "wake", "traps", "order", "repeat"] {
+    for case in ["lines", "mornings", "wake", "traps", "order", "repeat", "old"] {
         add_case(cases, case, &mut script)?;
     }
     for seed in 1..=40 {
         script.add_all(&generate(seed, 400, false).commands);
     }
-    for seed in [58, 99, 115, 126] {
+    for seed in [76, 81, 96, 127] {
         script.add_all(&generate(seed, 4000, false).commands);
     }
     script.drop_last_newline();
@@ -67,7 +67,7 @@ fn contents() -> Result<Script, String> {
     for seed in 1..=20 {
         script.add_all(&generate_small(seed, 100, 24, false).commands);
     }
-    for seed in [28, 51, 103] {
+    for seed in [28, 74, 154] {
         script.add_all(&generate_small(seed, 400, 150, false).commands);
     }
     check_kinds(&script)?;
@@ -89,7 +89,7 @@ fn add_case(cases: &Path, name: &str, script: &mut Script) -> Result<(), String>
 
 fn check_kinds(script: &Script) -> Result<(), String> {
     let mut tally = Tally::default();
-    tally.add(&script.answers);
+    tally.add(script);
     match tally.missing()[..] {
         [] => Ok(()),
         ref missing => Err(format!("no answer of kind {}", missing.join(", "))),

@@ -19,6 +19,7 @@ fn main() {
     expired_and_wake();
     last_block();
     clear_keeps_now();
+    too_old();
 }
 
 fn show<R: Debug>(what: &str, call: impl FnOnce() -> R) {
@@ -135,4 +136,16 @@ fn clear_keeps_now() {
     show("elapsed now", || q.elapsed());
     q.insert(2, 50);
     show("a timer put in at 50", || q.poll_expired());
+}
+
+fn too_old() {
+    println!("11. elapsed 10000000, insert at 0, reset to 0 (refusal 11)");
+    let mut q = Whole::new(4);
+    q.poll(10_000_000);
+    show("insert(0): taken", || q.insert(1, 0));
+    let a = q.insert(2, 10_000_005);
+    show("reset(A, 0): taken", || q.reset(a, 0));
+    for _ in 0..2 {
+        show("poll(10000000): raised to elapsed", || q.poll(10_000_000));
+    }
 }

@@ -30,7 +30,7 @@ fn run(args: Vec<String>) -> Result<(), String> {
     let mut count = 0;
     for seed in from..=to {
         let script = generate(seed, lines as usize, false);
-        tally.add(&script.answers);
+        tally.add(&script);
         count += script.len();
     }
     println!("{tally}");

@@ -20,6 +20,13 @@ impl Store {
         assert_eq!((value, deadline), (record.value, record.deadline));
     }
 
+    /// A deadline that was handed in is refused, or taken, as the rules say.
+    pub(super) fn check_refused(&self, when: u64, number: Option<u8>) {
+        if let Some(model) = &self.model {
+            assert_eq!(number, model.refused(when), "a refusal by the rules");
+        }
+    }
+
     /// Makes the same poll by the rules. The record that came out has not yet left.
     pub fn check_poll(&mut self, before: &Before, out: Option<usize>) {
         let (moves, drains) = self.counted();

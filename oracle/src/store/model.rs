@@ -1,6 +1,6 @@
 //! The steps of the wheel in the words of the rules, over plain lists: a second reading that the
 //! original's lists and answers are held against.
-use crate::rules::{level, slot, FARTHEST, SLOTS, WIDTHS};
+use crate::rules::{level, slot, FARTHEST, OLDEST, SLOTS, WIDTHS};
 use std::collections::VecDeque;
 
 /// The place of the expired stack, after the slots; slot s of level k is 64 k + s.
@@ -39,6 +39,19 @@ impl Model {
             deadlines: vec![0; records],
             periods: vec![0; records],
         }
+    }
+
+    /// The refusals of a deadline in their order, as sums and by the block's last millisecond, where the
+    /// store subtracts and divides.
+    pub fn refused(&self, when: u64) -> Option<u8> {
+        let [when, elapsed] = [when, self.elapsed].map(u128::from);
+        let [oldest, farthest] = [OLDEST, FARTHEST].map(u128::from);
+        let refusals = [
+            (11, when + oldest < elapsed),
+            (4, when > elapsed + farthest),
+            (5, when > elapsed | farthest),
+        ];
+        refusals.into_iter().find_map(|(number, meets)| meets.then_some(number))
     }
 
     pub fn insert(&mut self, record: usize, when: u64, period: u64) {

@@ -96,23 +96,23 @@ other-stands c s a t A f =
 another : {j k : ℕ} {B : Type 0} → k ≢ j → (B → ⊥) → (k ≡ j) ⊎ B → ⊥
 another d f x = ⊎-elim d f x
 
--- past 6 the table has 8 alone, and 7 for a poll
-unlisted : (k : ℕ) → 6 < k → k ≢ 8 → (c : Call) (s : QueueWords) → (isPoll c ≡ true → k ≢ 7) → Mem k (numbers (linesOf c s)) → ⊥
-unlisted k h d (C.Format n turn) s f = another (λ e. omega arith) (another d (λ x. x))
-unlisted k h d (C.Insert value when period) s f =
-    another (λ e. omega arith) (another (λ e. omega arith) (another (λ e. omega arith) (another (λ e. omega arith) (λ x. x))))
-unlisted k h d (C.Reset key when) s f =
-    another (λ e. omega arith) (another (λ e. omega arith) (another (λ e. omega arith) (another (λ e. omega arith) (λ x. x))))
-unlisted k h d (C.Remove key) s f = another (λ e. omega arith) (another (λ e. omega arith) (λ x. x))
-unlisted k h d (C.Poll now) s f = another (λ e. omega arith) (another (f refl) (λ x. x))
-unlisted k h d C.Wake s f = another (λ e. omega arith) (λ x. x)
-unlisted k h d C.Length s f = another (λ e. omega arith) (λ x. x)
-unlisted k h d C.Clear s f = another (λ e. omega arith) (λ x. x)
+-- past 6 the table has 8 and 11 alone, and 7 for a poll
+unlisted : (k : ℕ) → 6 < k → k ≢ 8 → k ≢ 11 → (c : Call) (s : QueueWords) → (isPoll c ≡ true → k ≢ 7) → Mem k (numbers (linesOf c s)) → ⊥
+unlisted k h d o (C.Format n turn) s f = another (λ e. omega arith) (another d (λ x. x))
+unlisted k h d o (C.Insert value when period) s f =
+    another (λ e. omega arith) (another (λ e. omega arith) (another o (another (λ e. omega arith) (another (λ e. omega arith) (λ x. x)))))
+unlisted k h d o (C.Reset key when) s f =
+    another (λ e. omega arith) (another (λ e. omega arith) (another o (another (λ e. omega arith) (another (λ e. omega arith) (λ x. x)))))
+unlisted k h d o (C.Remove key) s f = another (λ e. omega arith) (another (λ e. omega arith) (λ x. x))
+unlisted k h d o (C.Poll now) s f = another (λ e. omega arith) (another (f refl) (λ x. x))
+unlisted k h d o C.Wake s f = another (λ e. omega arith) (λ x. x)
+unlisted k h d o C.Length s f = another (λ e. omega arith) (λ x. x)
+unlisted k h d o C.Clear s f = another (λ e. omega arith) (λ x. x)
 
 -- 7 is answered by a poll alone
 pub seven-polls : (c : Call) (s : QueueWords) (a : Answer) (t : QueueWords) → CallClaim c s a t → isPoll c ≡ false → told a ≡ T.no 7 → ⊥
 seven-polls c s a t A f e =
-    unlisted 7 (omega arith) (λ q. omega arith) c s (λ g. absurd (true≢false (sym g ∙ f))) (refused-listed c s a t A 7 e)
+    unlisted 7 (omega arith) (λ q. omega arith) (λ q. omega arith) c s (λ g. absurd (true≢false (sym g ∙ f))) (refused-listed c s a t A 7 e)
 
 -- and only at a time that is before the store's
 pub seven-back : {s t : QueueWords} {a : Answer} {now : ℕ} → PollClaim s now a t → told a ≡ T.no 7 → now < elapsed s
@@ -121,4 +121,4 @@ seven-back {s} {t} {a} {now} P e =
 
 -- number 10 is none of the store's own
 pub no-ten : (c : Call) (s : QueueWords) (a : Answer) (t : QueueWords) → CallClaim c s a t → told a ≡ T.no 10 → ⊥
-no-ten c s a t A e = unlisted 10 (omega arith) (λ q. omega arith) c s (λ g q. omega arith) (refused-listed c s a t A 10 e)
+no-ten c s a t A e = unlisted 10 (omega arith) (λ q. omega arith) (λ q. omega arith) c s (λ g q. omega arith) (refused-listed c s a t A 10 e)

@@ -30,6 +30,7 @@ module _ {s : QueueWords} {a : Answer} {t : QueueWords} (S : Sound s) where
       by [] e = refused (I .full e)
       by (r ∷ l) e =
           by-deadline (elapsed s) when
+          (λ f. refused (I .old r l e f))
           (λ f. refused (I .far r l e f))
           (λ f. refused (I .other r l e f))
           (λ f. inserted e f (I .done r l e f))
@@ -39,6 +40,7 @@ module _ {s : QueueWords} {a : Answer} {t : QueueWords} (S : Sound s) where
       by-key S key
       (λ r p N.
       by-deadline (elapsed s) when
+      (λ f. refused (R .old r p N f))
       (λ f. refused (R .far r p N f))
       (λ f. refused (R .other r p N f))
       (λ f. replaced N f (R .done r p N f)))

@@ -16,6 +16,7 @@ use Rattle.records.specs.View.{withValue, upd, withPeriod}
 use Rattle.records.specs.Slices.{Fits}
 use Rattle.records.specs.Records.{keyOf, Takes, taken, target, placed}
 use Rattle.records.specs.Words.{QueueWords, words, elapsed, view, slices, Sound}
+use Rattle.records.proofs.laws.Cases.{takes-so}
 use Rattle.queue.specs.Calls.{Answered}
 use Rattle.delay_queue.specs.declared.Call.the-variants as C
 use Rattle.delay_queue.specs.Claims.{CallClaim}
@@ -248,7 +249,7 @@ module _ {s : QueueWords} (F : Fresh s) (when now : ℕ) (near : Takes 0 when) (
 pub first-shown : (x : SecondOut) × (storedOn (x .run .first) ≡ storedOn (x .run .second)) × (elapsed (x .run .later) < storedOn (x .run .second))
 first-shown =
     let F = fresh-two .1 in
-    let near : Takes 0 70 = λ h. refl in
+    let near : Takes 0 70 = takes-so (omega arith) (λ h. refl) in
     let due : 70 ≤ 70 = omega arith in
     let c = clock₁ F 70 70 near due in
     let same : max 70 (elapsed (fresh-two .0)) ≡ max 70 (elapsed (m₁ F 70 70 near due .1)) = omega (arith, c, F .clock) in
@@ -260,7 +261,7 @@ first-shown =
 pub expired-shown : (x : SecondOut) × (x .run .first .when ≤ elapsed (x .start)) × (x .run .second .when ≤ elapsed (x .run .later))
 expired-shown =
     let F = fresh-two .1 in
-    let near : Takes 0 0 = λ h. absurd (omega arith) in
+    let near : Takes 0 0 = takes-so (omega arith) (λ h. absurd (omega arith)) in
     let due : 0 ≤ 0 = omega arith in
     let I = in-turn F 0 0 near due [] rest tt tt in
     let N = J F 0 0 near due .names in

@@ -1,6 +1,6 @@
 -- Keys over runs of any calls: none is given twice, and one whose record has left is refused for good, until the next format.
 use mathlib.Core.Path.{_≡_, refl, sym, ap, _∙_, subst}
-use mathlib.Core.Logic.{_≢_}
+use mathlib.Core.Logic.{_≢_, ⊎-elim}
 use mathlib.Core.List.{List, _∷_}
 use Prim.Native.Nat.{ℕ, _+_}
 use native.Mathlib.Omega.{arith}
@@ -14,6 +14,7 @@ use Rattle.records.specs.View.{View}
 use Rattle.records.specs.Records.{lastTurn, left, numberIn, turnIn, packed, Names}
 use Rattle.records.specs.Words.{QueueWords, view, Sound}
 use Rattle.records.proofs.laws.Words.{upd-same}
+use Rattle.records.proofs.laws.Cases.{takes-so}
 use Rattle.delay_queue.specs.declared.Call.{Call}
 use Rattle.delay_queue.specs.declared.Call.the-variants as C
 use Rattle.delay_queue.specs.Claims.{CallClaim}
@@ -23,6 +24,7 @@ use Rattle.promises.specs.OneCall.{one}
 use Rattle.promises.proofs.laws.OneCall.{call-sound, one-sound, insert-shown}
 use Rattle.promises.specs.Runs.{Asked, Runs, rest, next, All, NoFormat}
 use Rattle.promises.proofs.laws.Runs.{run-sound}
+use Rattle.promises.proofs.laws.Clock.{Stands, other-stands}
 use Rattle.promises.proofs.laws.Views.{ViewGoes, refuses, removes, call-goes}
 use Rattle.promises.proofs.laws.KeysOne.{Onward, onward-same, onward-then, freed-more, does-onward}
 use Rattle.promises.proofs.laws.KeysGone.{Given, Spent, given-onward, spent-onward, names-given, spent-unnamed, given-kept, out-spent, spent-kept, remove-spent, clear-spent}
@@ -154,6 +156,10 @@ taken-next {u} {k} (removes {r = i} {p = p} N) z d =
     rw (freed-more i u (λ e. d (sym (N .turn) ∙ e)), ← N .number, ← N .turn)
     (_, change-same (u .lists) free (put free i (u .lists free)), upd-same (u .turn) i (u .turn i + 1))
 
+-- and the clock, which stood at 0, stands there
+at-zero : {e : ℕ} → Stands 0 e → e ≡ 0
+at-zero z = ⊎-elim (λ e. e) (λ e. e) z
+
 pub dead-shown : (u : QueueWords) × Runs one morning u
 dead-shown =
     let I = insert-shown in
@@ -162,9 +168,11 @@ dead-shown =
     let R : CallClaim (C.Remove 65536) (I .0) (A.Gone 7 70) (m .1) = subst (λ a. CallClaim (C.Remove 65536) (I .0) a (m .1)) e (m .2) in
     let S = call-sound (C.Remove 65536) (I .0) (A.Gone 7 70) (m .1) R (I .2) in
     let h = taken-next (call-goes (C.Remove 65536) (I .0) (A.Gone 7 70) (m .1) (I .2) R) refl (omega arith) in
+    let i = at-zero (other-stands (C.Insert 7 70 0) one (A.Key 65536) (I .0) (I .1) refl) in
+    let z = at-zero (rw i at (other-stands (C.Remove 65536) (I .0) (A.Gone 7 70) (m .1) R refl)) in
     let j = insert-met (m .1) 8 0 0 in
     let g : told (j .0) ≡ T.key 131072
-    = j .2 .good S .done 0 (h .0) (h .1) (λ z. absurd (omega arith)) .told ∙ ap (λ c. T.key (packed c 0)) (h .2) in
+    = j .2 .good S .done 0 (h .0) (h .1) (takes-so (omega (arith, z)) (λ l. absurd (omega arith))) .told ∙ ap (λ c. T.key (packed c 0)) (h .2) in
     let J : CallClaim (C.Insert 8 0 0) (m .1) (A.Key 131072) (j .1)
     = subst (λ a. CallClaim (C.Insert 8 0 0) (m .1) a (j .1)) (told-one (j .0) (A.Key 131072) g) (j .2) in
     let n = remove-met (j .1) 65536 in

@@ -29,8 +29,8 @@ use Rattle.records.specs.Records.{lastTurn}
 use Rattle.queue.specs.Steps.{Wakes, sleeps, starts, at-once, from-wheel}
 use Rattle.records.specs.Words.{QueueWords, queueWords, count, elapsed, markOf, view, Standing, SoundBut, Sound}
 use Rattle.queue.specs.Calls.{Refused, InsertOn, ResetOn, RemoveOn, PollOn, WakeOn}
-use Rattle.records.specs.Found.{DeadlineNo}
-use Rattle.records.proofs.laws.Found.{no-past, no-far, no-near, no-other, key-names, names-key}
+use Rattle.records.specs.Found.{AheadNo, DeadlineNo}
+use Rattle.records.proofs.laws.Found.{no-past, no-far, no-near, no-other, no-old, no-recent, key-names, names-key}
 use Rattle.records.specs.Inner.{LooseAt, CanPlace, PlacesTo, CanFree, LeavesTo}
 use Rattle.records.proofs.laws.Inner.{place-push, place-insert, placed-now, placed-later, free-push, freed-last, freed-given}
 use Rattle.queue.proofs.laws.Calls.{insert-full, insert-refused, insert-place, insert-done, reset-dead, remove-dead, found-leaves, reset-refused, reset-place, reset-done, remove-frees, remove-done}
@@ -78,8 +78,8 @@ format-met s n turn =
 
 -- ---- one record at a time
 
-deadline-met : (e w : ℕ) → (n : ℕ) × DeadlineNo e w n
-deadline-met e w =
+ahead-met : (e w : ℕ) → (n : ℕ) × AheadNo e w n
+ahead-met e w =
     by-cases (decLt e w)
     (λ h.
     by-cases (decLt maxDuration (w - e))
@@ -90,6 +90,12 @@ deadline-met e w =
     (λ b. (0, no-near e w h f (sym (eq-eqb (block w) (block e) b))))
     (λ b. (5, no-other e w h f (sym (ne-eqb (block w) (block e) b))))))
     (λ h. (0, no-past e w (omega arith)))
+
+deadline-met : (e w : ℕ) → (n : ℕ) × DeadlineNo e w n
+deadline-met e w =
+    by-cases (decLt (w + 3600000) e)
+    (λ h. (11, no-old e w h))
+    (λ h. let a = ahead-met e w in (a .0, no-recent e w h (a .1)))
 
 -- an entry comes into the slot of its deadline
 add-met : {t : WheelWords} {k i : ℕ} → CanAdd t k i → (w : ℕ) → (u : WheelWords) × Becomes t (arrive k w i (listsIn t)) u

@@ -23,6 +23,7 @@ use Rattle.records.specs.Records.{TooFar, OtherBlock, target, placed}
 use Rattle.queue.specs.Steps.{QueuePolls, polled, popped, handed, nothing, sleeps, starts, NextWake, at-once, from-wheel}
 use Rattle.records.specs.Words.{QueueWords, elapsed, view, Sound}
 use Rattle.records.proofs.laws.Words.{upd-same}
+use Rattle.records.proofs.laws.Cases.{takes-so}
 use Rattle.queue.specs.Calls.{Refused}
 use Rattle.delay_queue.specs.Claims.{InsertClaim}
 use Rattle.promises.specs.Quiet.{Quiet}
@@ -126,7 +127,7 @@ placed-then v x e E =
 inserted : {s s′ : QueueWords} {a : Answer} {value period : ℕ} → (Q : Quiet s 0) → InsertClaim s value 4101 period a s′
     → Sound s′ × Inserted (view s′) (Q .item)
 inserted {s} {s′} {a} {value} Q I =
-    let A = I .good (Q .sound) .done (Q .item) (Q .rest) (Q .first) (λ h. rw (Q .clock)) in (
+    let A = I .good (Q .sound) .done (Q .item) (Q .rest) (Q .first) (takes-so (omega (arith, Q .clock)) (λ h. rw (Q .clock))) in (
       A .sound,
       rw (A .view) (placed-then _ (Q .item) (Q .clock)
           (λ p h. change-other (view s .lists) free (Q .rest) p (omega arith) ∙ Q .empty p h)),

@@ -130,6 +130,7 @@ module _ {s t t′ : QueueWords} {a a′ : Answer} where
         by [] e = one-refusal (C .full e) (D .full e)
         by (r ∷ l) e =
             by-deadline (elapsed s) when
+            (λ f. one-refusal (C .old r l e f) (D .old r l e f))
             (λ f. one-refusal (C .far r l e f) (D .far r l e f))
             (λ f. one-refusal (C .other r l e f) (D .other r l e f))
             (λ f. answered-once (placed-size r when _) (C .done r l e f) (D .done r l e f))
@@ -143,6 +144,7 @@ module _ {s t t′ : QueueWords} {a a′ : Answer} where
         by-key S key
         (λ r p N.
         by-deadline (elapsed s) when
+        (λ f. one-refusal (C .old r p N f) (D .old r p N f))
         (λ f. one-refusal (C .far r p N f) (D .far r p N f))
         (λ f. one-refusal (C .other r p N f) (D .other r p N f))
         (λ f. answered-once (placed-size r when _ ∙ left-size p r (view s)) (C .done r p N f) (D .done r p N f)))

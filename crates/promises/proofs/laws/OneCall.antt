@@ -22,7 +22,7 @@ use Rattle.queue.specs.Calls.{Answered, InsertOn, ResetOn, RemoveOn, PollOn}
 use Rattle.delay_queue.specs.declared.Call.{Call}
 use Rattle.delay_queue.specs.declared.Call.the-variants as C
 use Rattle.delay_queue.specs.Claims.{Formatted, FormatClaim, Judging, InsertClaim, CallClaim}
-use Rattle.records.proofs.laws.Cases.{by-deadline, by-key}
+use Rattle.records.proofs.laws.Cases.{by-deadline, takes-so, by-key}
 use Rattle.promises.proofs.laws.Decided.{sound-dec, fits-dec, range-dec}
 use Rattle.delay_queue.proofs.laws.Format.{formats}
 use Rattle.promises.specs.Met.{Met}
@@ -97,6 +97,7 @@ module _ {s t : QueueWords} {a : Answer} where
       by [] e = refused 3 (I .full e)
       by (r ∷ l) e =
           by-deadline (elapsed s) when
+          (λ f. refused 11 (I .old r l e f))
           (λ f. refused 4 (I .far r l e f))
           (λ f. refused 5 (I .other r l e f))
           (λ f. answered refl (I .done r l e f))
@@ -106,6 +107,7 @@ module _ {s t : QueueWords} {a : Answer} where
       by-key S key
       (λ r p N.
       by-deadline (elapsed s) when
+      (λ f. refused 11 (R .old r p N f))
       (λ f. refused 4 (R .far r p N f))
       (λ f. refused 5 (R .other r p N f))
       (λ f. answered refl (R .done r p N f)))
@@ -189,6 +191,6 @@ pub insert-shown : (t : QueueWords) × InsertClaim one 7 70 0 (A.Key 65536) t ×
 unfolding over
 insert-shown =
     let m = insert-met one 7 70 0 in
-    let D = m .2 .good one-sound .done 0 [] one-free (λ h. refl) in
+    let D = m .2 .good one-sound .done 0 [] one-free (takes-so (omega arith) (λ h. refl)) in
     let e : m .0 ≡ A.Key 65536 = told-one (m .0) (A.Key 65536) (D .told) in
     (m .1, rw e at (m .2), D .sound)

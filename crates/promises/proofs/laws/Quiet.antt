@@ -24,6 +24,7 @@ use Rattle.records.specs.Records.{Takes, taken, target, placed}
 use Rattle.queue.specs.Steps.{QueuePolls, polled, popped, handed, nothing}
 use Rattle.records.specs.Words.{QueueWords, words, slices, count, elapsed, view, Sound}
 use Rattle.records.specs.Slices.{Fits}
+use Rattle.records.proofs.laws.Cases.{takes-so}
 use Rattle.delay_queue.specs.Claims.{InsertClaim, PollClaim}
 use Rattle.promises.proofs.laws.Met.{format-met, insert-met, poll-met}
 use Rattle.promises.specs.OneCall.{one}
@@ -91,10 +92,10 @@ placed-expired v x when h e =
     )
 
 -- one that is inserted with a deadline not past elapsed waits on the expired stack
-pub quiet-expired : {s t : QueueWords} {a : Answer} {value when period e : ℕ} (Q : Quiet s e) → when ≤ e → InsertClaim s value when period a t
-    → Sound t × (elapsed t ≡ e) × (view t .lists expired ≡ Q .item ∷ [])
-quiet-expired {s} {t} {value = value} {when = when} {period = period} Q h I =
-    let A = I .good (Q .sound) .done (Q .item) (Q .rest) (Q .first) (λ k. absurd (omega arith)) in
+pub quiet-expired : {s t : QueueWords} {a : Answer} {value when period e : ℕ} (Q : Quiet s e) → when ≤ e → Takes (elapsed s) when
+    → InsertClaim s value when period a t → Sound t × (elapsed t ≡ e) × (view t .lists expired ≡ Q .item ∷ [])
+quiet-expired {s} {t} {value = value} {when = when} {period = period} Q h k I =
+    let A = I .good (Q .sound) .done (Q .item) (Q .rest) (Q .first) k in
     let v =
     withPeriod (upd (view s .period) (Q .item) period) (withValue (upd (view s .value) (Q .item) value) (taken (Q .rest) (view s))) in
     let e = change-other (view s .lists) free (Q .rest) expired (omega arith) ∙ Q .empty expired (omega arith) in
@@ -105,8 +106,8 @@ quiet-expired {s} {t} {value = value} {when = when} {period = period} Q h I =
 pub expired-shown : (e : ℕ) → (s : QueueWords) × Sound s × (elapsed s ≡ e) × ((r : ℕ) × (view s .lists expired ≡ r ∷ []))
 expired-shown e =
     let q = quiet-shown e in
-    let m = insert-met (q .0) 0 0 0 in
-    let x = quiet-expired (q .1) (omega arith) (m .2) in
+    let m = insert-met (q .0) 0 e 0 in
+    let x = quiet-expired (q .1) (omega arith) (takes-so (omega (arith, q .1 .clock)) (λ h. absurd (omega (arith, q .1 .clock)))) (m .2) in
     (m .1, x .0, x .1, (q .1 .item, x .2))
 
 -- ---- one that has expired, and one on the wheel
@@ -181,8 +182,10 @@ pub both-shown : (s : QueueWords) × Sound s × ((r : ℕ) × (l : List ℕ) × 
 both-shown =
     let two = two-made in
     let m = insert-met (two .0) 0 70 0 in
-    let A = came (m .2) (two .1) (two .3) (λ h. rw (two .2)) (target-70 (elapsed (two .0)) (two .2)) (omega arith) in
+    let k : Takes (elapsed (two .0)) 70 = takes-so (omega (arith, two .2)) (λ h. rw (two .2)) in
+    let A = came (m .2) (two .1) (two .3) k (target-70 (elapsed (two .0)) (two .2)) (omega arith) in
     let n = insert-met (m .1) 0 0 0 in
-    let B = came (n .2) (A .sound) (A .left) (λ h. absurd (omega arith)) (target-0 (elapsed (m .1))) (omega arith) in
+    let j : Takes (elapsed (m .1)) 0 = takes-so (omega (arith, A .clock, two .2)) (λ h. absurd (omega arith)) in
+    let B = came (n .2) (A .sound) (A .left) j (target-0 (elapsed (m .1))) (omega arith) in
     let on : Mem 0 (view (n .1) .lists 65) = rw (B .else 65 (omega arith) (omega arith)) (A .member) in
     (n .1, B .sound, some-first 1 (view (n .1) .lists expired) (B .member), record { slot = omega arith; member = on })

@@ -13,7 +13,7 @@ use Rattle.queue.specs.declared.Answer.{Answer}
 use Rattle.queue.specs.Told.{Told, told}
 use Rattle.queue.specs.Told as T
 use Rattle.records.specs.View.{View}
-use Rattle.records.specs.Records.{Names, TooFar, OtherBlock, Takes, numberIn, turnIn}
+use Rattle.records.specs.Records.{Names, TooOld, TooFar, OtherBlock, Takes, numberIn, turnIn}
 use Rattle.records.specs.Words.{QueueWords, count, elapsed, markOf, view, slices, Sound, PastKept}
 use Rattle.records.specs.Slices.{Room}
 use Rattle.records.proofs.laws.Words.{past-refl}
@@ -30,7 +30,7 @@ use Rattle.promises.specs.OneCall.{isNo, reach}
 use Rattle.promises.specs.Runs.{isFormat}
 use Rattle.promises.proofs.laws.OneCall.{polls-says, wakes-says, refusal-same}
 use Rattle.queue.proofs.laws.Polls.{polls-size, clears-size}
-use Rattle.promises.specs.Refused.{NoSuchKey, absent, beyond, stale, Lines, end, line, linesOf, First, numbers, RefusedBy, Settled, accepted, refused, whenOf}
+use Rattle.promises.specs.Refused.{NoSuchKey, absent, beyond, stale, Lines, end, line, deadlineLines, linesOf, First, numbers, RefusedBy, Settled, accepted, refused, whenOf}
 
 -- ---- the table
 
@@ -66,7 +66,7 @@ names-or-dead {s} S key =
     (λ m. inl (absent (λ p a. m (omega (arith, mark-at (S .standing) a))))))
     (λ b. inl (beyond (omega arith)))
 
-dead-names : {v : View} {key : ℕ} → NoSuchKey v key → (r p : ℕ) → Names v key r p → ⊥
+pub dead-names : {v : View} {key : ℕ} → NoSuchKey v key → (r p : ℕ) → Names v key r p → ⊥
 dead-names (beyond h) r p N = omega arith
 dead-names {v} (absent f) r p N = f p (rw (N .number) at (N .pending))
 dead-names {v} (stale d) r p N = d (rw (N .number) at (N .turn))
@@ -90,18 +90,19 @@ module _ {s t : QueueWords} {a : Answer} where
       → Settled (count s) s a t (line 2 (Sound s → ⊥) l)
   judged J f = by-cases (sound-dec s) (λ S. pass (λ n. n S) (f S (J .good S))) (λ n. stop n (J .bad n))
 
-  -- 4 and 5
-  by-when : (w : ℕ) → (TooFar (elapsed s) w → Refused 4 s a t) → (OtherBlock (elapsed s) w → Refused 5 s a t)
-      → (Takes (elapsed s) w → Settled (count s) s a t end)
-      → Settled (count s) s a t (line 4 (TooFar (elapsed s) w) (line 5 (OtherBlock (elapsed s) w) end))
-  by-when w f g h =
+  -- 11, 4 and 5
+  by-when : (w : ℕ) → (TooOld (elapsed s) w → Refused 11 s a t) → (TooFar (elapsed s) w → Refused 4 s a t)
+      → (OtherBlock (elapsed s) w → Refused 5 s a t) → (Takes (elapsed s) w → Settled (count s) s a t end)
+      → Settled (count s) s a t (deadlineLines (elapsed s) w)
+  by-when w o f g h =
       by-deadline (elapsed s) w
-      (λ x. stop x (f x))
-      (λ x. pass (λ y. omega arith) (stop x (g x)))
-      (λ x. pass (λ y. far-not y x) (pass (λ y. y .2 (x (y .0))) (h x)))
+      (λ x. stop x (o x))
+      (λ x. pass (λ y. omega arith) (stop x (f x)))
+      (λ x. pass (λ y. omega arith) (pass (λ y. omega arith) (stop x (g x))))
+      (λ x. pass (x .recent) (pass (λ y. far-not y x) (pass (λ y. y .2 (x .near (y .0))) (h x))))
     where
       far-not : TooFar (elapsed s) w → Takes (elapsed s) w → ⊥
-      far-not y x = omega (arith, x (y .0))
+      far-not y x = omega (arith, x .near (y .0))
 
   format-settled : {n turn : ℕ} → FormatClaim s n turn a t → Settled n s a t (linesOf (C.Format n turn) s)
   format-settled {n} {turn} F =
@@ -122,10 +123,9 @@ module _ {s t : QueueWords} {a : Answer} where
       some e f = let z : _≡_ {A = ℕ} 0 1 = cc in omega arith
 
       by : InsertOn s value when period a t → (l : List ℕ) → view s .lists free ≡ l
-          → Settled (count s) s a t (line 3 (view s .lists free ≡ [])
-          (line 4 (TooFar (elapsed s) when) (line 5 (OtherBlock (elapsed s) when) end)))
+          → Settled (count s) s a t (line 3 (view s .lists free ≡ []) (deadlineLines (elapsed s) when))
       by I [] e = stop e (I .full e)
-      by I (r ∷ l) e = pass (some e) (by-when when (I .far r l e) (I .other r l e)
+      by I (r ∷ l) e = pass (some e) (by-when when (I .old r l e) (I .far r l e) (I .other r l e)
           (λ x. done-so refl (placed-size r when _) (I .done r l e x)))
 
   -- 6
@@ -148,7 +148,7 @@ settled : (c : Call) (s : QueueWords) (a : Answer) (t : QueueWords) → CallClai
 settled (C.Format n turn) s a t A = format-settled A
 settled (C.Insert value when period) s a t A = insert-settled A
 settled (C.Reset key when) s a t A =
-    judged A (λ S R. by-names S key (R .dead) (λ r p N. by-when when (R .far r p N) (R .other r p N)
+    judged A (λ S R. by-names S key (R .dead) (λ r p N. by-when when (R .old r p N) (R .far r p N) (R .other r p N)
     (λ x. done-so refl (placed-size r when _ ∙ left-size p r (view s)) (R .done r p N x))))
 settled (C.Remove key) s a t A = judged A (λ S R. by-names S key (R .dead)
     (λ r p N. done-so refl (freed-size r _ ∙ left-size p r (view s)) (R .done r p N)))
@@ -240,17 +240,20 @@ seven-though-waiting {s} {t} {a} {now} P S e h = refused-exactly (C.Poll now) s 
 pub seven-shown : (s : QueueWords) × Sound s × (0 < elapsed s) × ((r : ℕ) × (l : List ℕ) × (view s .lists expired ≡ r ∷ l))
 seven-shown = let x = expired-shown 1 in (x .0, x .1, omega arith, (x .3 .0, [], x .3 .1))
 
--- a line of another number is passed
-passed : {j k : ℕ} {P Q : Type 0} → k ≢ j → ((k ≡ j) × P) ⊎ ((P → ⊥) × Q) → Q
-passed d x = ⊎-elim (λ y. absurd (d (y .0))) (λ y. y .1) x
+-- a line of another number is not met, and passed
+pub behind : {j k : ℕ} {P Q : Type 0} → k ≢ j → ((k ≡ j) × P) ⊎ ((P → ⊥) × Q) → (P → ⊥) × Q
+behind d x = ⊎-elim (λ y. absurd (d (y .0))) (λ y. y) x
 
-far : {e w k : ℕ} → First (line 4 (TooFar e w) (line 5 (OtherBlock e w) end)) k → e < w
-far x = ⊎-elim (λ y. y .1 .0) (λ y. ⊎-elim (λ z. z .1 .0) (λ z. absurd (z .1)) (y .1)) x
+passed : {j k : ℕ} {P Q : Type 0} → k ≢ j → ((k ≡ j) × P) ⊎ ((P → ⊥) × Q) → Q
+passed d x = behind d x .1
+
+far : {e w k : ℕ} → k < 6 → First (deadlineLines e w) k → e < w
+far h x = ⊎-elim (λ y. y .1 .0) (λ y. ⊎-elim (λ z. z .1 .0) (λ z. absurd (z .1)) (y .1)) (passed (omega arith) x)
 
 later : (c : Call) (s : QueueWords) (k : ℕ) → 3 < k → k < 6 → RefusedBy c s k → elapsed s < whenOf c
 later (C.Format n turn) s k h g x = absurd (passed (omega arith) (passed (omega arith) x))
-later (C.Insert value when period) s k h g x = far (passed (omega arith) (passed (omega arith) x))
-later (C.Reset key when) s k h g x = far (passed (omega arith) (passed (omega arith) x))
+later (C.Insert value when period) s k h g x = far g (passed (omega arith) (passed (omega arith) x))
+later (C.Reset key when) s k h g x = far g (passed (omega arith) (passed (omega arith) x))
 later (C.Remove key) s k h g x = absurd (passed (omega arith) (passed (omega arith) x))
 later (C.Poll now) s k h g x = absurd (passed (omega arith) (passed (omega arith) x))
 later C.Wake s k h g x = absurd (passed (omega arith) x)

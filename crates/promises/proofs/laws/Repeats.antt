@@ -20,6 +20,7 @@ use Rattle.records.specs.View.{View}
 use Rattle.records.specs.Records.{keyOf, At, Names, left, placed, freed, numberIn, NoMore}
 use Rattle.records.specs.Words.{QueueWords, elapsed, view, Sound}
 use Rattle.records.proofs.laws.Words.{upd-other}
+use Rattle.records.proofs.laws.Cases.{takes-so}
 use Rattle.delay_queue.specs.declared.Call.{Call}
 use Rattle.delay_queue.specs.declared.Call.the-variants as C
 use Rattle.delay_queue.specs.Claims.{CallClaim}
@@ -343,7 +344,7 @@ pub three-times : ThreeTimes
 unfolding over placed
 three-times =
     let m = insert-met one 7 2400000 2400000 in
-    let D = m .2 .good one-sound .done 0 [] one-free (λ h. refl) in
+    let D = m .2 .good one-sound .done 0 [] one-free (takes-so (omega arith) (λ h. refl)) in
     let e : m .0 ≡ A.Key 65536 = told-one (m .0) (A.Key 65536) (D .told) in
     let I : CallClaim (C.Insert 7 2400000 2400000) one (A.Key 65536) (m .1)
     = subst (λ a. CallClaim (C.Insert 7 2400000 2400000) one a (m .1)) e (m .2) in

@@ -27,6 +27,7 @@ use Rattle.promises.proofs.laws.Polling.{plain-out}
 use Rattle.queue.specs.Steps.{pending}
 use Rattle.records.specs.Words.{QueueWords, count, elapsed, view, Sound}
 use Rattle.records.proofs.laws.Words.{upd-same}
+use Rattle.records.proofs.laws.Cases.{takes-so}
 use Rattle.delay_queue.specs.Claims.{PollClaim}
 use Rattle.promises.proofs.laws.Met.{poll-met}
 use Rattle.promises.proofs.laws.Once.{told-one}
@@ -71,7 +72,7 @@ abbrev pub waiting-sound : Sound waiting
 waiting-sound = insert-shown .2
 
 waiting-view : view waiting ≡ placed 0 70 (withPeriod (upd (view one .period) 0 0) (withValue (upd (view one .value) 0 7) (taken [] (view one))))
-waiting-view = insert-shown .1 .good one-sound .done 0 [] one-free (λ h. refl) .view
+waiting-view = insert-shown .1 .good one-sound .done 0 [] one-free (takes-so (omega arith) (λ h. refl)) .view
 
 place-70 : target 0 70 ≡ 65
 unfolding target placeFor levelOf levelBelow slotOf width

@@ -70,6 +70,7 @@ module _ {s : QueueWords} (S : Sound s) (value when period : ℕ) where
       let e = none-free z in
       record {
         full = λ f. record { told = refl; same = refl };
+        old = λ r l f. absurd (nil≢cons (sym e ∙ f));
         far = λ r l f. absurd (nil≢cons (sym e ∙ f));
         other = λ r l f. absurd (nil≢cons (sym e ∙ f));
         done = λ r l f. absurd (nil≢cons (sym e ∙ f));
@@ -82,6 +83,7 @@ module _ {s : QueueWords} (S : Sound s) (value when period : ℕ) where
         let c = some-free some in
         record {
           full = λ f. absurd (nil≢cons (sym f ∙ c .2));
+          old = λ r l f g. record { told = ap no (D .old g); same = refl };
           far = λ r l f g. record { told = ap no (D .far g); same = refl };
           other = λ r l f g. record { told = ap no (D .other g); same = refl };
           done = λ r l f g. absurd (d (D .near g));
@@ -124,7 +126,7 @@ module _ {s : QueueWords} (S : Sound s) (value when period : ℕ) where
       G₂ = goes-then told-words G₁ (goes-given (G₁ .sound) item value period (loose₁ .below))
 
       near : Near (elapsed s₂) when
-      near = let e : elapsed s₂ ≡ elapsed s = ap (λ v. v .elapsed) (G₂ .view) in rw e (D .taken z)
+      near = let e : elapsed s₂ ≡ elapsed s = ap (λ v. v .elapsed) (G₂ .view) in rw e (D .taken z .near)
 
       pub insert-place : CanPlace t (s .deadlines) item when
       insert-place = record {
@@ -141,6 +143,7 @@ module _ {s : QueueWords} (S : Sound s) (value when period : ℕ) where
           let G₃ = goes-then (placed item when) G₂ (goes-placed (G₂ .sound) loose₁ when near P) in
           record {
             full = λ f. absurd (nil≢cons (sym f ∙ was));
+            old = λ r l f g. absurd (omega (arith, D .old g));
             far = λ r l f g. absurd (omega (arith, D .far g));
             other = λ r l f g. absurd (omega (arith, D .other g));
             done = λ r l f g.
@@ -170,6 +173,7 @@ module _ {s : QueueWords} (S : Sound s) (key when : ℕ) where
   reset-dead h =
       record {
         dead = λ f. record { told = refl; same = refl };
+        old = λ r p N. absurd (h r (names-key S key N));
         far = λ r p N. absurd (h r (names-key S key N));
         other = λ r p N. absurd (h r (names-key S key N));
         done = λ r p N. absurd (h r (names-key S key N));
@@ -193,6 +197,7 @@ module _ {s : QueueWords} (S : Sound s) (key when : ℕ) where
       reset-refused d =
           record {
             dead = λ f. absurd (f i (markOf s i) M);
+            old = λ r p N g. record { told = ap no (D .old g); same = refl };
             far = λ r p N g. record { told = ap no (D .far g); same = refl };
             other = λ r p N g. record { told = ap no (D .other g); same = refl };
             done = λ r p N g. absurd (d (D .near g));
@@ -203,7 +208,7 @@ module _ {s : QueueWords} (S : Sound s) (key when : ℕ) where
         H₁ = goes-left S (M .pending) Q
 
         near-left : Near (t .elapsed) when
-        near-left = let e : t .elapsed ≡ elapsed s = Q .becomes .elapsed in rw e (D .taken z)
+        near-left = let e : t .elapsed ≡ elapsed s = Q .becomes .elapsed in rw e (D .taken z .near)
 
         pub reset-place : CanPlace t (s .deadlines) i when
         reset-place = record { whole = H₁ .sound .standing .whole; item = Q .item; word = found-words .1; near = near-left }
@@ -214,6 +219,7 @@ module _ {s : QueueWords} (S : Sound s) (key when : ℕ) where
             let H₂ = goes-then (placed i when) H₁ (goes-placed (H₁ .sound) (Q .item) when near-left P) in
             record {
               dead = λ f. absurd (f i (markOf s i) M);
+              old = λ r p N g. absurd (omega (arith, D .old g));
               far = λ r p N g. absurd (omega (arith, D .far g));
               other = λ r p N g. absurd (omega (arith, D .other g));
               done = λ r p N g. let e = names-one S M N in rw (← e .0, ← e .1) (answered refl H₂);

@@ -1,33 +1,24 @@
--- `deadline_no` meets its contract, test by test.
+-- `deadline_no` meets its contract: a deadline below elapsed is too old or taken, of any other `ahead_no` tells (`no-recent`).
 use borrow.Author.Needs.{needs}
-use mathlib.Core.Path.{sym, _∙_}
-use Rattle.records.proofs.laws.Found.{no-past, no-far, no-near, no-other}
+use native.Mathlib.Omega.{arith}
+use Rattle.records.proofs.laws.Found.{no-recent}
 use Rattle.records.proofs.deadline_no.Statement.{statement}
 use Rattle.records.proofs.deadline_no.Tie as tie
 
-returns : tie.Need-returns
-returns c = no-past _ _ (c .if1 .taken)
+sub-if2 : tie.Need-sub-if2
+sub-if2 c = search needs
 
-too-far-requires : tie.Need-too-far-requires
-too-far-requires c κs = search needs
+returns : tie.Need-returns
+returns c = search needs
 
 returns-2 : tie.Need-returns-2
-returns-2 c = no-far _ _ (c .before .before .if1 .left) (sym (c .if2 .taken) ∙ c .before .too-far .ensures)
+returns-2 c = search needs
 
-same-block-requires : tie.Need-same-block-requires
-same-block-requires c κs = search needs
+ahead-no-requires : tie.Need-ahead-no-requires
+ahead-no-requires c κs = search needs
 
 returns-3 : tie.Need-returns-3
-returns-3 c =
-    no-near _ _ (c .before .before .before .before .if1 .left) (sym (c .before .before .if2 .left) ∙ c .before .before .before .too-far .ensures)
-    (sym (c .if3 .taken) ∙ c .before .same-block .ensures)
-
-returns-4 : tie.Need-returns-4
-returns-4 c =
-    no-other _ _ (c .before .before .before .before .if1 .left) (sym (c .before .before .if2 .left) ∙ c .before .before .before .too-far .ensures)
-    (sym (c .if3 .left) ∙ c .before .same-block .ensures)
+returns-3 c = no-recent _ _ (λ o. omega (arith, c .before .if1 .left, o)) (c .ahead-no .ensures)
 
 pub deadline-no-spec : {M : Type 1} → statement M
-deadline-no-spec =
-    tie.close
-    (tie.spec returns too-far-requires returns-2 same-block-requires returns-3 returns-4)
+deadline-no-spec = tie.close (tie.spec sub-if2 returns returns-2 ahead-no-requires returns-3)

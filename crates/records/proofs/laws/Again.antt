@@ -7,14 +7,14 @@ use native.Mathlib.Omega.{arith}
 use Rattle.records.specs.declared.Again.{Again}
 use Rattle.records.specs.declared.Again.the-variants as G
 use Rattle.records.specs.Records.{Near, NoMore}
-use Rattle.records.specs.Found.{DeadlineNo, AgainIs}
-use Rattle.records.proofs.laws.Cases.{by-deadline}
+use Rattle.records.specs.Found.{AheadNo, AgainIs}
+use Rattle.records.proofs.laws.Cases.{by-ahead}
 
 module _ {e w : ℕ} where
   -- by the number of the refusal
-  module _ {n : ℕ} (D : DeadlineNo e w n) where
+  module _ {n : ℕ} (D : AheadNo e w n) where
     pub set-no-more : n ≢ 0 → NoMore e w
-    set-no-more d = by-deadline e w (λ f. inr (inl f)) (λ f. inr (inr f)) (λ t. absurd (d (D .near t)))
+    set-no-more d = by-ahead e w (λ f. inr (inl f)) (λ f. inr (inr f)) (λ t. absurd (d (D .near t)))
 
     pub set-again : w < 2 ^ 64 → n ≡ 0 → NoMore e w → ⊥
     set-again h z = ⊎-elim (λ f. omega arith) (⊎-elim (λ f. omega (arith, D .far f)) (λ f. omega (arith, D .other f)))
@@ -31,7 +31,7 @@ module _ {e w : ℕ} where
   by-next f g =
       by-cases (decLt w (2 ^ 64))
       (λ h.
-      by-deadline e w
+      by-ahead e w
       (λ x. f (inr (inl x)))
       (λ x. f (inr (inr x)))
       (λ t. g (⊎-elim (λ x. omega arith) (⊎-elim (λ x. omega (arith, x .1, t (x .0))) (λ x. x .2 (t (x .0)))))))
@@ -39,4 +39,4 @@ module _ {e w : ℕ} where
 
   -- such a deadline may be placed
   pub again-near : (NoMore e w → ⊥) → Near e w
-  again-near f = by-deadline e w (λ x. absurd (f (inr (inl x)))) (λ x. absurd (f (inr (inr x)))) (λ n. n)
+  again-near f = by-ahead e w (λ x. absurd (f (inr (inl x)))) (λ x. absurd (f (inr (inr x)))) (λ n. n)

@@ -1,4 +1,4 @@
--- A deadline by its number, a key by its record: the laws that the proofs of `deadline_no` and `find` cite.
+-- A deadline by its number, a key by its record: the laws that the proofs of `ahead_no`, `deadline_no` and `find` cite.
 use mathlib.Core.Path.{_≡_, refl, sym, ap, _∙_, subst}
 use mathlib.Core.Logic.{_≢_}
 use mathlib.Core.Bool.{Bool, true, false, not}
@@ -14,14 +14,14 @@ use Rattle.stack.proofs.laws.Asked.{not-below, is-below}
 use Rattle.stack.proofs.laws.Whole as stack-laws
 use Rattle.records.specs.declared.Found.{Found}
 use Rattle.records.specs.declared.Found.the-variants as F
-use Rattle.records.specs.Records.{turnIn, numberIn, Names}
+use Rattle.records.specs.Records.{turnIn, numberIn, Names, TooOld}
 use Rattle.records.specs.Words.{QueueWords, count, markOf, view, Sound}
-use Rattle.records.specs.Found.{DeadlineNo, KeyIs, FindIs}
+use Rattle.records.specs.Found.{AheadNo, DeadlineNo, KeyIs, FindIs}
 
--- ---- refusals 4 and 5
+-- ---- refusals 4, 5 and 11
 
 module _ (e w : ℕ) where
-  pub no-past : w ≤ e → DeadlineNo e w 0
+  pub no-past : w ≤ e → AheadNo e w 0
   no-past h = record {
     far = λ f. absurd (omega (arith, f));
     other = λ f. absurd (omega (arith, f));
@@ -29,7 +29,7 @@ module _ (e w : ℕ) where
     taken = λ z g. absurd (omega (arith, g));
   }
 
-  pub no-far : e < w → true ≡ ltb maxDuration (w - e) → DeadlineNo e w 4
+  pub no-far : e < w → true ≡ ltb maxDuration (w - e) → AheadNo e w 4
   no-far h t =
       let f : maxDuration < w - e = ltb-true maxDuration (w - e) (sym t) in
       record {
@@ -39,13 +39,13 @@ module _ (e w : ℕ) where
         taken = λ z. absurd (omega arith);
       }
 
-  pub no-near : e < w → false ≡ ltb maxDuration (w - e) → true ≡ eqb (block w) (block e) → DeadlineNo e w 0
+  pub no-near : e < w → false ≡ ltb maxDuration (w - e) → true ≡ eqb (block w) (block e) → AheadNo e w 0
   no-near h f t =
       let n : w - e ≤ maxDuration = ltb-false maxDuration (w - e) (sym f) in
       let b : block w ≡ block e = eqb-true (block w) (block e) (sym t) in
       record { far = λ g. absurd (omega (arith, n, g .1)); other = λ g. absurd (g .2 b); near = λ g. refl; taken = λ z g. b }
 
-  pub no-other : e < w → false ≡ ltb maxDuration (w - e) → false ≡ eqb (block w) (block e) → DeadlineNo e w 5
+  pub no-other : e < w → false ≡ ltb maxDuration (w - e) → false ≡ eqb (block w) (block e) → AheadNo e w 5
   no-other h f t =
       let n : w - e ≤ maxDuration = ltb-false maxDuration (w - e) (sym f) in
       let b : block w ≢ block e = eqb-false (block w) (block e) (sym t) in
@@ -55,6 +55,24 @@ module _ (e w : ℕ) where
         near = λ g. absurd (b (g h));
         taken = λ z. absurd (omega arith);
       }
+
+  pub no-old : TooOld e w → DeadlineNo e w 11
+  no-old h = record {
+    old = λ f. refl;
+    far = λ f. absurd (omega (arith, h, f));
+    other = λ f. absurd (omega (arith, h, f));
+    near = λ t. absurd (t .recent h);
+    taken = λ z. absurd (omega arith);
+  }
+
+  pub no-recent : {n : ℕ} → (TooOld e w → ⊥) → AheadNo e w n → DeadlineNo e w n
+  no-recent h A = record {
+    old = λ f. absurd (h f);
+    far = A .far;
+    other = A .other;
+    near = λ t. A .near (t .near);
+    taken = λ z. record { recent = h; near = A .taken z };
+  }
 
 -- ---- a key
 

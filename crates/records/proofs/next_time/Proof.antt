@@ -16,15 +16,15 @@ returns c = inl (omega arith)
 add-when : tie.Need-add-when
 add-when c = search needs
 
-deadline-no-requires : tie.Need-deadline-no-requires
-deadline-no-requires c κs = search needs
+ahead-no-requires : tie.Need-ahead-no-requires
+ahead-no-requires c κs = search needs
 
 returns-2 : tie.Need-returns-2
-returns-2 c = set-no-more (c .before .deadline-no .ensures) (c .if2 .taken)
+returns-2 c = set-no-more (c .before .ahead-no .ensures) (c .if2 .taken)
 
 returns-3 : tie.Need-returns-3
-returns-3 c = (refl, set-again (c .before .deadline-no .ensures) (omega arith) (c .if2 .left))
+returns-3 c = (refl, set-again (c .before .ahead-no .ensures) (omega arith) (c .if2 .left))
 
 pub next-time-spec : {M : Type 1} → statement M
 next-time-spec =
-    tie.close (tie.spec sub-if1 returns add-when deadline-no-requires returns-2 returns-3)
+    tie.close (tie.spec sub-if1 returns add-when ahead-no-requires returns-2 returns-3)
