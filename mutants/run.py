@@ -52,6 +52,28 @@ def plain(text):
     return re.sub(r"\s+", " ", text).strip()
 
 
+def item_at(text, at):
+    """The function or declaration that stands there. A function of `src/` ends at a brace at the left edge, all else at a blank line."""
+    starts = [m.start() for m in re.finditer(r"^(?:pub )?fn ", text, re.M) if m.start() <= at]
+    if starts and (end := text.find("\n}\n", starts[-1])) >= at:
+        return text[starts[-1]:end + 2]
+    return text[text.rfind("\n\n", 0, at) + 1:(text + "\n\n").find("\n\n", at)]
+
+
+def moved_since(commit, mutants):
+    """Those in an item that the commit does not have word for word, comments aside."""
+    def bare(text):
+        return plain(re.sub(r"^\s*(?://|--).*$", "", text, flags=re.M))
+
+    def then(file):
+        shown = subprocess.run(["git", "show", f"{commit}:{file}"], cwd=ROOT, capture_output=True, text=True)
+        return bare(shown.stdout) if shown.returncode == 0 else ""
+
+    files = {m["file"] for m in mutants}
+    now, old = {f: (ROOT / f).read_text() for f in files}, {f: then(f) for f in files}
+    return [m for m in mutants if bare(item_at(now[m["file"]], m["edits"][0][0])) not in old[m["file"]]]
+
+
 def shown(m):
     return f'{m["n"]}\t{m["file"]}:{m["line"]}:{m["column"]}\t{m["kind"]}\t{m["owner"]}\t{plain(m["old"])} -> {plain(m["new"])}'
 
@@ -407,6 +429,7 @@ def main():
     parser.add_argument("--kinds", help="try these kinds alone, as comparison,number")
     parser.add_argument("--settle", action="store_true", help="check those that passed their own crate from nothing, and with every crate above")
     parser.add_argument("--mend", action="store_true", help="drop fields of records again, and from their literals: does a law take them?")
+    parser.add_argument("--since", metavar="COMMIT", help="try those alone of which the function or definition is not the same at that commit")
     parser.add_argument("--each", type=int, default=1, metavar="K", help="try every K-th")
     parser.add_argument("crates", nargs="*")
     given = parser.parse_args()
@@ -430,6 +453,8 @@ def main():
                 found = [m for m in found if m["part"] == given.part]
             if given.kinds:
                 found = [m for m in found if m["kind"] in given.kinds.split(",")]
+            if given.since:
+                found = moved_since(given.since, found)
             found = [m for k, m in enumerate(found) if k % given.each == 0]
             if given.only:
                 found = [m for m in found if m["n"] == given.only]
