@@ -1,4 +1,6 @@
-// The C prototype's judge, and its calls that judge first.
+// The C prototype's judge, and its calls that judge first. As in calls.c a call that is refused is passed over.
+#include <stdlib.h>
+#define abort() ((void)0)
 #define JUDGE
 #define main prototype_judged_main
 #include "byval.c"

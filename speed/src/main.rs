@@ -54,6 +54,7 @@ fn calls(rounds: usize, mixes: &[Mix]) {
             "ours/Rust",
             "ours/C",
             "sum of the answers",
+            "refused by C",
         ],
     );
     for mix in mixes {
@@ -90,6 +91,7 @@ fn calls(rounds: usize, mixes: &[Mix]) {
                 &ratio(&ours, &rust),
                 &ratio(&ours, &c),
                 &sum,
+                &prototype::refused().to_string(),
             ],
         );
     }
