@@ -1,13 +1,19 @@
--- What the inner functions leave: a record handed out, the number of pending ones, one record cleared; and what next wake looks at.
+-- What the inner functions leave: who is due out of its list, a record handed out, the number of pending ones, one record cleared; and what next wake
+-- looks at.
 use mathlib.Core.Path.{_≡_}
 use mathlib.Core.Logic.{_≢_}
 use mathlib.Core.List.{List, [], _∷_}
-use Prim.Native.Nat.{ℕ}
+use Prim.Native.Nat.{ℕ, _≤_}
 use lib.Dec.{ltb}
+use lib.ListN.{length}
 use Rattle.links.specs.Lists.{nobody}
+use Rattle.links.specs.Links.{at}
 use Rattle.links.specs.Count.{cnt}
 use Rattle.stack.specs.Places.{expired, free}
+use Rattle.wheel.specs.Wheel.{Rule}
 use Rattle.wheel.specs.Rows.{Rows}
+use Rattle.wheel.specs.Words.{WheelWords, WheelWhole, Pops, lists, count as countIn}
+use Rattle.wheel.specs.Turns.{PollsTo}
 use Rattle.queue.specs.declared.Answer.{Answer}
 use Rattle.queue.specs.Told.{told}
 use Rattle.records.specs.View.{View}
@@ -15,6 +21,20 @@ use Rattle.records.specs.Records.{At, left, freed}
 use Rattle.queue.specs.Steps.{GoesOn}
 use Rattle.records.specs.Words.{QueueWords, count, view, Standing, Sound, PastKept}
 use Rattle.records.specs.Inner.{Stands}
+
+-- ---- who is due leaves its list
+
+pub record CanPollIdx (t : WheelWords) (ds : List ℕ) (now : ℕ) : Type 0 where
+  pub whole : WheelWhole t
+  pub rule : Rule (at ds) (t .elapsed) (lists t)
+  pub not-back : t .elapsed ≤ now
+  pub deadlines : countIn t ≤ length ds
+
+-- the first of the expired stack; if there is none, whom the wheel hands out, if anybody
+pub data PollsIdx (d : ℕ → ℕ) (now : ℕ) (t : WheelWords) : ℕ → ℕ → ℕ → WheelWords → Type 0 where
+  of-stack : {item : ℕ} {t′ : WheelWords} → Pops t expired item t′ → item ≢ nobody → PollsIdx d now t item 0 0 t′
+  of-wheel : {first item moves drains : ℕ} {u t′ : WheelWords} → Pops t expired first u → first ≡ nobody
+      → PollsTo d now u item moves drains t′ → PollsIdx d now t item moves drains t′
 
 -- ---- a loose record is handed out, and freed or placed again
 

@@ -6,11 +6,12 @@ ghost use Rattle.contracts.specs.Lent.{old};
 ghost use Rattle.records.specs.Words.{lent, before, after, count, Standing, SoundBut, Sound};
 ghost use Rattle.queue.specs.Calls.{InsertOn, ResetOn, RemoveOn, PollOn, ClearOn};
 ghost use Rattle.records.specs.Inner.{LooseAt};
-ghost use Rattle.queue.specs.Inner.{HandsOut, Shows, pendingIn, ClearsOne};
+ghost use Rattle.queue.specs.Inner.{CanPollIdx, PollsIdx, HandsOut, Shows, pendingIn, ClearsOne};
 ghost use Rattle.queue.specs.Told.{told};
 ghost use Rattle.records.specs.View.{View};
 ghost use Rattle.queue.specs.Steps.{NextWake};
 ghost use Rattle.links.specs.Links.{at};
+ghost use Rattle.wheel.specs.Words.{lent as wheelLent, before as wheelBefore, after as wheelAfter};
 ghost use Rattle.wheel.specs.Expiration.{NotPassed};
 
 // An answer.
@@ -216,7 +217,56 @@ fn hand_out(
     Answer::Out(key, value, deadline, moves, drains)
 }
 
-// Hands out a timer that is due at `time`, document 01's now: the first of the expired stack, else what the wheel has.
+// Who is due at `time`, document 01's now, which is not below elapsed: the first of the expired stack, else whom the
+// wheel has, or nobody. It has left its list.
+fn poll_idx(
+    elapsed: u64,
+    rows: &mut [u64; 6],
+    tops: &mut [u16; 3],
+    heads: &mut [[u16; 64]; 6],
+    deadlines: &[u64],
+    nexts: &mut [u16],
+    prevs: &mut [u16],
+    marks: &mut [u16],
+    time: u64,
+) -> wheel::Polled
+    requires { ⌜ CanPollIdx (wheelLent elapsed rows tops heads nexts prevs marks) (now deadlines) time ⌝ }
+    ensures { λ r. ⌜
+        PollsIdx (at (old deadlines)) time (wheelBefore elapsed rows tops heads nexts prevs marks)
+        (r .item) (r .moves) (r .drains) (wheelAfter (r .elapsed) rows tops heads nexts prevs marks) ⌝ }
+{
+    let first = wheel::pop(
+        elapsed,
+        rows,
+        tops,
+        heads,
+        nexts,
+        prevs,
+        marks,
+        stack::EXPIRED,
+    );
+    if first != links::NOBODY {
+        return wheel::Polled {
+            elapsed,
+            item: first,
+            moves: 0,
+            drains: 0,
+        };
+    }
+    wheel::poll(
+        elapsed,
+        rows,
+        tops,
+        heads,
+        nexts,
+        prevs,
+        marks,
+        deadlines,
+        time,
+    )
+}
+
+// Hands out a timer that is due at `time`, if there is one.
 pub fn poll(
     elapsed: u64,
     rows: &mut [u64; 6],
@@ -241,49 +291,21 @@ pub fn poll(
             elapsed,
         };
     }
-    let first = wheel::pop(
+    let due = poll_idx(
         elapsed,
         rows,
         tops,
         heads,
-        nexts,
-        prevs,
-        marks,
-        stack::EXPIRED,
-    );
-    if first != links::NOBODY {
-        let answer = hand_out(
-            elapsed,
-            rows,
-            tops,
-            heads,
-            values,
-            deadlines,
-            nexts,
-            prevs,
-            turns,
-            marks,
-            first,
-            0,
-            0,
-        );
-        return Out { answer, elapsed };
-    }
-    let polled = wheel::poll(
-        elapsed,
-        rows,
-        tops,
-        heads,
-        nexts,
-        prevs,
-        marks,
         deadlines,
+        nexts,
+        prevs,
+        marks,
         time,
     );
-    let e = polled.elapsed;
-    let item = polled.item;
-    let moves = polled.moves;
-    let drains = polled.drains;
+    let e = due.elapsed;
+    let item = due.item;
+    let moves = due.moves;
+    let drains = due.drains;
     if item == links::NOBODY {
         return Out {
             answer: Answer::Nothing(moves, drains),

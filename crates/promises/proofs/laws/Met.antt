@@ -34,8 +34,8 @@ use Rattle.records.proofs.laws.Found.{no-past, no-far, no-near, no-other, no-ol
 use Rattle.records.specs.Inner.{LooseAt, CanPlace, PlacesTo, CanFree, LeavesTo}
 use Rattle.records.proofs.laws.Inner.{place-push, place-insert, placed-now, placed-later, free-push, freed-last, freed-given}
 use Rattle.queue.proofs.laws.Calls.{insert-full, insert-refused, insert-place, insert-done, reset-dead, remove-dead, found-leaves, reset-refused, reset-place, reset-done, remove-frees, remove-done}
-use Rattle.queue.specs.Inner.{HandsOut, pendingIn, ClearsOne}
-use Rattle.queue.proofs.laws.Polls.{out-frees, out-done, poll-back, stack-loose, poll-popped, wheel-can, poll-none, wheel-loose, poll-handed, clear-stays, clear-leaves, clear-frees, clear-goes, ClearedSo, clear-none, clear-turn, clear-done, out-last, out-again, out-places}
+use Rattle.queue.specs.Inner.{CanPollIdx, PollsIdx, of-stack, of-wheel, HandsOut, pendingIn, ClearsOne}
+use Rattle.queue.proofs.laws.Polls.{out-frees, out-done, poll-back, wheel-can, poll-can, poll-none, poll-loose, poll-handed, clear-stays, clear-leaves, clear-frees, clear-goes, ClearedSo, clear-none, clear-turn, clear-done, out-last, out-again, out-places}
 use Rattle.delay_queue.specs.Claims.{FormatClaim, Judging, InsertClaim, ResetClaim, RemoveClaim, PollClaim, WakeClaim, LengthClaim, ClearClaim}
 use Rattle.delay_queue.proofs.laws.Back.{taken-up, length-done}
 use Rattle.delay_queue.proofs.laws.Format.{formats}
@@ -375,27 +375,29 @@ out-met {s} {i} S o moves drains =
     let P = place-met (out-places S o (refl, f)) in
     (A.Out _ _ _ _ _, _, out-again S o moves drains refl d (refl, f) (P .2))))
 
+-- who is due leaves its list, if anybody is
+idx-met : {t : WheelWords} {ds : List ℕ} {time : ℕ} → CanPollIdx t ds time
+    → (item : ℕ) × (m : ℕ) × (n : ℕ) × (u : WheelWords) × PollsIdx (at ds) time t item m n u
+idx-met {t} C =
+    let first = headAt t expired in
+    let Q = pops-aside (C .whole) expired first refl refl (omega arith) in
+    by-cases (ℕ-discrete first nobody)
+    (λ z. let R = wheel-met (wheel-can C Q z) in (R .0, R .1, R .2, R .3, of-wheel Q z (R .4)))
+    (λ d. (first, 0, 0, _, of-stack Q d))
+
 poll-on : {s : QueueWords} → Sound s → (time : ℕ) → Met (PollOn s time)
 poll-on {s} S time =
     by-cases (decLt time (elapsed s))
     (λ h. (A.No 7, s, poll-back S time h))
     (λ h.
     let g : elapsed s ≤ time = omega arith in
-    let item = headAt (s .wheel) expired in
-    let Q = pops-aside (S .standing .whole) expired item refl refl (omega arith) in
-    by-cases (ℕ-discrete item nobody)
-    (λ z.
-    let R = wheel-met (wheel-can S time g Q z) in
-    by-cases (ℕ-discrete (R .0) nobody)
-    (λ y. (A.Nothing (R .1) (R .2), _, poll-none S time g Q z (R .4) y))
-    (λ y.
-    let l = wheel-loose S time g Q z (R .4) y in
-    let O = out-met (l .0) (l .1) (R .1) (R .2) in
-    (O .0, O .1, poll-handed S time g Q z (R .4) y (O .2))))
-    (λ z.
-    let l = stack-loose S time g Q z in
-    let O = out-met (l .0) (l .1) 0 0 in
-    (O .0, O .1, poll-popped S time g Q z (O .2))))
+    let P = idx-met (poll-can S time g) in
+    by-cases (ℕ-discrete (P .0) nobody)
+    (λ z. (A.Nothing (P .1) (P .2), _, poll-none S time g (P .4) z))
+    (λ d.
+    let l = poll-loose S time g (P .4) d in
+    let O = out-met (l .0) (l .1) (P .1) (P .2) in
+    (O .0, O .1, poll-handed S time g (P .4) d (O .2))))
 
 pub poll-met : (s : QueueWords) (now : ℕ) → Met (PollClaim s now)
 poll-met s now = judging-met s (λ S. poll-on S now)

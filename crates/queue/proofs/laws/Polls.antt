@@ -2,7 +2,7 @@
 use mathlib.Core.Path.{_≡_, refl, sym, ap, _∙_, subst}
 use mathlib.Core.Logic.{_≢_, ⊎-elim, by-cases}
 use mathlib.Core.Bool.{Bool, true, false}
-use mathlib.Core.List.{List, [], _∷_}
+use mathlib.Core.List.{List, []}
 use mathlib.Core.Option.{Option, none, some}
 use Prim.Native.Nat.{ℕ, suc, _+_, _*_, _^_, _≤_, _<_}
 use native.Mathlib.Decide.{ℕ-discrete, decLt}
@@ -19,14 +19,14 @@ use Rattle.links.proofs.laws.Count.{elem, cnt-ext, cnt-elem, mem-elem, elem-mem
 use Rattle.links.proofs.laws.Judge.{cat, mem-cat, cat-mem, cat-nodup}
 use Rattle.stack.specs.Places.{slots, expired, free}
 use Rattle.stack.proofs.laws.Whole as stack-laws
-use Rattle.wheel.specs.Wheel.{Lists, Polls}
+use Rattle.wheel.specs.Wheel.{Polls}
 use Rattle.wheel.proofs.laws.Sums.{mem-change, mem-left, total-zero, total-scale, hits}
 use Rattle.wheel.proofs.laws.Between.{rule-less, rule-between}
 use Rattle.wheel.proofs.laws.Poll.{given, Promise, waits-on, poll-law}
 use Rattle.wheel.specs.declared.Wake.{Wake}
 use Rattle.wheel.specs.declared.Wake.the-variants.{At as Wake·At, Never}
 use Rattle.wheel.specs.Expiration.{WakeIs}
-use Rattle.wheel.specs.Words.{WheelWords, wheelWords, Becomes, Pops, CanLeave, Leaves, lists as listsIn}
+use Rattle.wheel.specs.Words.{WheelWords, wheelWords, Becomes, LooseIn, Pops, CanLeave, Leaves, lists as listsIn}
 use Rattle.wheel.specs.Turns.{CanPoll, PollsTo, gotten}
 use Rattle.wheel.proofs.laws.Turns.{popped-empty, popped-cons}
 use Rattle.queue.specs.declared.Answer.{Answer}
@@ -43,7 +43,7 @@ use Rattle.records.specs.Inner.{StandsBut, GoesBut, Goes, LooseAt, CanPlace, Pl
 use Rattle.records.proofs.laws.Inner.{with-rule, loose-out, StayBut, stay-all, stay-popped, stands-wheel, stands-lists, can-leave, mem-without, stands-left, stands-freed, goes-placed, goes-freed, left-size, placed-size, freed-size}
 use Rattle.records.proofs.laws.Again.{again-near}
 use Rattle.queue.proofs.laws.Calls.{stands-then}
-use Rattle.queue.specs.Inner.{HandsOut, Shows, pendingIn, ClearsOne}
+use Rattle.queue.specs.Inner.{CanPollIdx, PollsIdx, of-stack, of-wheel, HandsOut, Shows, pendingIn, ClearsOne}
 
 -- ---- a loose record is handed out, and freed or placed again
 
@@ -99,101 +99,109 @@ not-given {i} {x} d =
     (λ z. rw (eq-eqb i nobody z))
     (λ z. rw (ne-eqb i nobody z, ne-eqb i x d))
 
--- who is in no list any more goes on by the words that it had
-goes-on-from : {v u : View} {e : ℕ} {L : Lists} → u ≡ withElapsed e (withLists L v) → {r m n : ℕ} {x : Told} {w : View}
-    → GoesOn u r m n u x w → GoesOn v r m n (withElapsed e (withLists L v)) x w
-goes-on-from {v} {u} {e} {L} q {r} {m} {n} {x} {w} G = by (subst (λ z. GoesOn z r m n z x w) q G)
-  where
-    by : {x : Told} {w : View} → GoesOn (withElapsed e (withLists L v)) r m n (withElapsed e (withLists L v)) x w
-        → GoesOn v r m n (withElapsed e (withLists L v)) x w
-    by (once z) = once z
-    by (again p f) = again p f
-    by (ended p f) = ended p f
+-- who has left its list goes on by the words that it had
+goes-on-from : {v u : View} {now a b r m n : ℕ} {got : Option ℕ} {x : Told} {w : View} → TakesOut v now got a b u → GoesOn u r m n u x w
+    → GoesOn v r m n u x w
+goes-on-from (popped e) (once z) = once z
+goes-on-from (popped e) (again p f) = again p f
+goes-on-from (popped e) (ended p f) = ended p f
+goes-on-from (polled e P) (once z) = once z
+goes-on-from (polled e P) (again p f) = again p f
+goes-on-from (polled e P) (ended p f) = ended p f
+
+-- the expired stack is empty, and the wheel can be polled
+pub wheel-can : {t u : WheelWords} {ds : List ℕ} {time first : ℕ} → CanPollIdx t ds time → Pops t expired first u → first ≡ nobody
+    → CanPoll u ds time
+wheel-can C Q z =
+    let empty = popped-empty (C .whole) Q z in
+    let B = Q .none empty .1 in
+    record {
+      whole = B .whole;
+      rule = rw (B .elapsed, B .lists) (C .rule);
+      stack = ap (λ L. L expired) (B .lists) ∙ empty;
+      not-back = omega (arith, B .elapsed, C .not-back);
+      deadlines = omega (arith, B .kept .size, C .deadlines);
+    }
 
 module _ {s : QueueWords} (S : Sound s) (time : ℕ) where
   pub poll-back : time < elapsed s → PollOn s time (A.No 7) s
   poll-back h = record { back = λ g. record { told = refl; same = refl }; done = λ g. absurd (omega arith) }
 
   module _ (not-back : elapsed s ≤ time) where
+    pub poll-can : CanPollIdx (s .wheel) (s .deadlines) time
+    poll-can = record { whole = S .standing .whole; rule = S .rule; not-back = not-back; deadlines = S .standing .fits .room .deadlines }
+
+    -- the store with the wheel t, from which i was taken, if anybody
+    abbrev polledTo : WheelWords → QueueWords
+    polledTo t = queueWords t (s .values) (s .deadlines) (s .turns)
+
+    abbrev Taken : ℕ → ℕ → ℕ → WheelWords → Type 0
+    Taken i m n t = (v : View) × TakesOut (view s) time (gotten i) m n v × GoesBut i s v (polledTo t) × (i ≢ nobody → LooseIn t i)
+
+    -- the expired stack has a first
+    taken-stack : {i : ℕ} {t : WheelWords} → Pops (s .wheel) expired i t → i ≢ nobody → Taken i 0 0 t
+    taken-stack {i} {t} Q d =
+        let (l, was) = popped-cons (S .standing .whole) Q d in
+        let (same, loose, B) = Q .some i l was in (
+          withLists (change (view s .lists) expired l) (view s),
+          rw (ne-eqb i nobody d) (popped was),
+          with-rule (stands-lists (S .standing) B (stay-popped (view s .lists) expired i l was))
+              (rule-less (S .rule) (mem-left (view s .lists) expired i l was)),
+          λ d. loose,
+        )
+
+    -- it is empty
+    module _ {first : ℕ} {u : WheelWords} (Q : Pops (s .wheel) expired first u) (absent : first ≡ nobody) where
+      empty : view s .lists expired ≡ []
+      empty = popped-empty (S .standing .whole) Q absent
+
+      B : Becomes (s .wheel) (view s .lists) u
+      B = Q .none empty .1
+
+      module _ {i m n : ℕ} {t : WheelWords} (R : PollsTo (at (s .deadlines)) time u i m n t) where
+        polls : Polls (view s .deadline) time (view s .elapsed) (view s .lists) (gotten i) m n (t .elapsed) (listsIn t)
+        polls = rw (B .elapsed, B .lists) at (R .polls)
+
+        promise : Promise (view s .deadline) time (view s .elapsed) (view s .lists) (gotten i) m n (t .elapsed) (listsIn t)
+        promise = poll-law (rule-between (S .rule)) empty not-back polls
+
+        -- only i has left the lists
+        stays : StayBut i (view s .lists) (listsIn t)
+        stays p x k d =
+            by-cases (decLt p slots)
+            (λ h. let w = waits-on promise x (not-given (λ z. d (sym z))) (p, h, k) in (w .0, w .2))
+            (λ h. (p, rw (promise .aside p (omega arith)) k))
+
+        taken-wheel : Taken i m n t
+        taken-wheel = (
+          _,
+          polled empty polls,
+          with-rule (stands-wheel (S .standing) (R .whole) (stack-laws.kept-trans (B .kept) (R .kept)) refl refl stays) (R .rule),
+          R .loose,
+        )
+
+    taken : {i m n : ℕ} {t : WheelWords} → PollsIdx (at (s .deadlines)) time (s .wheel) i m n t → Taken i m n t
+    taken (of-stack Q d) = taken-stack Q d
+    taken (of-wheel Q z R) = taken-wheel Q z R
+
     ends : {a : Answer} {s′ : QueueWords} → Sound s′ → QueuePolls (view s) time (told a) (view s′) → PastKept (count s) s s′
         → PollOn s time a s′
     ends W r K = record { back = λ h. absurd (omega arith); done = λ h. (W, r, K) }
 
-    module _ {item : ℕ} {t : WheelWords} (Q : Pops (s .wheel) expired item t) where
-      abbrev s₁ : QueueWords
-      s₁ = queueWords t (s .values) (s .deadlines) (s .turns)
+    module _ {i m n : ℕ} {t : WheelWords} (P : PollsIdx (at (s .deadlines)) time (s .wheel) i m n t) where
+      pub poll-none : i ≡ nobody → PollOn s time (A.Nothing m n) (polledTo t)
+      poll-none z =
+          let (v, T, G, o) = taken P in
+          ends (rw z at (G .sound)) (rw (G .view) (nothing (rw (eq-eqb i nobody z) at T))) (G .kept)
 
-      -- the expired stack has a first
-      module _ (some : item ≢ nobody) where
-        was : (l : List ℕ) × (view s .lists expired ≡ item ∷ l)
-        was = popped-cons (S .standing .whole) Q some
+      pub poll-loose : i ≢ nobody → SoundBut i (polledTo t) × LooseAt (polledTo t) i
+      poll-loose d = let (v, T, G, o) = taken P in (G .sound, o d)
 
-        G₁ : GoesBut item s (withLists (change (view s .lists) expired (was .0)) (view s)) s₁
-        G₁ =
-            with-rule
-            (stands-lists (S .standing) (Q .some item (was .0) (was .1) .2) (stay-popped (view s .lists) expired item (was .0) (was .1)))
-            (rule-less (S .rule) (mem-left (view s .lists) expired item (was .0) (was .1)))
-
-        pub stack-loose : SoundBut item s₁ × LooseAt s₁ item
-        stack-loose = (G₁ .sound, Q .some item (was .0) (was .1) .1)
-
-        pub poll-popped : {a : Answer} {s′ : QueueWords} → HandsOut s₁ item 0 0 a s′ → PollOn s time a s′
-        poll-popped {a} {s′} H =
-            ends (H .sound) (handed (popped (was .1)) (goes-on-from (G₁ .view) (H .goes-on))) (past-then (G₁ .size) (G₁ .kept) (H .kept))
-
-      -- it is empty
-      module _ (absent : item ≡ nobody) where
-        empty : view s .lists expired ≡ []
-        empty = popped-empty (S .standing .whole) Q absent
-
-        B : Becomes (s .wheel) (view s .lists) t
-        B = Q .none empty .1
-
-        G₂ : Goes s (view s) s₁
-        G₂ = with-rule (stands-lists (S .standing) B (stay-all nobody (view s .lists))) (S .rule)
-
-        pub wheel-can : CanPoll t (s .deadlines) time
-        wheel-can =
-            record {
-              whole = B .whole;
-              rule = G₂ .sound .rule;
-              stack = ap (λ L. L expired) (B .lists) ∙ empty;
-              not-back = omega (arith, B .elapsed);
-              deadlines = G₂ .sound .standing .fits .room .deadlines;
-            }
-
-        module _ {i m n : ℕ} {u : WheelWords} (R : PollsTo (at (s .deadlines)) time t i m n u) where
-          abbrev s₂ : QueueWords
-          s₂ = queueWords u (s .values) (s .deadlines) (s .turns)
-
-          polls : (o : Option ℕ) → gotten i ≡ o → Polls (view s .deadline) time (view s .elapsed) (view s .lists) o m n (u .elapsed)
-              (listsIn u)
-          polls o e = rw (B .elapsed, B .lists, e) at (R .polls)
-
-          promise : Promise (view s .deadline) time (view s .elapsed) (view s .lists) (gotten i) m n (u .elapsed) (listsIn u)
-          promise = poll-law (rule-between (S .rule)) empty not-back (polls (gotten i) refl)
-
-          -- only i has left the lists
-          stays : StayBut i (view s .lists) (listsIn u)
-          stays p x k d =
-              by-cases (decLt p slots)
-              (λ h. let w = waits-on promise x (not-given (λ z. d (sym z))) (p, h, k) in (w .0, w .2))
-              (λ h. (p, rw (promise .aside p (omega arith)) k))
-
-          G₃ : GoesBut i s (withElapsed (u .elapsed) (withLists (listsIn u) (view s))) s₂
-          G₃ = with-rule (stands-wheel (S .standing) (R .whole) (stack-laws.kept-trans (B .kept) (R .kept)) refl refl stays) (R .rule)
-
-          pub poll-none : i ≡ nobody → PollOn s time (A.Nothing m n) s₂
-          poll-none z = ends (rw z at (G₃ .sound)) (rw (G₃ .view) (nothing (polled empty (polls none (rw (eq-eqb i nobody z)))))) (G₃ .kept)
-
-          pub wheel-loose : i ≢ nobody → SoundBut i s₂ × LooseAt s₂ i
-          wheel-loose d = (G₃ .sound, R .loose d)
-
-          pub poll-handed : i ≢ nobody → {a : Answer} {s′ : QueueWords} → HandsOut s₂ i m n a s′ → PollOn s time a s′
-          poll-handed d {a} {s′} H =
-              ends (H .sound)
-              (handed (polled empty (polls (some i) (rw (ne-eqb i nobody d)))) (goes-on-from (G₃ .view) (H .goes-on)))
-              (past-then (G₃ .size) (G₃ .kept) (H .kept))
+      pub poll-handed : i ≢ nobody → {a : Answer} {s′ : QueueWords} → HandsOut (polledTo t) i m n a s′ → PollOn s time a s′
+      poll-handed d {a} {s′} H =
+          let (v, T, G, o) = taken P in
+          ends (H .sound) (handed (rw (ne-eqb i nobody d) at T) (goes-on-from T (subst (λ z. GoesOn z i m n z (told a) (view s′)) (G .view) (H .goes-on))))
+          (past-then (G .size) (G .kept) (H .kept))
 
 -- ---- next wake
 

@@ -1,8 +1,7 @@
--- `poll` meets its contract: the clock went back, the expired stack has a first (`poll-popped`), or the wheel hands out one (`poll-handed`) or none (`poll-none`).
+-- `poll` meets its contract: the clock went back (`poll-back`), or somebody is handed out (`poll-handed`) or nobody (`poll-none`).
 use borrow.Author.Needs.{needs}
 use mathlib.Core.Path.{_∙_}
-use native.Mathlib.Omega.{arith}
-use Rattle.queue.proofs.laws.Polls.{poll-back, stack-loose, poll-popped, wheel-can, poll-none, wheel-loose, poll-handed}
+use Rattle.queue.proofs.laws.Polls.{poll-back, poll-can, poll-none, poll-loose, poll-handed}
 use Rattle.queue.proofs.poll.Statement.{statement}
 use Rattle.queue.proofs.poll.Tie as tie
 
@@ -11,18 +10,18 @@ to-start c =
     let a = c .before .before .before .before in
     a .before .before
 
-abbrev to-else1 : tie.After-pop-arg6 → tie.Else1
+abbrev to-else1 : tie.After-poll-idx-arg7 → tie.Else1
 to-else1 c =
     let a = c .before .before .before .before in
-    a .before .before
+    a .before .before .before
 
-abbrev to-pop : tie.After-slice-known8 → tie.After-pop
-to-pop c =
+abbrev to-poll-idx : tie.After-slice-known8 → tie.After-poll-idx
+to-poll-idx c =
     let a = c .before .before .before .before in
     a .before .before
 
-abbrev to-then2 : tie.After-hand-out-arg8 → tie.Then2
-to-then2 c =
+abbrev to-else2 : tie.After-hand-out-arg8 → tie.Else2
+to-else2 c =
     let a = c .before .before .before .before in
     a .before .before .before .before
 
@@ -32,39 +31,11 @@ to-hand-out c =
     let b = a .before .before .before .before in
     b .before .before
 
-abbrev to-else2 : tie.After-poll-arg7 → tie.Else2
-to-else2 c =
-    let a = c .before .before .before .before in
-    a .before .before .before
-
-abbrev to-poll : tie.After-slice-known16 → tie.After-poll
-to-poll c =
-    let a = c .before .before .before .before in
-    a .before .before
-
-abbrev to-else3 : tie.After-hand-out-arg16 → tie.Else3
-to-else3 c =
-    let a = c .before .before .before .before in
-    a .before .before .before .before
-
-abbrev to-hand-out2 : tie.After-slice-known21 → tie.After-hand-out2
-to-hand-out2 c =
-    let a = c .before .before .before .before in
-    let b = a .before .before .before .before in
-    b .before .before
-
 returns : tie.Need-returns
 returns c = poll-back (to-start (c .before) .pre) _ (c .if1 .taken)
 
-pop-requires : tie.Need-pop-requires
-pop-requires c κs = (to-start (to-else1 c .before) .pre .standing .whole, omega arith, omega arith)
-
-hand-out-requires : tie.Need-hand-out-requires
-hand-out-requires c κs =
-    let then2 = to-then2 c in
-    let at-pop = to-pop (then2 .before) in
-    let else1 = to-else1 (at-pop .before) in
-    stack-loose (to-start (else1 .before) .pre) _ (else1 .if1 .left) (at-pop .pop .ensures) (then2 .if2 .taken)
+poll-idx-requires : tie.Need-poll-idx-requires
+poll-idx-requires c κs = let else1 = to-else1 c in poll-can (to-start (else1 .before) .pre) _ (else1 .if1 .left)
 
 same-length : tie.Need-same-length
 same-length c = search needs
@@ -78,24 +49,21 @@ same-length-3 c = search needs
 same-length-4 : tie.Need-same-length-4
 same-length-4 c = search needs
 
-same-length-5 : tie.Need-same-length-5
-same-length-5 c = search needs
-
 returns-2 : tie.Need-returns-2
 returns-2 c =
-    let at-hand-out = to-hand-out c in
-    let then2 = to-then2 (at-hand-out .before) in
-    let at-pop = to-pop (then2 .before) in
-    let else1 = to-else1 (at-pop .before) in
-    poll-popped (to-start (else1 .before) .pre) _ (else1 .if1 .left) (at-pop .pop .ensures) (then2 .if2 .taken)
-    (at-hand-out .hand-out .ensures)
+    let at-poll-idx = to-poll-idx (c .before) in
+    let else1 = to-else1 (at-poll-idx .before) in
+    poll-none (to-start (else1 .before) .pre) _ (else1 .if1 .left) (at-poll-idx .poll-idx .ensures) (c .if2 .taken)
 
-poll-requires : tie.Need-poll-requires
-poll-requires c κs =
+hand-out-requires : tie.Need-hand-out-requires
+hand-out-requires c κs =
     let else2 = to-else2 c in
-    let at-pop = to-pop (else2 .before) in
-    let else1 = to-else1 (at-pop .before) in
-    wheel-can (to-start (else1 .before) .pre) _ (else1 .if1 .left) (at-pop .pop .ensures) (else2 .if2 .left)
+    let at-poll-idx = to-poll-idx (else2 .before) in
+    let else1 = to-else1 (at-poll-idx .before) in
+    poll-loose (to-start (else1 .before) .pre) _ (else1 .if1 .left) (at-poll-idx .poll-idx .ensures) (else2 .if2 .left)
+
+same-length-5 : tie.Need-same-length-5
+same-length-5 c = search needs
 
 same-length-6 : tie.Need-same-length-6
 same-length-6 c = search needs
@@ -107,88 +75,35 @@ same-length-8 : tie.Need-same-length-8
 same-length-8 c = search needs
 
 same-length-9 : tie.Need-same-length-9
-same-length-9 c = search needs
+same-length-9 c =
+    let at-hand-out = to-hand-out c in
+    let at-poll-idx = to-poll-idx (to-else2 (at-hand-out .before) .before) in
+    at-hand-out .hand-out .kept .1 .1 .1 .1 .1 .1 .1 .1 .1 .0 ∙ at-poll-idx .poll-idx .kept .1 .1 .1 .1 .1 .1 .1 .0
 
 returns-3 : tie.Need-returns-3
 returns-3 c =
-    let at-poll = to-poll (c .before) in
-    let else2 = to-else2 (at-poll .before) in
-    let at-pop = to-pop (else2 .before) in
-    let else1 = to-else1 (at-pop .before) in
-    poll-none (to-start (else1 .before) .pre) _ (else1 .if1 .left) (at-pop .pop .ensures) (else2 .if2 .left) (at-poll .poll .ensures)
-    (c .if3 .taken)
-
-hand-out-requires-2 : tie.Need-hand-out-requires-2
-hand-out-requires-2 c κs =
-    let else3 = to-else3 c in
-    let at-poll = to-poll (else3 .before) in
-    let else2 = to-else2 (at-poll .before) in
-    let at-pop = to-pop (else2 .before) in
-    let else1 = to-else1 (at-pop .before) in
-    wheel-loose (to-start (else1 .before) .pre) _ (else1 .if1 .left) (at-pop .pop .ensures) (else2 .if2 .left) (at-poll .poll .ensures)
-    (else3 .if3 .left)
-
-same-length-10 : tie.Need-same-length-10
-same-length-10 c = search needs
-
-same-length-11 : tie.Need-same-length-11
-same-length-11 c =
-    let at-hand-out2 = to-hand-out2 c in
-    let at-poll = to-poll (to-else3 (at-hand-out2 .before) .before) in
-    let at-pop = to-pop (to-else2 (at-poll .before) .before) in
-    at-hand-out2 .hand-out2 .kept .1 .1 .1 .1 .1 .1 .0 ∙ at-poll .poll .ensures .kept .links .nexts .size ∙ at-pop .pop .kept .1 .1 .1 .1 .0
-
-same-length-12 : tie.Need-same-length-12
-same-length-12 c =
-    let at-hand-out2 = to-hand-out2 c in
-    let at-poll = to-poll (to-else3 (at-hand-out2 .before) .before) in
-    let at-pop = to-pop (to-else2 (at-poll .before) .before) in
-    at-hand-out2 .hand-out2 .kept .1 .1 .1 .1 .1 .1 .1 .0 ∙ at-poll .poll .ensures .kept .links .prevs .size ∙ at-pop .pop .kept .1 .1 .1 .1 .1 .0
-
-same-length-13 : tie.Need-same-length-13
-same-length-13 c = search needs
-
-same-length-14 : tie.Need-same-length-14
-same-length-14 c =
-    let at-hand-out2 = to-hand-out2 c in
-    let at-poll = to-poll (to-else3 (at-hand-out2 .before) .before) in
-    let at-pop = to-pop (to-else2 (at-poll .before) .before) in
-    at-hand-out2 .hand-out2 .kept .1 .1 .1 .1 .1 .1 .1 .1 .1 .0 ∙ at-poll .poll .ensures .kept .links .marks .size ∙ at-pop .pop .kept .1 .1 .1 .1 .1 .1 .0
-
-returns-4 : tie.Need-returns-4
-returns-4 c =
-    let at-hand-out2 = to-hand-out2 c in
-    let else3 = to-else3 (at-hand-out2 .before) in
-    let at-poll = to-poll (else3 .before) in
-    let else2 = to-else2 (at-poll .before) in
-    let at-pop = to-pop (else2 .before) in
-    let else1 = to-else1 (at-pop .before) in
-    poll-handed (to-start (else1 .before) .pre) _ (else1 .if1 .left) (at-pop .pop .ensures) (else2 .if2 .left) (at-poll .poll .ensures)
-    (else3 .if3 .left) (at-hand-out2 .hand-out2 .ensures)
+    let at-hand-out = to-hand-out c in
+    let else2 = to-else2 (at-hand-out .before) in
+    let at-poll-idx = to-poll-idx (else2 .before) in
+    let else1 = to-else1 (at-poll-idx .before) in
+    poll-handed (to-start (else1 .before) .pre) _ (else1 .if1 .left) (at-poll-idx .poll-idx .ensures) (else2 .if2 .left)
+    (at-hand-out .hand-out .ensures)
 
 pub poll-spec : {M : Type 1} → statement M
 poll-spec =
     tie.close
     (tie.spec
     returns
-    pop-requires
-    hand-out-requires
+    poll-idx-requires
     same-length
     same-length-2
     same-length-3
     same-length-4
-    same-length-5
     returns-2
-    poll-requires
+    hand-out-requires
+    same-length-5
     same-length-6
     same-length-7
     same-length-8
     same-length-9
-    returns-3
-    hand-out-requires-2
-    same-length-10
-    same-length-11
-    same-length-12
-    same-length-13
-    same-length-14
-    returns-4)
+    returns-3)

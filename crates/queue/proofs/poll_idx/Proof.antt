@@ -1,0 +1,78 @@
+-- `poll_idx` meets its contract: the expired stack has a first (`of-stack`), or the wheel answers (`of-wheel`).
+use borrow.Author.Needs.{needs}
+use Rattle.queue.specs.Inner.{of-stack, of-wheel}
+use Rattle.queue.proofs.laws.Polls.{wheel-can}
+use Rattle.queue.proofs.poll_idx.Statement.{statement}
+use Rattle.queue.proofs.poll_idx.Tie as tie
+
+abbrev to-start : tie.After-pop-arg6 → tie.Start
+to-start c =
+    let a = c .before .before .before .before in
+    let b = a .before .before .before .before in
+    b .before .before
+
+abbrev to-pop : tie.After-slice-known6 → tie.After-pop
+to-pop c =
+    let a = c .before .before .before .before in
+    a .before .before
+
+abbrev to-else1 : tie.After-poll-arg6 → tie.Else1
+to-else1 c =
+    let a = c .before .before .before .before in
+    a .before .before
+
+abbrev to-poll : tie.After-slice-known9 → tie.After-poll
+to-poll c =
+    let a = c .before .before .before .before in
+    a .before .before
+
+pop-requires : tie.Need-pop-requires
+pop-requires c κs = search needs
+
+same-length : tie.Need-same-length
+same-length c = search needs
+
+same-length-2 : tie.Need-same-length-2
+same-length-2 c = search needs
+
+same-length-3 : tie.Need-same-length-3
+same-length-3 c = search needs
+
+returns : tie.Need-returns
+returns c = of-stack (to-pop (c .before) .pop .ensures) (c .if1 .taken)
+
+poll-requires : tie.Need-poll-requires
+poll-requires c κs =
+    let else1 = to-else1 c in
+    let at-pop = to-pop (else1 .before) in
+    wheel-can (to-start (at-pop .before) .pre) (at-pop .pop .ensures) (else1 .if1 .left)
+
+same-length-4 : tie.Need-same-length-4
+same-length-4 c = search needs
+
+same-length-5 : tie.Need-same-length-5
+same-length-5 c = search needs
+
+same-length-6 : tie.Need-same-length-6
+same-length-6 c = search needs
+
+returns-2 : tie.Need-returns-2
+returns-2 c =
+    let at-poll = to-poll c in
+    let else1 = to-else1 (at-poll .before) in
+    of-wheel (to-pop (else1 .before) .pop .ensures) (else1 .if1 .left) (at-poll .poll .ensures)
+
+pub poll-idx-spec : {M : Type 1} → statement M
+poll-idx-spec =
+    tie.close
+    (tie.spec
+    pop-requires
+    same-length
+    same-length-2
+    same-length-3
+    returns
+    poll-requires
+    same-length-4
+    same-length-5
+    same-length-6
+    returns-2)
