@@ -7,15 +7,13 @@ use native.Mathlib.Omega.{arith}
 use Rattle.links.specs.Lists.{change}
 use Rattle.links.proofs.laws.Lists.{change-same, change-other}
 use Rattle.stack.specs.Places.{free, put}
-use Rattle.stack.specs.Format.{range}
 use Rattle.wheel.specs.Wheel.{Lists}
 use Rattle.queue.specs.declared.Answer.{Answer}
 use Rattle.queue.specs.Told.{told, handing}
 use Rattle.queue.specs.Told as T
 use Rattle.records.specs.View.{withValue, upd, withPeriod}
-use Rattle.records.specs.Slices.{Fits}
 use Rattle.records.specs.Records.{keyOf, Takes, taken, target, placed}
-use Rattle.records.specs.Words.{QueueWords, words, elapsed, view, slices, Sound}
+use Rattle.records.specs.Words.{QueueWords, elapsed, view, Sound}
 use Rattle.records.proofs.laws.Cases.{takes-so}
 use Rattle.queue.specs.Calls.{Answered}
 use Rattle.delay_queue.specs.declared.Call.the-variants as C
@@ -26,55 +24,14 @@ use Rattle.promises.specs.KeysStay.{Out}
 use Rattle.promises.specs.KeysReach.{Reaches}
 use Rattle.promises.specs.Polling.{IsPending, SaysOut, HandsLeast, PollLeast}
 use Rattle.promises.specs.First.{NotSet, storedOn, SetInTurn, SecondOut}
-use Rattle.promises.proofs.laws.Met.{format-met, insert-met, poll-met}
+use Rattle.promises.proofs.laws.Met.{insert-met, poll-met}
 use Rattle.promises.proofs.laws.OneCall.{call-sound}
+use Rattle.promises.proofs.laws.Quiet.{Fresh, fresh-two}
 use Rattle.promises.proofs.laws.Polling.{none-out, target-timed, poll-least, poll-clock}
 use Rattle.promises.proofs.laws.KeysStay.{key-is}
 use Rattle.promises.proofs.laws.KeysReach.{reaches-on, insert-reaches}
 use Rattle.promises.proofs.laws.First.{first-set-first-out, expired-first-out}
 use Rattle.promises.proofs.laws.TakesOut.{key-of-names}
-
--- ---- two records, freshly formatted
-
-abbrev pair : List ℕ
-pair = 0 ∷ 0 ∷ []
-
-abbrev blank : QueueWords
-blank = words (record { elapsed = 0; occupied = []; stacks = record { n = 0; expired = 0; free = 0 } }) [] (0 ∷ 0 ∷ pair) pair pair pair pair pair
-
-fits : Fits (slices blank) 2
-fits =
-    record {
-      some = omega arith;
-      few = omega arith;
-      room = record {
-        values = omega arith;
-        deadlines = omega arith;
-        links = record { nexts = omega arith; prevs = omega arith; marks = omega arith };
-        turns = omega arith;
-      };
-    }
-
--- a store at the time 0 with nothing but two records to take
-record Fresh (s : QueueWords) : Type 0 where
-  sound : Sound s
-  size : view s .n ≡ 2
-  clock : elapsed s ≡ 0
-  room : view s .lists free ≡ 0 ∷ 1 ∷ []
-
-fresh-two : (s : QueueWords) × Fresh s
-unfolding range
-fresh-two =
-    let m = format-met blank 2 1 in
-    let D = m .2 .done fits (record { some = omega arith; last = omega arith }) in (
-      m .1,
-      record {
-        sound = D .sound;
-        size = ap (λ v. v .n) (D .view);
-        clock = ap (λ v. v .elapsed) (D .view);
-        room = ap (λ v. v .lists free) (D .view) ∙ change-same (λ p. []) free (range 2 0);
-      },
-    )
 
 -- ---- two timers for one time
 

@@ -148,14 +148,17 @@ some-first : (x : ℕ) (l : List ℕ) → Mem x l → (r : ℕ) × (k : List ℕ
 some-first x [] m = absurd m
 some-first x (r ∷ k) m = (r, k, refl)
 
--- two records, freshly formatted over words of 0
-two-made : (s : QueueWords) × Sound s × (elapsed s ≡ 0) × (view s .lists free ≡ 0 ∷ 1 ∷ [])
-unfolding range
-two-made =
-    let w : List ℕ = 0 ∷ 0 ∷ [] in
-    let s = words (record { elapsed = 0; occupied = []; stacks = record { n = 0; expired = 0; free = 0 } }) [] (0 ∷ 0 ∷ w) w w w w w in
-    let F : Fits (slices s) 2
-    = record {
+-- ---- two records, freshly formatted
+
+abbrev pair : List ℕ
+pair = 0 ∷ 0 ∷ []
+
+abbrev blank : QueueWords
+blank = words (record { elapsed = 0; occupied = []; stacks = record { n = 0; expired = 0; free = 0 } }) [] (0 ∷ 0 ∷ pair) pair pair pair pair pair
+
+fits : Fits (slices blank) 2
+fits =
+    record {
       some = omega arith;
       few = omega arith;
       room = record {
@@ -164,10 +167,30 @@ two-made =
         links = record { nexts = omega arith; prevs = omega arith; marks = omega arith };
         turns = omega arith;
       };
-    } in
-    let m = format-met s 2 1 in
-    let D = m .2 .done F (record { some = omega arith; last = omega arith }) in
-    (m .1, D .sound, ap (λ v. v .elapsed) (D .view), ap (λ v. v .lists free) (D .view) ∙ change-same (λ p. []) free (range 2 0))
+    }
+
+-- a store at the time 0 with nothing but two records to take
+pub record Fresh (s : QueueWords) : Type 0 where
+  pub sound : Sound s
+  pub size : view s .n ≡ 2
+  pub clock : elapsed s ≡ 0
+  pub room : view s .lists free ≡ 0 ∷ 1 ∷ []
+
+pub fresh-two : (s : QueueWords) × Fresh s
+unfolding range
+fresh-two =
+    let m = format-met blank 2 1 in
+    let D = m .2 .done fits (record { some = omega arith; last = omega arith }) in (
+      m .1,
+      record {
+        sound = D .sound;
+        size = ap (λ v. v .n) (D .view);
+        clock = ap (λ v. v .elapsed) (D .view);
+        room = ap (λ v. v .lists free) (D .view) ∙ change-same (λ p. []) free (range 2 0);
+      },
+    )
+
+-- ---- one has expired, another lies on the wheel
 
 target-70 : (e : ℕ) → e ≡ 0 → target e (max 70 e) ≡ 65
 unfolding target placeFor levelOf levelBelow slotOf width
@@ -180,12 +203,12 @@ target-0 e = let w : max 0 e ≡ e = omega arith in rw (w, eq-eqb e e refl)
 -- a timer for 70, then one for 0: a store where one has expired and another lies on the wheel
 pub both-shown : (s : QueueWords) × Sound s × ((r : ℕ) × (l : List ℕ) × (view s .lists expired ≡ r ∷ l)) × OnSlot (view s) 0 65
 both-shown =
-    let two = two-made in
-    let m = insert-met (two .0) 0 70 0 in
-    let k : Takes (elapsed (two .0)) 70 = takes-so (omega (arith, two .2)) (λ h. rw (two .2)) in
-    let A = came (m .2) (two .1) (two .3) k (target-70 (elapsed (two .0)) (two .2)) (omega arith) in
+    let F = fresh-two .1 in
+    let m = insert-met (fresh-two .0) 0 70 0 in
+    let k : Takes (elapsed (fresh-two .0)) 70 = takes-so (omega (arith, F .clock)) (λ h. rw (F .clock)) in
+    let A = came (m .2) (F .sound) (F .room) k (target-70 (elapsed (fresh-two .0)) (F .clock)) (omega arith) in
     let n = insert-met (m .1) 0 0 0 in
-    let j : Takes (elapsed (m .1)) 0 = takes-so (omega (arith, A .clock, two .2)) (λ h. absurd (omega arith)) in
+    let j : Takes (elapsed (m .1)) 0 = takes-so (omega (arith, A .clock, F .clock)) (λ h. absurd (omega arith)) in
     let B = came (n .2) (A .sound) (A .left) j (target-0 (elapsed (m .1))) (omega arith) in
     let on : Mem 0 (view (n .1) .lists 65) = rw (B .else 65 (omega arith) (omega arith)) (A .member) in
     (n .1, B .sound, some-first 1 (view (n .1) .lists expired) (B .member), record { slot = omega arith; member = on })
