@@ -27,7 +27,7 @@ goesTo d k r x = eqb (slotPlace k (slotOf (d x) k)) r
 
 -- ---- a poll of the queue
 
--- "the order in which equal deadlines leave is that of the lists"
+-- "Order among equals": they leave in the order of the lists
 pub record PollOrder (v : View) (x : Told) (u : View) : Type 0 where
   -- "Poll pops the expired stack if it isn't empty: elapsed, moves and drains stay as they are, counted 0": its head goes first
   pub stack : (r : ℕ) (l : List ℕ) → v .lists expired ≡ r ∷ l

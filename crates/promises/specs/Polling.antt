@@ -95,7 +95,7 @@ pub record Beside (r : ℕ) (v u : View) : Type 0 where
 
 -- ---- the promises of one poll
 
--- "hands out a timer exactly when a pending deadline is at most now, always one of the least, the rest stay, none comes out twice"
+-- "hands out a timer exactly when a pending deadline is at most now, always one of the least; the rest stay"
 pub record PollLeast (v : View) (now : ℕ) (x : Told) (u : View) : Type 0 where
   pub hands-out : SaysOut x ↔ Due v now
   pub otherwise : (Due v now → ⊥) → SaysNone x

@@ -4,7 +4,7 @@ use mathlib.Core.Bool.{Bool, true, false, cond}
 use Prim.Native.Nat.{ℕ, zero, suc, _+_, _*_, _/_, _%_, _^_, _<_}
 use lib.Dec.{eqb}
 
--- the flag of slot s in the row x. The Rust: "The least-significant bit represents slot zero."
+-- the flag of slot s in the row x: slot 0 has the least significant bit, as in the Rust
 unfoldable pub flagAt : ℕ → ℕ → Bool
 flagAt x s = eqb (x / 2 ^ s % 2) 1
 

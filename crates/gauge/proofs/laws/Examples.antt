@@ -64,7 +64,7 @@ eight-sixteen = (
   ap (λ (x : Float). bitsOf x) (worst-greatest zeros 8 (16 ∷ []) refl ∙ sixteen) ∙ bits-sixteen,
 )
 
--- the latenesses 0 and 8: smoothed is 1, where a gauge that takes 0 for "no timer yet" would have 8
+-- the latenesses 0 and 8: smoothed is 1, where a gauge that takes 0 to mean no timer yet would have 8
 pub nought-eight : bitsOf (notedAll zeros (floats (0 ∷ 8 ∷ [])) .smoothed) ≡ 4607182418800017408
 nought-eight = ap (λ (x : Float). bitsOf x) (smoothed-two 0 8 ∙ ap₂ (λ (x y : Float). smoother x y) zero eight ∙ one) ∙ bits-one
 

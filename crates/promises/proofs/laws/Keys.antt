@@ -111,7 +111,7 @@ module _ {s t u : QueueWords} {l : List Asked} {k : ℕ} (S : Sound s) where
     pub left-is-dead : Refuses u k
     left-is-dead = spent-refused (run-sound after-leave r) spent
 
-    -- "a dead key never changes a word until the next format"
+    -- a dead key never changes a word until the next format
     pub dead-key-changes-nothing : (d : Call) (b : Answer) (w : QueueWords) → Uses k d → CallClaim d u b w → w ≡ u
     dead-key-changes-nothing (C.Format n turn) b w h B = absurd h
     dead-key-changes-nothing (C.Insert value when period) b w h B = absurd h
@@ -136,7 +136,7 @@ module _ {s t u : QueueWords} {l : List Asked} {k : ℕ} (S : Sound s) where
 
 module _ {s t u : QueueWords} {l : List Asked} {a : Answer} {now k i p : ℕ} (S : Sound s) (A : CallClaim (C.Poll now) s a t)
     (o : Out k (told a)) (N : Names (view s) k i p) (d : Finished (view s) i (told a)) (r : Runs t l u) (f : NoFormat l) where
-  -- "over a run none comes out twice for one insert": a poll hands out k, which it does not set again, and no call of the run does so again
+  -- "none comes out twice", 02 [7]: "read per placing": a poll hands out k, which it does not set again, and no call of the run does so again
   pub out-once : All (λ x. Out k (told (x .answer)) → ⊥) l
   out-once = dead-never-out S (C.Poll now) a A (polled (o .4) N d) r f
 

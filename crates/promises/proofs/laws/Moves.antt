@@ -280,7 +280,7 @@ run-paid S rest = omega arith
 run-paid S (next {s} {t} {u} {x} {l} A R) =
     omega (arith, does-paid s (x .answer) t (x .call) S (does S (x .call) A), run-paid (call-sound (x .call) s (x .answer) t A S) R)
 
--- "over any run from a fresh store at most five moves for each accepted insert or reset", 02 [7]: "a re-placing counts as an insert"
+-- from a fresh store, over any run: "all moves come to at most five for each accepted insert or reset", 02 [7]: "a re-placing counts as an insert"
 pub moves-bounded : {s t u : QueueWords} {n turn : ℕ} {a : Answer} {l : List Asked} → Formatted s n turn a t → (R : Runs t l u)
     → moves l ≤ 5 * (tally isPlacing l + resettings R)
 moves-bounded F R = omega (arith, run-paid (F .sound) R, formatted-heights F)

@@ -263,7 +263,7 @@ keys-none k (x ∷ l) a = by (kind k (told (x .answer))) (keys-none k l (a .1))
 
 -- ---- what is promised
 
--- "over a run none comes out twice for one insert", 02 [7]: "read per placing": any calls, formats and clears among them. The key names no pending timer at the
+-- "none comes out twice", 02 [7]: "read per placing", over a run: any calls, formats and clears among them. The key names no pending timer at the
 -- start, as none does on a fresh store
 pub outs-few : {s t : QueueWords} {l : List Asked} (k : ℕ) → Sound s → ((r p : ℕ) → Names (view s) k r p → ⊥) → (R : Runs s l t)
     → outs k l ≤ keys k l + agains k R

@@ -41,7 +41,7 @@ first-once (line n P l) (inl a) (inr b) = absurd (b .0 (a .1))
 first-once (line n P l) (inr a) (inl b) = absurd (a .0 (b .1))
 first-once (line n P l) (inr a) (inr b) = first-once l (a .1) (b .1)
 
--- "each refusal has its own number": the table gives no call two
+-- "each gets its own number": the table gives no call two
 pub refused-once : (c : Call) (s : QueueWords) {j k : ℕ} → RefusedBy c s j → RefusedBy c s k → j ≡ k
 refused-once c s x y = first-once (linesOf c s) x y
 

@@ -200,8 +200,8 @@ module _ {s u : QueueWords} {l : List Asked} {k r p : ℕ} (W : Waited s l u k r
       → pending (view u) + tally (duePoll (view s .deadline r)) l ≤ pending (view s) → ⊥
   out-of-time R c = omega (arith, W .enough, pending-some (R .names .pending))
 
-  -- "a due timer with no insert, reset, clear or format after is out within as many accepted polls as timers were pending": its key is dead. Polls
-  -- before its deadline may stand between: they are not counted.
+  -- "A timer that is due, with no insert, reset, clear or format after that .., is out or removed within as many accepted polls as timers were pending":
+  -- its key is dead. Polls before its deadline may stand between: they are not counted.
   pub waiting-bounded : Dead (view u) k
   waiting-bounded = by ends
     where

@@ -121,7 +121,7 @@ module _ (e w : ℕ) (b : block e ≡ block w) where
             quotient-shr e j ∙ masked-agree e w (j * 6) fits ∙ sym (quotient-shr w j);
       }
 
-  -- the Rust: the mask caps "the possible leading zeros"
+  -- the mask caps the leading zeros, as in the Rust
   pub zeros-le : leadingZeros 64 (masked e w) ≤ 58
   zeros-le =
       let high : place < 5 → ⊥ = λ h. omega (arith, masked-ge e w, highest .3, pow-mono {i = suc place} {j = 5} h) in
