@@ -60,8 +60,9 @@ def cited(root):
     for path in sorted(root.glob("crates/*/src/lib.rt")):
         for clause in re.findall(r"⌜(.*?)⌝", path.read_text(), re.S):
             roots |= words_in(clause)
-    for file, name in re.findall(r"`(crates/[^`#]+\.antt)#([^`]+)`", (root / "docs/PROMISES.md").read_text()):
-        text = (root / file).read_text()
+    for file, name in re.findall(r"`([^`#]+\.antt)#([^`]+)`", (root / "docs/PROMISES.md").read_text()):
+        # a file without a path is one of the laws of promises
+        text = (root / (file if "/" in file else "crates/promises/proofs/laws/" + file)).read_text()
         # the statement: from the name to its first clause
         match = re.search(r"^ *(?:pub )?" + re.escape(name) + r" :(.*?)^ *(?:unfolding |" + re.escape(name) + r"[ =])", text, re.S | re.M)
         roots |= words_in(match.group(1)) if match else {name}
