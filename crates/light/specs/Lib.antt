@@ -1,7 +1,6 @@
--- The program `light`. `Light` has what it writes for the lines of its input; `Steps`, `Writing` and `Running` what its functions claim,
--- `Hex` what digits are worth.
+-- The program `light`. `Light` has what it writes for the lines of its input; `Steps` and `Writing` what its functions claim, `Hex` what
+-- digits are worth.
 pub mod Light
 pub mod Steps
 pub mod Writing
-pub mod Running
 pub mod Hex

@@ -1,10 +1,7 @@
--- What the lines have said so far, line by line and chunk by chunk: the claims of `amount`, `step` and `take_chunk`.
+-- What the lines have said so far: the claims of `amount` and `step`.
 use mathlib.Core.Path.{_≡_}
-use mathlib.Core.Bool.{true, false}
 use mathlib.Core.List.{List}
-use Prim.Native.Nat.{ℕ, _≤_, _<_}
-use lib.ListN.{length, take}
-use Rattle.lines.specs.Taking.{TakeClaim}
+use Prim.Native.Nat.{ℕ, _≤_}
 use Rattle.decimals.specs.Text.{Decimal}
 use Rattle.decimals.specs.declared.Num.{Num}
 use Rattle.decimals.specs.declared.Num.the-variants as N
@@ -30,12 +27,3 @@ pub record Stepped (l : List ℕ) (t t′ : State) : Type 0 where
   pub says : Num
   pub is : AmountOf l says
   pub then : t′ ≡ next says t
-
--- From i on the lines of got are taken into t, of whose first line k bytes at the front of line are kept already: each line that ends, and
--- where got ends, what is left is kept.
-pub data Chunk (got : List ℕ) : ℕ → List ℕ → ℕ → State → List ℕ → ℕ → State → Type 0 where
-  used : {i k : ℕ} {line : List ℕ} {t : State} → length got ≤ i → Chunk got i line k t line k t
-  ended : {i k i₁ k₁ k′ : ℕ} {line line₁ line′ : List ℕ} {t t₁ t′ : State} → i < length got → TakeClaim got i line k i₁ k₁ true line₁
-      → Stepped (take k₁ line₁) t t₁ → Chunk got i₁ line₁ 0 t₁ line′ k′ t′ → Chunk got i line k t line′ k′ t′
-  part : {i k i₁ k₁ k′ : ℕ} {line line₁ line′ : List ℕ} {t t′ : State} → i < length got → TakeClaim got i line k i₁ k₁ false line₁
-      → Chunk got i₁ line₁ k₁ t line′ k′ t′ → Chunk got i line k t line′ k′ t′

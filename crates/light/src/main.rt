@@ -4,17 +4,19 @@ use decimals::Num;
 use gauge::Gauge;
 use gauge::Light;
 use gauge::Reading;
+use input::Got;
 use libc::STDERR_FILENO;
-use libc::STDIN_FILENO;
 use libc::STDOUT_FILENO;
 ghost use mathlib.Core.Path.{_≡_};
-ghost use mathlib.Core.List.{_++_};
+ghost use mathlib.Core.Bool.{cond};
+ghost use mathlib.Core.List.{[], _++_};
 ghost use Prim.Native.Nat.{_+_, _≤_, _<_};
 ghost use lib.ListN.{length};
 ghost use Rattle.contracts.specs.Lent.{old, new};
 ghost use Rattle.decimals.specs.Text.{bytes};
+ghost use Rattle.lines.specs.Running.{Chunk, Closes, Ran};
 ghost use Rattle.light.specs.Light.{wordOf, digitOf, hexOf, lineOf};
-ghost use Rattle.light.specs.Steps.{AmountOf, Stepped, Chunk};
+ghost use Rattle.light.specs.Steps.{AmountOf, Stepped};
 ghost use Rattle.light.specs.Writing.{Wrote, TextClaim};
 
 // What the lines so far have said.
@@ -65,7 +67,7 @@ fn step(line: &[u8], state: State) -> State
 
 // Takes each line that ends in what was read, and keeps what is left.
 fn take_chunk(got: &[u8], line: &mut [u8], n: usize, state: State) -> Found
-    ensures { λ r. ⌜ Chunk (old got) 0 (old line) n state (new line) (r .kept) (r .state) ⌝ }
+    ensures { λ r. ⌜ Chunk Stepped (old got) 0 (old line) n state (new line) (r .kept) (r .state) ⌝ }
 {
     let mut i: usize = 0;
     let mut k = n;
@@ -177,41 +179,76 @@ fn line_space() -> [u8; 81]
     [0; 81]
 }
 
-// Reads until the input ends, and answers what its lines have said: the last may have no newline. Where it cannot be read
-// to its end, lines are missing.
-fn read_all(line: &mut [u8]) -> State
+// The end: the last line, which may have no newline, if the input has ended and anything is kept of it.
+fn finish(got: Got, line: &[u8], state: State) -> State
+    ensures { λ r. ⌜ Closes Stepped (old line) state (got .ended) r ⌝ }
+{
+    if !input::at_end(got) {
+        return state;
+    }
+    if line.len() == 0 {
+        return state;
+    }
+    step(line, state)
+}
+
+// How many bytes were read, what the last read gave, and what the lines have said then.
+struct Outcome {
+    bytes: usize,
+    last: Got,
+    state: State,
+}
+
+// Reads until the input ends, or cannot be read any more. A proved loop has to end, so this one ends at 2^63 bytes; no run
+// comes there.
+fn read_all(line: &mut [u8]) -> Outcome
     requires { ⌜ length (now line) ≡ 81 ⌝ }
+    ensures { λ r. ⌜ Ran Stepped 81 [] State.Nothing (r .bytes) (r .last .ended) (r .state) ⌝ }
 {
     let mut buf = io::buffer();
     let mut n: usize = 0;
     let mut state = State::Nothing;
-    let mut left = u64::MAX;
-    while 0 < left {
-        left -= 1;
-        let got = libc::read(STDIN_FILENO, &mut buf);
-        if got < 0 {
-            io::write_all(STDERR_FILENO, b"light: cannot read\n");
-            return State::Bad;
+    let mut bytes: usize = 0;
+    while bytes < 9223372036854775808 {
+        let got = input::more(&mut buf);
+        let k = input::count(got);
+        if k == 0 {
+            let end = finish(got, &line[..n], state);
+            return Outcome {
+                bytes,
+                last: got,
+                state: end,
+            };
         }
-        if got == 0 {
-            if 0 < n {
-                return step(&line[..n], state);
-            }
-            return state;
-        }
-        let k = io::count(got, &buf);
         let r = take_chunk(&buf[..k], line, n, state);
         n = r.kept;
         state = r.state;
+        bytes += k;
     }
+    Outcome {
+        bytes,
+        last: input::nothing(),
+        state,
+    }
+}
+
+// What is to be written: where the input could not be read to its end, lines are missing.
+fn said(outcome: Outcome) -> State
+    ensures { λ r. ⌜ r ≡ cond (outcome .last .ended) (outcome .state) State.Bad ⌝ }
+{
+    let last = outcome.last;
+    if input::at_end(last) {
+        return outcome.state;
+    }
+    io::write_all(STDERR_FILENO, b"light: cannot read\n");
     State::Bad
 }
 
 fn main() {
     let mut line = line_space();
-    let state = read_all(&mut line);
+    let outcome = read_all(&mut line);
     let mut out = line_space();
-    let n = text(&mut out, state);
+    let n = text(&mut out, said(outcome));
     if !io::write_all(STDOUT_FILENO, &out[..n]) {
         io::write_all(STDERR_FILENO, b"light: cannot write\n");
     }

@@ -2,4 +2,4 @@ pub mod Parts
 pub mod Lines
 pub mod Once
 pub mod Passed
-pub mod Fold
+pub mod Running

@@ -1,5 +1,5 @@
--- Lines of an input. `Lines` says what they are, `Taking` what `take_line` claims; `Passed` and `Fold` are for programs over them.
+-- Lines of an input. `Lines` says what they are, `Taking` what `take_line` claims; `Passed` and `Running` are for programs over them.
 pub mod Lines
 pub mod Taking
 pub mod Passed
-pub mod Fold
+pub mod Running

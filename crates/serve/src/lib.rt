@@ -1,11 +1,11 @@
 // The replay program: reads standard input to its end and answers each line with one. It can show the lists too.
 // What is read and written no contract can say: it reads a chunk, has `feed` answer its lines until it is used up, and
 // writes all that was answered after each call, so that nothing waits while it reads. That is a `Serving` of the crate
-// feed, whose law `all-answered` says what is written.
+// feed, whose law `all-answered` says what is written; of what the loop claims, its law `ran-answers`.
 use contents::Pen;
 use delay_queue::Heads;
+use input::Got;
 use libc::STDERR_FILENO;
-use libc::STDIN_FILENO;
 use libc::STDOUT_FILENO;
 use wheel::Wheel;
 ghost use mathlib.Core.Path.{_≡_};
@@ -16,8 +16,8 @@ ghost use lib.ListN.{length, take};
 ghost use Rattle.contracts.specs.Lent.{old, new};
 ghost use Rattle.records.specs.Store.{before, after};
 ghost use Rattle.feed.specs.Feed.{answerRoom};
-ghost use Rattle.feed.specs.Serving.{AllFed, Closed, Ran};
-ghost use Rattle.serve.specs.Read.{atEnd};
+ghost use Rattle.feed.specs.Serving.{Answered};
+ghost use Rattle.lines.specs.Running.{Passes, Closes, Ran};
 
 // Whether each answer is followed by the contents of the lists, how many bytes of an unfinished line are kept, the
 // store, and whether all writes went well.
@@ -103,7 +103,8 @@ fn answer(
     requires { ⌜ (run .kept ≤ 81) × (length (now line) ≡ 81) × (length (now out) ≡ 4096) ⌝ }
     ensures { λ r. ⌜ r .kept ≤ 81 ⌝ }
     ensures { λ r. ⌜
-        AllFed
+        Passes
+        Answered
         (length (old line))
         (take (run .kept) (old line))
         (old got)
@@ -150,8 +151,10 @@ fn answer(
     }
 }
 
-// Answers a last line that has no newline.
+// The end: a last line that has no newline is answered, if the input has ended; where it cannot be read any more, a line
+// that has not ended stays unanswered.
 fn finish(
+    got: Got,
     line: &[u8],
     run: Progress,
     values: &mut [u64],
@@ -164,11 +167,17 @@ fn finish(
 ) -> Progress
     requires { ⌜ (run .kept ≤ 81) × (length (now line) ≡ 81) × (length (now out) ≡ 4096) ⌝ }
     ensures { λ r. ⌜
-        Closed
+        Closes
+        Answered
         (take (run .kept) (old line))
         (before (run .state) (run .heads .rows) values deadlines nexts prevs turns marks)
+        (got .ended)
         (after (r .state) (r .heads .rows) values deadlines nexts prevs turns marks) ⌝ }
 {
+    if !input::at_end(got) {
+        io::write_all(STDERR_FILENO, b"replay: cannot read\n");
+        return run;
+    }
     let lists = run.lists;
     let n = run.kept;
     let state = run.state;
@@ -197,20 +206,32 @@ fn finish(
     }
 }
 
-// How many bytes were read, what the last read gave, whether the input has ended, the store then, and whether all
-// writes went well.
+// How many bytes were read, what the last read gave, the store then, and whether all writes went well.
 struct Outcome {
     bytes: usize,
-    got: isize,
-    ended: bool,
+    last: Got,
     state: Wheel,
     heads: Heads,
     fine: bool,
 }
 
-// Reads until the input ends; where it cannot be read any more, a line that has not ended stays unanswered. What each
-// read gave is answered, and the last line: that is claimed, and not that it is written. A proved loop has to end, so
-// this one ends at 2^63 bytes; no run comes there.
+fn comes_to(bytes: usize, last: Got, run: Progress) -> Outcome
+    ensures { λ r. ⌜ r ≡ record { bytes = bytes; last = last; state = run .state; heads = run .heads; fine = run .fine } ⌝ }
+{
+    let state = run.state;
+    let heads = run.heads;
+    Outcome {
+        bytes,
+        last,
+        state,
+        heads,
+        fine: run.fine,
+    }
+}
+
+// Reads until the input ends, cannot be read any more, or an answer cannot be written. What each read gave is answered, and
+// the last line: that is claimed, and not that it is written. A proved loop has to end, so this one ends at 2^63 bytes; no
+// run comes there.
 fn serve(
     line: &mut [u8],
     start: Progress,
@@ -223,36 +244,25 @@ fn serve(
     out: &mut [u8],
 ) -> Outcome
     requires { ⌜ (start .kept ≤ 81) × (length (now line) ≡ 81) × (length (now out) ≡ 4096) ⌝ }
-    ensures { λ r. ⌜ r .ended ≡ atEnd (r .got) ⌝ }
     ensures { λ r. ⌜
         Ran
+        Answered
         (length (old line))
         (take (start .kept) (old line))
         (before (start .state) (start .heads .rows) values deadlines nexts prevs turns marks)
         (r .bytes)
-        (r .ended)
+        (r .last .ended)
         (after (r .state) (r .heads .rows) values deadlines nexts prevs turns marks) ⌝ }
 {
     let mut buf = io::buffer();
     let mut run = start;
     let mut bytes: usize = 0;
     while bytes < 9223372036854775808 {
-        let got = libc::read(STDIN_FILENO, &mut buf);
-        if got < 0 {
-            io::write_all(STDERR_FILENO, b"replay: cannot read\n");
-            let state = run.state;
-            let heads = run.heads;
-            return Outcome {
-                bytes,
-                got,
-                ended: false,
-                state,
-                heads,
-                fine: run.fine,
-            };
-        }
-        if got < 1 {
+        let got = input::more(&mut buf);
+        let k = input::count(got);
+        if k == 0 {
             let end = finish(
+                got,
                 line,
                 run,
                 values,
@@ -263,18 +273,8 @@ fn serve(
                 marks,
                 out,
             );
-            let state = end.state;
-            let heads = end.heads;
-            return Outcome {
-                bytes,
-                got,
-                ended: true,
-                state,
-                heads,
-                fine: end.fine,
-            };
+            return comes_to(bytes, got, end);
         }
-        let k = io::count(got, &buf);
         run = answer(
             &buf[..k],
             line,
@@ -289,28 +289,10 @@ fn serve(
         );
         bytes += k;
         if !run.fine {
-            let state = run.state;
-            let heads = run.heads;
-            return Outcome {
-                bytes,
-                got,
-                ended: false,
-                state,
-                heads,
-                fine: run.fine,
-            };
+            return comes_to(bytes, got, run);
         }
     }
-    let state = run.state;
-    let heads = run.heads;
-    Outcome {
-        bytes,
-        got: 1,
-        ended: false,
-        state,
-        heads,
-        fine: run.fine,
-    }
+    comes_to(bytes, input::nothing(), run)
 }
 
 // The contracts give the lengths alone, so that no proof meets the zeros.
@@ -372,7 +354,7 @@ fn with_room(lists: bool) {
         heads,
         fine: true,
     };
-    let outcome = serve(
+    let end = serve(
         &mut line,
         start,
         &mut values,
@@ -383,7 +365,7 @@ fn with_room(lists: bool) {
         &mut marks,
         &mut out,
     );
-    if !outcome.fine {
+    if !end.fine {
         io::write_all(STDERR_FILENO, b"replay: cannot write\n");
     }
 }

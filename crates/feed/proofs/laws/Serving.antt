@@ -1,7 +1,7 @@
 -- The program's whole run: what it writes is the answers to the lines of what it read, one a line and in their order, however the input was
 -- cut into chunks.
 use mathlib.Core.Path.{_≡_, refl, sym, ap, _∙_, subst}
-use mathlib.Core.Bool.{true, false, true≢false, false≢true}
+use mathlib.Core.Bool.{Bool, true, false, true≢false}
 use mathlib.Core.List.{List, [], _∷_, _++_, append-nil, append-assoc}
 use Prim.Native.Nat.{ℕ, _+_, _≤_, _<_}
 use native.Mathlib.Omega.{arith}
@@ -11,11 +11,13 @@ use Rattle.records.specs.Words.{QueueWords}
 use Rattle.asking.specs.Text.{Says}
 use Rattle.lines.specs.Lines.{linesFrom, linesOf, firsts, last, joined}
 use Rattle.lines.specs.Passed.{Passed}
+use Rattle.lines.specs.Running.{Along, none as no-line, more, Passes, Closes, Ran}
 use Rattle.lines.proofs.laws.Lines.{whole-line, input-ends}
 use Rattle.lines.proofs.laws.Passed.{passed-none, passed-more, passed-line, passed-end}
+use Rattle.lines.proofs.laws.Running.{passes-more, ran-all}
 use Rattle.feed.specs.Replies.{Reply, Replies, none, reply}
 use Rattle.feed.specs.Feed.{Stand, Goes, Turn, answered, goes-on, FeedClaim, stops, turns, LastClaim, answerRoom}
-use Rattle.feed.specs.Serving.{Feeds, AllFed, Fed, call, used, none as nothing, Served, Closed, Ran, Serving}
+use Rattle.feed.specs.Serving.{Answered, Feeds, Fed, call, used, none as nothing, Serving}
 use Rattle.feed.proofs.laws.Wrote.{between, replied, reply-whole, reply-forth, reply-size}
 
 -- ---- step behind step
@@ -112,20 +114,24 @@ module _ {got : List ℕ} where
 
 -- ---- calls, each of whose answers are written before the next
 
-pub all-none : {m : ℕ} {k s : List ℕ} {w : QueueWords} → AllFed m k s w k s w
-all-none = record { text = []; feeds = feeds-none }
+replies-along : {ls : List (List ℕ)} {w w′ : QueueWords} {t : List ℕ} → Replies ls w t w′ → Along Answered ls w w′
+replies-along none = no-line
+replies-along (reply {t = t} x a) = more (record { text = t; reply = x }) (replies-along a)
 
-pub all-more : {m : ℕ} {k s : List ℕ} {w : QueueWords} {got : List ℕ} {a b : Stand} → 0 < m → length (a .line) ≡ m
-    → AllFed m k s w (take (a .kept) (a .line)) (drop (a .next) got) (a .store) → FeedClaim got a b
-    → AllFed m k s w (take (b .kept) (b .line)) (drop (b .next) got) (b .store)
-all-more {got = got} {a = a} {b = b} h e A F =
+-- a call more, from where the calls before it came to
+pub calls-more : {m : ℕ} {k s : List ℕ} {w : QueueWords} {got : List ℕ} {a b : Stand} → 0 < m → length (a .line) ≡ m
+    → Passes Answered m k s w (take (a .kept) (a .line)) (drop (a .next) got) (a .store) → FeedClaim got a b
+    → Passes Answered m k s w (take (b .kept) (b .line)) (drop (b .next) got) (b .store)
+calls-more {got = got} {a = a} {b = b} h e P F =
     let x = subst (λ (m : ℕ). Answers m got a b) e (feed-answers (omega arith) F) in
-    record { text = A .text ++ x .text; feeds = feeds-more (A .feeds) (x .feeds) }
+    passes-more P (record { lines = x .feeds .lines; passed = x .feeds .passed; along = replies-along (x .feeds .replies) })
 
 -- the chunk is used up
-pub all-used : {m : ℕ} {k s k′ : List ℕ} {w w′ : QueueWords} (got : List ℕ) {i : ℕ} → length got ≤ i → AllFed m k s w k′ (drop i got) w′
-    → AllFed m k s w k′ [] w′
-all-used {m} {k} {s} {k′} {w} {w′} got h A = subst (λ (x : List ℕ). AllFed m k s w k′ x w′) (drop-of-length-le got h) A
+pub calls-used : {m : ℕ} {k s k′ : List ℕ} {w w′ : QueueWords} (got : List ℕ) {i : ℕ} → length got ≤ i
+    → Passes Answered m k s w k′ (drop i got) w′
+    → Passes Answered m k s w k′ [] w′
+calls-used {m} {k} {s} {k′} {w} {w′} got h P =
+    subst (λ (x : List ℕ). Passes Answered m k s w k′ x w′) (drop-of-length-le got h) P
 
 -- a call at the front of the output: what stands there from its front to where the answers end is what the lines were answered with
 pub call-feeds : {got : List ℕ} {a b : Stand} → 0 < length (a .line) → a .at ≡ 0 → FeedClaim got a b
@@ -149,45 +155,6 @@ last-replies [] {o′ = o′} {w = w} {w′ = w′} h C =
 last-replies (b ∷ l) {o′ = o′} {w = w} {w′ = w′} h C =
     let c = C .some (omega arith) in
     subst (λ (t : List ℕ). Replies ((b ∷ l) ∷ []) w t w′) (sym (reply-whole h c)) (one-reply (replied h c))
-
--- ---- chunks
-
-fed-more : {m : ℕ} {k k₁ k₂ c : List ℕ} {cs : List (List ℕ)} {w w₁ w₂ : QueueWords} {u t : List ℕ} → Fed m k cs w u k₁ w₁
-    → Feeds m k₁ c w₁ t k₂ [] w₂
-    → Fed m k (cs ++ c ∷ []) w (u ++ t) k₂ w₂
-fed-more {m} {k₂ = k₂} {c = c} {w₂ = w₂} {t = t} (call {k = k} {s = s} {cs = cs} {w = w} {u = u} {v = v} f r) a =
-    subst (λ (x : List ℕ). Fed m k (s ∷ cs ++ c ∷ []) w x k₂ w₂) (sym (append-assoc u v t)) (call f (fed-more r a))
-fed-more (used r) a = used (fed-more r a)
-fed-more {m} {k₂ = k₂} {c = c} {w₂ = w₂} {t = t} (nothing {k = k} {w = w}) a =
-    subst (λ (x : List ℕ). Fed m k (c ∷ []) w x k₂ w₂) (append-nil t) (call a (used nothing))
-
-pub served-none : {m : ℕ} {k : List ℕ} {w : QueueWords} → Served m k w 0 k w
-served-none = record { chunks = []; text = []; size = refl; fed = nothing }
-
-joined-more : (cs : List (List ℕ)) (c : List ℕ) → length (joined (cs ++ c ∷ [])) ≡ length (joined cs) + length c
-joined-more [] c = omega (arith, length-append c [])
-joined-more (d ∷ cs) c =
-    omega (arith, length-append d (joined (cs ++ c ∷ [])), length-append d (joined cs), joined-more cs c)
-
--- one chunk more was read, of n bytes, and all of it answered
-pub served-more : {m i j n : ℕ} {k k₁ k₂ c : List ℕ} {w w₁ w₂ : QueueWords} → Served m k w i k₁ w₁ → AllFed j k₁ c w₁ k₂ [] w₂ → j ≡ m
-    → n ≡ length c
-    → Served m k w (i + n) k₂ w₂
-served-more {m} {k₁ = k₁} {k₂ = k₂} {c = c} {w₁ = w₁} {w₂ = w₂} S A e h =
-    let a : Feeds m k₁ c w₁ (A .text) k₂ [] w₂ = subst (λ (x : ℕ). Feeds x k₁ c w₁ (A .text) k₂ [] w₂) e (A .feeds) in
-    record {
-      chunks = S .chunks ++ c ∷ [];
-      text = S .text ++ A .text;
-      size = omega (arith, joined-more (S .chunks) c, S .size, h);
-      fed = fed-more (S .fed) a;
-    }
-
-module _ {m : ℕ} {k k₁ : List ℕ} {w w₁ : QueueWords} {i : ℕ} (S : Served m k w i k₁ w₁) where
-  pub ran-out : {w′ : QueueWords} → Closed k₁ w₁ w′ → Ran m k w i true w′
-  ran-out C = record { kept = k₁; between = w₁; served = S; closed = λ e. C; broken = λ (e : true ≡ false). absurd (true≢false e) }
-
-  pub broke-off : Ran m k w i false w₁
-  broke-off = record { kept = k₁; between = w₁; served = S; closed = λ (e : false ≡ true). absurd (false≢true e); broken = λ e. refl }
 
 -- ---- the run: what was read so far is answered, of which no more than an unfinished line is kept
 
@@ -226,8 +193,10 @@ all-81 [] none = none
 all-81 (l ∷ ls) (reply x a) = reply (first-81 x) (all-81 ls a)
 
 -- what `finish` of a program does: the last line is answered where there is room
-pub closed-last : (l : List ℕ) {o o′ : List ℕ} {w w′ : QueueWords} {e : ℕ} → answerRoom ≤ length o → LastClaim l w o w′ o′ e → Closed l w w′
-closed-last l h C = record { text = _; replies = last-replies l h C }
+pub closes-last : (l : List ℕ) {o o′ : List ℕ} {w w′ : QueueWords} {e : ℕ} {t : Bool} → t ≡ true → answerRoom ≤ length o → LastClaim l w o w′ o′ e
+    → Closes Answered l w t w′
+closes-last l i h C =
+    record { closed = λ f. replies-along (last-replies l h C); broken = λ f. absurd (true≢false (sym i ∙ f)) }
 
 -- "A program reads lines and answers each with one": with 81 bytes of room for a line, what is written is the answers to the lines of the input
 pub all-answered : {cs : List (List ℕ)} {w w′ : QueueWords} {v : List ℕ} → Serving 81 cs w v w′ → Replies (linesOf (joined cs)) w v w′
@@ -242,3 +211,15 @@ all-answered {cs} {w} {w′} {v} S =
     all-81 (linesOf (joined cs))
     (subst (λ (t : List ℕ). Replies (firsts 81 (linesOf (joined cs))) w t w′) (sym (S .all))
     (subst (λ (ls : List (List ℕ)). Replies ls w (S .first ++ S .then) w′) (sym e) r))
+
+along-replies : {ls : List (List ℕ)} {w w′ : QueueWords} → Along Answered ls w w′ → (v : List ℕ) × Replies ls w v w′
+along-replies no-line = ([], none)
+along-replies (more x r) = let y = along-replies r in (x .text ++ y .0, reply (x .reply) (y .1))
+
+-- the same of what a program's loop claims: where the input has ended, all of it was answered, whatever chunks it came in
+pub ran-answers : {w w′ : QueueWords} {n : ℕ} → Ran Answered 81 [] w n true w′
+    → (cs : List (List ℕ)) × (v : List ℕ) × (length (joined cs) ≡ n) × Replies (linesOf (joined cs)) w v w′
+ran-answers R =
+    let x = ran-all (omega arith) R in
+    let y = along-replies (x .2) in
+    (x .0, y .0, x .1, all-81 (linesOf (joined (x .0))) (y .1))

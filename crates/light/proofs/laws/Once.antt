@@ -7,13 +7,14 @@ use Prim.Native.Nat.{ℕ, _≤_, _<_}
 use native.Mathlib.Decide.{ℕ-discrete, decLt}
 use native.Mathlib.Omega.{arith}
 use lib.ListN.{length, take}
-use Rattle.lines.proofs.laws.Once.{take-once}
+use Rattle.lines.specs.Running.{Chunk}
+use Rattle.lines.proofs.laws.Running.{chunk-once as once-a-chunk}
 use Rattle.decimals.specs.declared.Num.{Num}
 use Rattle.decimals.specs.declared.Num.the-variants as N
 use Rattle.decimals.proofs.laws.Decimals.{one-number}
 use Rattle.light.specs.declared.State.{State}
 use Rattle.light.specs.Light.{Amounts, Writes}
-use Rattle.light.specs.Steps.{AmountOf, next, Stepped, Chunk, used, ended, part}
+use Rattle.light.specs.Steps.{AmountOf, next, Stepped}
 use Rattle.light.specs.Writing.{Fronts}
 
 pub amount-once : (l : List ℕ) (r s : Num) → AmountOf l r → AmountOf l s → r ≡ s
@@ -26,28 +27,10 @@ pub step-once : {l : List ℕ} {t a b : State} → Stepped l t a → Stepped l t
 step-once {l} {t} p q = p .then ∙ ap (λ (r : Num). next r t) (amount-once l (p .says) (q .says) (p .is) (q .is)) ∙ sym (q .then)
 
 -- `take_chunk`
-
-from-same : {got m : List ℕ} {i j k l y : ℕ} {p q : List ℕ} {t u b : State} → i ≡ j → p ≡ q → k ≡ l → t ≡ u → Chunk got j q l u m y b
-    → Chunk got i p k t m y b
-from-same {got} {m} {i} {j} {k} {l} {y} {p} {q} {t} {u} {b} e f g h c =
-    subst (λ (x : ℕ). Chunk got x p k t m y b) (sym e)
-    (subst (λ (x : List ℕ). Chunk got j x k t m y b) (sym f)
-    (subst (λ (x : ℕ). Chunk got j q x t m y b) (sym g) (subst (λ (x : State). Chunk got j q l x m y b) (sym h) c)))
-
-pub chunk-once : {got : List ℕ} {i k x y : ℕ} {line l m : List ℕ} {t a b : State} → Chunk got i line k t l x a → Chunk got i line k t m y b
+pub chunk-once : {got : List ℕ} {i k x y : ℕ} {line l m : List ℕ} {t a b : State} → Chunk Stepped got i line k t l x a
+    → Chunk Stepped got i line k t m y b
     → (l ≡ m) × (x ≡ y) × (a ≡ b)
-chunk-once (used h) (used f) = (refl, refl, refl)
-chunk-once (used h) (ended f T S c) = absurd (omega arith)
-chunk-once (used h) (part f T c) = absurd (omega arith)
-chunk-once (ended f T S c) (used h) = absurd (omega arith)
-chunk-once (part f T c) (used h) = absurd (omega arith)
-chunk-once (ended f T S c) (part g U d) = absurd (true≢false (take-once true false T U .2))
-chunk-once (part f T c) (ended g U R d) = absurd (false≢true (take-once false true T U .2))
-chunk-once {t = t} (ended f T S c) (ended {t₁ = u₁} g U R d) =
-    let e = take-once true true T U in
-    let s = step-once S (subst (λ (x : List ℕ). Stepped x t u₁) (sym (ap₂ (λ (n : ℕ) (z : List ℕ). take n z) (e .1) (e .3))) R) in
-    chunk-once c (from-same (e .0) (e .3) refl s d)
-chunk-once (part f T c) (part g U d) = let e = take-once false false T U in chunk-once c (from-same (e .0) (e .3) (e .1) refl d)
+chunk-once c d = once-a-chunk (λ l t a b. step-once) c d
 
 -- `text`
 pub front-once : {l o p q : List ℕ} {r s : ℕ} → Fronts l o r p → Fronts l o s q → (r ≡ s) × (p ≡ q)

@@ -21,6 +21,9 @@ line-space-requires-2 c κs = search needs
 slice-aggregate-text : tie.Need-slice-aggregate-text
 slice-aggregate-text c = search needs
 
+said-requires : tie.Need-said-requires
+said-requires c κs = search needs
+
 text-requires : tie.Need-text-requires
 text-requires c κs = search needs
 
@@ -56,6 +59,7 @@ main-spec =
     read-all-requires
     line-space-requires-2
     slice-aggregate-text
+    said-requires
     text-requires
     array-share-prefix-out
     slice-aggregate-write-all

@@ -1,106 +1,110 @@
--- `read_all` ends and stays within its buffers: what is kept lies within the room of a line (`chunk-fits`).
-use mathlib.Core.Path.{_≡_}
-use Prim.Native.Nat.{_≤_}
+-- `read_all` meets its claim: what a read gave is taken (`reads-more`), what is kept lies within the room of a line (`chunk-fits`), and at the end
+-- `finish` takes it (`ran`).
+use mathlib.Core.Path.{_≡_, refl, ap, _∙_}
+use mathlib.Core.List.{[]}
+use Prim.Native.Nat.{_-_, _≤_}
 use native.Mathlib.Omega.{arith}
-use lib.ListN.{length, length-take}
-use Rattle.light.proofs.laws.Steps.{chunk-fits}
+use lib.ListN.{length, take, length-take}
+use Rattle.lines.specs.Running.{Reads}
+use Rattle.lines.proofs.laws.Running.{reads-none, reads-more, ran, breaks-off, chunk-fits, chunk-passes}
+use Rattle.light.specs.declared.State.the-variants as S
+use Rattle.light.specs.Steps.{Stepped}
 use borrow.Author.Needs.{needs}
 use Rattle.light.proofs.read_all.Statement.{statement}
 use Rattle.light.proofs.read_all.Tie as tie
 
 abbrev Inv-loop : tie.InvT-loop
-Inv-loop line₀ buf₀ n₀ state₀ left₀ t9 line buf n state left = (n ≤ length line) × (length buf ≡ 4096) × (length line ≡ length line₀)
+Inv-loop line₀ buf₀ n₀ state₀ bytes₀ line buf n state bytes =
+    (n ≤ length line) × (length buf ≡ 4096) × (length line ≡ length line₀) × Reads Stepped 81 [] S.Nothing bytes (take n line) state
 
 abbrev μ-loop : tie.MeasureT-loop
-μ-loop line₀ buf₀ n₀ state₀ left₀ t9 line buf n state left = left
+μ-loop line₀ buf₀ n₀ state₀ bytes₀ line buf n state bytes = 9223372036854775808 - bytes
 
-abbrev to-else : tie.Else1 Inv-loop μ-loop → tie.At-loop Inv-loop μ-loop
-to-else c = let a = c .before .before .before .before in a .before
+abbrev to-count : tie.After-slice-known2 Inv-loop μ-loop → tie.After-count Inv-loop μ-loop
+to-count c = let a = c .before .before .before .before in a .before .before
 
-abbrev to-more : tie.After-take-chunk Inv-loop μ-loop → tie.Else2 Inv-loop μ-loop
-to-more c = let a = c .before .before .before .before in a .before
+abbrev to-loop : tie.After-count Inv-loop μ-loop → tie.At-loop Inv-loop μ-loop
+to-loop c = let a = c .before .before .before .before in a .before
+
+abbrev to-start : tie.At-loop Inv-loop μ-loop → tie.Start Inv-loop μ-loop
+to-start c = c .before .before .before
 
 buffer-requires : tie.Need-buffer-requires Inv-loop μ-loop
 buffer-requires c κs = search needs
 
 loop-holds : tie.Need-loop-holds Inv-loop μ-loop
-loop-holds c = search needs
+loop-holds c = (search needs, search needs, refl, reads-none)
 
-sub-left : tie.Need-sub-left Inv-loop μ-loop
-sub-left c = search needs
+slice-aggregate-more : tie.Need-slice-aggregate-more Inv-loop μ-loop
+slice-aggregate-more c = search needs
 
-slice-aggregate-read : tie.Need-slice-aggregate-read Inv-loop μ-loop
-slice-aggregate-read c = search needs
+more-requires : tie.Need-more-requires Inv-loop μ-loop
+more-requires c κs = search needs
 
-read-requires : tie.Need-read-requires Inv-loop μ-loop
-read-requires c κs = search needs
+count-requires : tie.Need-count-requires Inv-loop μ-loop
+count-requires c κs = search needs
 
-slice-aggregate-write-all : tie.Need-slice-aggregate-write-all Inv-loop μ-loop
-slice-aggregate-write-all c = search needs
+slice-reshare-prefix-finish : tie.Need-slice-reshare-prefix-finish Inv-loop μ-loop
+slice-reshare-prefix-finish c = search needs
 
-write-all-requires : tie.Need-write-all-requires Inv-loop μ-loop
-write-all-requires c κs = search needs
+slice-aggregate-finish : tie.Need-slice-aggregate-finish Inv-loop μ-loop
+slice-aggregate-finish c = simp length-take (omega (arith, to-loop (c .before .before) .loop .inv .0))
+
+finish-requires : tie.Need-finish-requires Inv-loop μ-loop
+finish-requires c κs = search needs
 
 same-length : tie.Need-same-length Inv-loop μ-loop
 same-length c = search needs
 
 returns : tie.Need-returns Inv-loop μ-loop
-returns c = search needs
-
-slice-reshare-prefix-step : tie.Need-slice-reshare-prefix-step Inv-loop μ-loop
-slice-reshare-prefix-step c = search needs
-
-slice-aggregate-step : tie.Need-slice-aggregate-step Inv-loop μ-loop
-slice-aggregate-step c =
-    let I = to-else (c .before .before .before) .loop .inv in
-    simp length-take (omega (arith, I .0))
-
-step-requires : tie.Need-step-requires Inv-loop μ-loop
-step-requires c κs = search needs
-
-same-length-2 : tie.Need-same-length-2 Inv-loop μ-loop
-same-length-2 c = search needs
-
-returns-2 : tie.Need-returns-2 Inv-loop μ-loop
-returns-2 c = search needs
-
-same-length-3 : tie.Need-same-length-3 Inv-loop μ-loop
-same-length-3 c = search needs
-
-returns-3 : tie.Need-returns-3 Inv-loop μ-loop
-returns-3 c = search needs
-
-slice-aggregate-count : tie.Need-slice-aggregate-count Inv-loop μ-loop
-slice-aggregate-count c = search needs
-
-count-requires : tie.Need-count-requires Inv-loop μ-loop
-count-requires c κs = search needs
+returns c =
+    let at-loop = to-loop (c .before .before .before) in
+    let I = at-loop .loop .inv in
+    ran (I .3) (simp length-take (omega (arith, I .0, I .2, to-start at-loop .pre))) (c .finish .ensures)
 
 array-share-prefix-buf : tie.Need-array-share-prefix-buf Inv-loop μ-loop
 array-share-prefix-buf c = search needs
 
 slice-aggregate-take-chunk : tie.Need-slice-aggregate-take-chunk Inv-loop μ-loop
-slice-aggregate-take-chunk c = search needs
+slice-aggregate-take-chunk c =
+    let at-count = c .before .before in
+    simp length-take (omega (arith, at-count .count .ensures, at-count .before .before .more .ensures .0))
 
 take-chunk-requires : tie.Need-take-chunk-requires Inv-loop μ-loop
 take-chunk-requires c κs = search needs
+
+add-bytes : tie.Need-add-bytes Inv-loop μ-loop
+add-bytes c = search needs
 
 loop-less : tie.Need-loop-less Inv-loop μ-loop
 loop-less c = search needs
 
 loop-again : tie.Need-loop-again Inv-loop μ-loop
 loop-again c =
-    let at-chunk = c .before .before in
-    let at-loop = to-else (to-more at-chunk .before) in
+    let at-count = to-count c in
+    let at-loop = to-loop at-count in
     let I = at-loop .loop .inv in
-    let T = at-chunk .take-chunk in
-    (chunk-fits (T .ensures) (I .0), search needs, search needs)
+    let C = c .before .before .take-chunk .ensures in
+    let e = I .2 ∙ to-start at-loop .pre in
+    let few = at-count .before .before .more .ensures .0 in
+    let all = chunk-passes 81 e (omega arith) C in (
+      chunk-fits C (I .0),
+      search needs,
+      search needs,
+      reads-more (I .3) all refl (simp length-take (omega (arith, at-count .count .ensures, few))),
+    )
 
-same-length-4 : tie.Need-same-length-4 Inv-loop μ-loop
-same-length-4 c = search needs
+nothing-requires : tie.Need-nothing-requires Inv-loop μ-loop
+nothing-requires c κs = search needs
 
-returns-4 : tie.Need-returns-4 Inv-loop μ-loop
-returns-4 c = search needs
+same-length-2 : tie.Need-same-length-2 Inv-loop μ-loop
+same-length-2 c = search needs
+
+returns-2 : tie.Need-returns-2 Inv-loop μ-loop
+returns-2 c =
+    let at-loop = c .before .before in
+    let I = at-loop .loop .inv in
+    ran (I .3) (simp length-take (omega (arith, I .0, I .2, to-start at-loop .pre))) (breaks-off (c .nothing .ensures))
 
 pub read-all-spec : {M : Type 1} → statement M
 read-all-spec =
@@ -110,26 +114,20 @@ read-all-spec =
     μ-loop
     buffer-requires
     loop-holds
-    sub-left
-    slice-aggregate-read
-    read-requires
-    slice-aggregate-write-all
-    write-all-requires
+    slice-aggregate-more
+    more-requires
+    count-requires
+    slice-reshare-prefix-finish
+    slice-aggregate-finish
+    finish-requires
     same-length
     returns
-    slice-reshare-prefix-step
-    slice-aggregate-step
-    step-requires
-    same-length-2
-    returns-2
-    same-length-3
-    returns-3
-    slice-aggregate-count
-    count-requires
     array-share-prefix-buf
     slice-aggregate-take-chunk
     take-chunk-requires
+    add-bytes
     loop-less
     loop-again
-    same-length-4
-    returns-4)
+    nothing-requires
+    same-length-2
+    returns-2)

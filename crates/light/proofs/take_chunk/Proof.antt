@@ -6,14 +6,15 @@ use native.Mathlib.Omega.{arith}
 use Prim.Native.Nat.{_-_}
 use lib.ListN.{length, length-take}
 use Rattle.lines.proofs.laws.Once.{take-forth}
-use Rattle.light.specs.Steps.{used}
-use Rattle.light.proofs.laws.Steps.{Reaches, reaches-none, reaches-line, reaches-part}
+use Rattle.lines.specs.Running.{used}
+use Rattle.lines.proofs.laws.Running.{Reaches, reaches-none, reaches-line, reaches-part}
+use Rattle.light.specs.Steps.{Stepped}
 use borrow.Author.Needs.{needs}
 use Rattle.light.proofs.take_chunk.Statement.{statement}
 use Rattle.light.proofs.take_chunk.Tie as tie
 
 abbrev Inv-loop : tie.InvT-loop
-Inv-loop got line₀ n i₀ k₀ s₀ line i k s = Reaches got line₀ n s₀ line i k s × (length line ≡ length line₀)
+Inv-loop got line₀ n i₀ k₀ s₀ line i k s = Reaches Stepped got line₀ n s₀ line i k s × (length line ≡ length line₀)
 
 abbrev μ-loop : tie.MeasureT-loop
 μ-loop got line₀ n i₀ k₀ s₀ line i k s = length got - i
@@ -55,7 +56,7 @@ loop-again c =
     let at-loop = to-loop at-take-line in
     let I = at-loop .before .loop .inv in
     let T = at-take-line .take-line .ensures in
-    (reaches-line (I .0) (at-loop .loop-test .taken) T (at-then .if1 .taken) (c .step .ensures), T .size ∙ I .1)
+    (reaches-line (I .0) (at-loop .loop-test .taken) T _ (at-then .if1 .taken) (c .step .ensures), T .size ∙ I .1)
 
 loop-less-2 : tie.Need-loop-less-2 Inv-loop μ-loop
 loop-less-2 c =

@@ -1,14 +1,16 @@
 -- `answer` meets its contract: a call goes forth, since it has room for an answer (`feed-forth`), and call by call all of the chunk is
--- answered (`all-more`, `all-used`).
+-- answered (`calls-more`, `calls-used`).
 use borrow.Author.Needs.{needs}
 use mathlib.Core.Path.{_≡_, refl, _∙_}
 use native.Mathlib.Omega.{arith}
 use Prim.Native.Nat.{_-_, _≤_}
 use lib.ListN.{length, take, drop, length-append, length-take, length-drop}
 use Rattle.records.specs.Words.{words}
-use Rattle.feed.specs.Serving.{AllFed}
+use Rattle.lines.specs.Running.{Passes}
+use Rattle.feed.specs.Serving.{Answered}
 use Rattle.feed.proofs.laws.Turns.{feed-forth, feed-fits, feed-room}
-use Rattle.feed.proofs.laws.Serving.{all-none, all-more, all-used}
+use Rattle.feed.proofs.laws.Serving.{calls-more, calls-used}
+use Rattle.lines.proofs.laws.Running.{passes-none}
 use Rattle.serve.proofs.answer.Statement.{statement}
 use Rattle.serve.proofs.answer.Tie as tie
 
@@ -16,7 +18,7 @@ abbrev Inv-loop : tie.InvT-loop
 Inv-loop got line₀ values₀ deadlines₀ nexts₀ prevs₀ turns₀ marks₀ out₀ lists most n₀ state₀ heads₀ fine₀ i₀ line values deadlines nexts prevs turns
     marks out n state heads fine i =
     (n ≤ 81)
-    × AllFed (length line₀) (take n₀ line₀) got (words state₀ (heads₀ .rows) values₀ deadlines₀ nexts₀ prevs₀ turns₀ marks₀) (take n line)
+    × Passes Answered (length line₀) (take n₀ line₀) got (words state₀ (heads₀ .rows) values₀ deadlines₀ nexts₀ prevs₀ turns₀ marks₀) (take n line)
     (drop i got)
     (words state (heads .rows) values deadlines nexts prevs turns marks)
     × (length line ≡ length line₀)
@@ -65,7 +67,7 @@ room-requires : tie.Need-room-requires Inv-loop μ-loop
 room-requires c κs = search needs
 
 loop-holds : tie.Need-loop-holds Inv-loop μ-loop
-loop-holds c = (search needs, all-none, refl, refl, refl, refl, refl, refl, refl, refl)
+loop-holds c = (search needs, passes-none, refl, refl, refl, refl, refl, refl, refl, refl)
 
 slice-relend-prefix-answer-lines : tie.Need-slice-relend-prefix-answer-lines Inv-loop μ-loop
 slice-relend-prefix-answer-lines c = search needs
@@ -112,7 +114,7 @@ loop-again c =
     let six = lengths .1 .1 .1 .1 .1 .1 in
     let most = length-take (at-room .room .result) (at-loop .before .loop .out) in (
       omega (arith, feed-fits (A .ensures) (omega (arith, I .0, I .2, R .1)), lengths .1 .1 .0, I .2, R .1),
-      all-more (omega (arith, R .1)) (I .2) (I .1) (A .ensures),
+      calls-more (omega (arith, R .1)) (I .2) (I .1) (A .ensures),
       lengths .1 .1 .0 ∙ I .2,
       six .0 ∙ I .3,
       six .1 .0 ∙ I .4,
@@ -149,7 +151,7 @@ same-length-8 : tie.Need-same-length-8 Inv-loop μ-loop
 same-length-8 c = c .before .loop .inv .9
 
 returns : tie.Need-returns Inv-loop μ-loop
-returns c = let I = c .before .loop .inv in (I .0, all-used _ (c .loop-test .left) (I .1))
+returns c = let I = c .before .loop .inv in (I .0, calls-used _ (c .loop-test .left) (I .1))
 
 pub answer-spec : {M : Type 1} → statement M
 answer-spec =

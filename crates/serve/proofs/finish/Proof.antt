@@ -1,9 +1,12 @@
--- `finish` writes within what is lent (`last-room`), and the last line is answered, since there is room (`closed-last`).
+-- `finish` writes within what is lent (`last-room`), and where the input has ended the last line is answered, since there is room (`closes-last`).
 use borrow.Author.Needs.{needs}
+use borrow.Author.Tests.{not-true, not-false}
+use mathlib.Core.Path.{refl, sym, _∙_}
 use native.Mathlib.Omega.{arith}
 use lib.ListN.{take, length-take}
+use Rattle.lines.proofs.laws.Running.{breaks-off}
 use Rattle.feed.proofs.laws.Turns.{last-room}
-use Rattle.feed.proofs.laws.Serving.{closed-last}
+use Rattle.feed.proofs.laws.Serving.{closes-last}
 use Rattle.serve.proofs.finish.Statement.{statement}
 use Rattle.serve.proofs.finish.Tie as tie
 
@@ -15,19 +18,38 @@ to-answer-last c =
     let e = d .before .before .before .before in
     e .before .before
 
-abbrev to-lent : tie.After-answer-last → tie.After-answer-last-arg
-to-lent c =
-    let a = c .before .before .before .before in
-    a .before .before .before .before
-
-abbrev to-start : tie.After-answer-last-arg → tie.Start
-to-start c =
+abbrev to-else : tie.After-answer-last → tie.Else1
+to-else c =
     let a = c .before .before .before .before in
     let b = a .before .before .before .before in
     b .before .before .before
 
+abbrev arg-else : tie.After-answer-last-arg → tie.Else1
+arg-else c = c .before .before .before
+
+abbrev to-start : tie.Else1 → tie.Start
+to-start c =
+    let a = c .before .before .before .before in
+    let b = a .before .before .before .before in
+    b .before .before
+
+abbrev failed : tie.After-write-all → tie.Then1
+failed c = c .before .before
+
+at-end-requires : tie.Need-at-end-requires
+at-end-requires c κs = search needs
+
+slice-aggregate-write-all : tie.Need-slice-aggregate-write-all
+slice-aggregate-write-all c = search needs
+
+write-all-requires : tie.Need-write-all-requires
+write-all-requires c κs = search needs
+
+returns : tie.Need-returns
+returns c = let f = failed c in breaks-off (sym (f .before .at-end .ensures) ∙ not-true _ (f .if1 .taken))
+
 slice-aggregate-answer-last : tie.Need-slice-aggregate-answer-last
-slice-aggregate-answer-last c = let R = to-start c .pre in simp length-take (omega (arith, R .0, R .1))
+slice-aggregate-answer-last c = let R = to-start (arg-else c) .pre in simp length-take (omega (arith, R .0, R .1))
 
 answer-last-requires : tie.Need-answer-last-requires
 answer-last-requires c κs = search needs
@@ -56,16 +78,23 @@ same-length-6 c = search needs
 same-length-7 : tie.Need-same-length-7
 same-length-7 c = search needs
 
-returns : tie.Need-returns
-returns c =
+returns-2 : tie.Need-returns-2
+returns-2 c =
     let at-answer-last = to-answer-last (c .before .before .before) in
-    let start = to-start (to-lent at-answer-last) in
-    closed-last (take (start .args .run .kept) (start .args .line .now)) (omega (arith, start .pre .2)) (at-answer-last .answer-last .ensures)
+    let at-else = to-else at-answer-last in
+    let start = to-start at-else in
+    closes-last (take (start .args .run .kept) (start .args .line .now)) (sym (at-else .before .at-end .ensures) ∙ not-false _ (at-else .if1 .left))
+    (omega (arith, start .pre .2))
+    (at-answer-last .answer-last .ensures)
 
 pub finish-spec : {M : Type 1} → statement M
 finish-spec =
     tie.close
     (tie.spec
+    at-end-requires
+    slice-aggregate-write-all
+    write-all-requires
+    returns
     slice-aggregate-answer-last
     answer-last-requires
     put-requires
@@ -76,4 +105,4 @@ finish-spec =
     same-length-5
     same-length-6
     same-length-7
-    returns)
+    returns-2)

@@ -1,2 +1,0 @@
--- What a read gives.
-pub mod Read
