@@ -4,7 +4,7 @@ use mathlib.Core.List.{List, [], _∷_, _++_}
 use Prim.Native.Nat.{ℕ, _≤_}
 use lib.ListN.{length}
 use Rattle.records.specs.Words.{QueueWords}
-use Rattle.lines.specs.Lines.{last, joined}
+use Rattle.lines.specs.Lines.{last}
 use Rattle.lines.specs.Passed.{Passed}
 use Rattle.feed.specs.Replies.{Reply, Replies}
 

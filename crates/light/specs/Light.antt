@@ -2,10 +2,11 @@
 use mathlib.Core.Path.{_≡_}
 use mathlib.Core.Bool.{cond}
 use mathlib.Core.List.{List, [], _∷_, _++_}
-use Prim.Native.Nat.{ℕ, zero, suc, _+_, _/_, _%_, _^_, _≤_}
+use Prim.Native.Nat.{ℕ, _+_, _≤_}
 use Prim.Native.Char.{code}
 use lib.Dec.{ltb}
 use Rattle.decimals.specs.Text.{bytes, Decimal}
+use Rattle.writing.specs.Writing.{digitsOf}
 use Rattle.gauge.specs.declared.Gauge.{Gauge}
 use Rattle.gauge.specs.declared.Light.{Light}
 use Rattle.gauge.specs.declared.Light.the-variants as L
@@ -35,9 +36,8 @@ abbrev pub digitOf : ℕ → ℕ
 digitOf d = cond (ltb d 10) (code "0" + d) (87 + d)
 
 -- the last k hex digits of n
-unfoldable pub hexOf : ℕ → ℕ → List ℕ
-hexOf zero n = []
-hexOf (suc k) n = digitOf (n / 16 ^ k % 16) ∷ hexOf k n
+abbrev pub hexOf : ℕ → ℕ → List ℕ
+hexOf k n = digitsOf digitOf 16 k n
 
 unfoldable pub lineOf : Light → ℕ → ℕ → List ℕ
 lineOf light smoothed worst = (wordOf light ++ bytes " ") ++ (hexOf 16 smoothed ++ (bytes " " ++ (hexOf 16 worst ++ code "\n" ∷ [])))

@@ -17,7 +17,8 @@ ghost use Rattle.decimals.specs.Text.{bytes};
 ghost use Rattle.lines.specs.Running.{Chunk, Closes, Ran};
 ghost use Rattle.light.specs.Light.{wordOf, digitOf, hexOf, lineOf};
 ghost use Rattle.light.specs.Steps.{AmountOf, Stepped};
-ghost use Rattle.light.specs.Writing.{Wrote, TextClaim};
+ghost use Rattle.writing.specs.Writing.{Wrote};
+ghost use Rattle.light.specs.Writing.{TextClaim};
 
 // What the lines so far have said.
 enum State {
@@ -84,19 +85,6 @@ fn take_chunk(got: &[u8], line: &mut [u8], n: usize, state: State) -> Found
     Found { kept: k, state: s }
 }
 
-// Writes src into out from at on, and says where it ends.
-fn push(out: &mut [u8], at: usize, src: &[u8]) -> usize
-    requires { ⌜ at + length (now src) ≤ length (now out) ⌝ }
-    ensures { λ r. ⌜ Wrote (old out) at (old src) r (new out) ⌝ }
-{
-    let mut i: usize = 0;
-    while i < src.len() {
-        out[at + i] = src[i];
-        i += 1;
-    }
-    at + i
-}
-
 // A hex digit, lower-case.
 fn digit(d: u64) -> u8
     requires { ⌜ d < 16 ⌝ }
@@ -108,7 +96,7 @@ fn digit(d: u64) -> u8
     b'a' - 10 + d as u8
 }
 
-// The same as `push` for the 16 hex digits of n.
+// Writes the 16 hex digits of n into out from at on, and says where they end.
 fn push_hex(out: &mut [u8], at: usize, n: u64) -> usize
     requires { ⌜ at + 16 ≤ length (now out) ⌝ }
     ensures { λ r. ⌜ Wrote (old out) at (hexOf 16 n) r (new out) ⌝ }
@@ -131,9 +119,9 @@ fn push_word(out: &mut [u8], light: Light) -> usize
     ensures { λ r. ⌜ Wrote (old out) 0 (wordOf light ++ bytes " ") r (new out) ⌝ }
 {
     match light {
-        Light::Calm => push(out, 0, b"calm "),
-        Light::Slow(_s) => push(out, 0, b"slow "),
-        Light::Late(_w) => push(out, 0, b"late "),
+        Light::Calm => writing::push(out, 0, b"calm "),
+        Light::Slow(_s) => writing::push(out, 0, b"slow "),
+        Light::Late(_w) => writing::push(out, 0, b"late "),
     }
 }
 
@@ -144,9 +132,9 @@ fn push_light(out: &mut [u8], light: Light, smoothed: u64, worst: u64) -> usize
 {
     let a = push_word(out, light);
     let b = push_hex(out, a, smoothed);
-    let c = push(out, b, b" ");
+    let c = writing::push(out, b, b" ");
     let d = push_hex(out, c, worst);
-    push(out, d, b"\n")
+    writing::push(out, d, b"\n")
 }
 
 // Writes what the program says of all lines to the front of out, and says where it ends: at 0, with out unchanged, where

@@ -1,7 +1,7 @@
 -- For a program that takes the lines of its input one after the other. Takes l a b says what it does with one: the line l makes b of a.
 use mathlib.Core.Path.{_≡_}
 use mathlib.Core.Bool.{Bool, true, false}
-use mathlib.Core.List.{List, [], _∷_, _++_}
+use mathlib.Core.List.{List, [], _∷_}
 use Prim.Native.Nat.{ℕ, _≤_, _<_}
 use lib.ListN.{length, take}
 use Rattle.lines.specs.Lines.{last, joined}

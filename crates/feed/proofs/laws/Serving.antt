@@ -1,16 +1,15 @@
 -- The program's whole run: what it writes is the answers to the lines of what it read, one a line and in their order, however the input was
 -- cut into chunks.
 use mathlib.Core.Path.{_≡_, refl, sym, ap, _∙_, subst}
-use mathlib.Core.Bool.{Bool, true, false, true≢false}
+use mathlib.Core.Bool.{Bool, true, true≢false}
 use mathlib.Core.List.{List, [], _∷_, _++_, append-nil, append-assoc}
 use Prim.Native.Nat.{ℕ, _+_, _≤_, _<_}
 use native.Mathlib.Omega.{arith}
-use lib.ListN.{length, take, drop, length-append, drop-of-length-le}
+use lib.ListN.{length, take, drop, drop-of-length-le}
 use lib.Seq.{take-all}
 use Rattle.records.specs.Words.{QueueWords}
 use Rattle.asking.specs.Text.{Says}
 use Rattle.lines.specs.Lines.{linesFrom, linesOf, firsts, last, joined}
-use Rattle.lines.specs.Passed.{Passed}
 use Rattle.lines.specs.Running.{Along, none as no-line, more, Passes, Closes, Ran}
 use Rattle.lines.proofs.laws.Lines.{whole-line, input-ends}
 use Rattle.lines.proofs.laws.Passed.{passed-none, passed-more, passed-line, passed-end}

@@ -1,12 +1,11 @@
 -- Each claim leaves one outcome.
-use mathlib.Core.Path.{_≡_, refl, sym, ap, ap₂, _∙_, subst}
-use mathlib.Core.Bool.{true, false, true≢false, false≢true}
+use mathlib.Core.Path.{_≡_, refl, sym, ap, _∙_}
 use mathlib.Core.Logic.{by-cases}
-use mathlib.Core.List.{List, [], _∷_, List-discrete}
-use Prim.Native.Nat.{ℕ, _≤_, _<_}
+use mathlib.Core.List.{List, _∷_, List-discrete}
+use Prim.Native.Nat.{ℕ, _≤_}
 use native.Mathlib.Decide.{ℕ-discrete, decLt}
 use native.Mathlib.Omega.{arith}
-use lib.ListN.{length, take}
+use lib.ListN.{length}
 use Rattle.lines.specs.Running.{Chunk}
 use Rattle.lines.proofs.laws.Running.{chunk-once as once-a-chunk}
 use Rattle.decimals.specs.declared.Num.{Num}
@@ -15,7 +14,7 @@ use Rattle.decimals.proofs.laws.Decimals.{one-number}
 use Rattle.light.specs.declared.State.{State}
 use Rattle.light.specs.Light.{Amounts, Writes}
 use Rattle.light.specs.Steps.{AmountOf, next, Stepped}
-use Rattle.light.specs.Writing.{Fronts}
+use Rattle.writing.specs.Writing.{Fronts}
 
 pub amount-once : (l : List ℕ) (r s : Num) → AmountOf l r → AmountOf l s → r ≡ s
 amount-once l (N.Is n) (N.Is m) p q = ap (λ (x : ℕ). N.Is x) (one-number (p .0) (q .0))

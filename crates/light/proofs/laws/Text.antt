@@ -18,8 +18,10 @@ use Rattle.gauge.proofs.laws.Latenesses.{float-limit}
 use Rattle.light.specs.declared.State.{State}
 use Rattle.light.specs.declared.State.the-variants as S
 use Rattle.light.specs.Light.{lineOf, shown, bad}
-use Rattle.light.specs.Writing.{Wrote, Fronts, textOf}
-use Rattle.light.proofs.laws.Writing.{line-length, wrote-front, no-room, wrote-bad}
+use Rattle.writing.specs.Writing.{Wrote, Fronts}
+use Rattle.light.specs.Writing.{textOf}
+use Rattle.writing.proofs.laws.Writing.{wrote-front, no-room}
+use Rattle.light.proofs.laws.Writing.{line-length, wrote-bad}
 
 the-light : {a b : Light} → R.Shows a ≡ R.Shows b → a ≡ b
 the-light e = cc

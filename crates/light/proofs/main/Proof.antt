@@ -1,7 +1,7 @@
 -- `main` writes what `text` has written, which lies within the room (`front-within`).
 use native.Mathlib.Omega.{arith}
 use lib.ListN.{length-take}
-use Rattle.light.proofs.laws.Writing.{front-within}
+use Rattle.writing.proofs.laws.Writing.{front-within}
 use borrow.Author.Needs.{needs}
 use Rattle.light.proofs.main.Statement.{statement}
 use Rattle.light.proofs.main.Tie as tie

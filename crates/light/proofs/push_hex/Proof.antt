@@ -1,21 +1,23 @@
--- `push_hex` writes digit after digit, the first first (`hex-turn`).
+-- `push_hex` writes digit after digit, the first first (`digits-turn`).
 use borrow.Author.Needs.{needs}
 use native.Mathlib.Omega.{arith}
-use Rattle.light.proofs.laws.Writing.{Hexing, power-pos, hex-start, hex-turn, hex-end}
+use mathlib.Core.Path.{refl}
+use Rattle.writing.proofs.laws.Writing.{Digits, power-pos, digits-start, digits-turn, digits-end}
+use Rattle.light.specs.Light.{digitOf}
 use Rattle.light.proofs.push_hex.Statement.{statement}
 use Rattle.light.proofs.push_hex.Tie as tie
 
 abbrev Inv-loop : tie.InvT-loop
-Inv-loop out₀ at n a₀ i₀ p₀ out a i p = Hexing out₀ at n out a i p
+Inv-loop out₀ at n a₀ i₀ p₀ out a i p = Digits digitOf 16 out₀ at 16 n out a i p
 
 abbrev μ-loop : tie.MeasureT-loop
 μ-loop out₀ at n a₀ i₀ p₀ out a i p = i
 
 loop-holds : tie.Need-loop-holds Inv-loop μ-loop
-loop-holds c = hex-start
+loop-holds c = digits-start refl
 
 div-digit : tie.Need-div-digit Inv-loop μ-loop
-div-digit c = let I = c .before .loop .inv in rw (I .weight) (power-pos _ (c .loop-test .taken))
+div-digit c = let I = c .before .loop .inv in rw (I .weight) (power-pos 16 _ (omega arith) (c .loop-test .taken))
 
 digit-requires : tie.Need-digit-requires Inv-loop μ-loop
 digit-requires c κs = omega arith
@@ -35,13 +37,13 @@ loop-less : tie.Need-loop-less Inv-loop μ-loop
 loop-less c = omega (arith, c .before .loop-test .taken)
 
 loop-again : tie.Need-loop-again Inv-loop μ-loop
-loop-again c = hex-turn _ (c .before .before .loop .inv) (c .before .loop-test .taken) (c .before .before .before .before .pre) (c .digit .ensures)
+loop-again c = digits-turn _ (c .before .before .loop .inv) (omega arith) (c .before .loop-test .taken) (c .before .before .before .before .pre) (c .digit .ensures)
 
 same-length : tie.Need-same-length Inv-loop μ-loop
 same-length c = c .before .loop .inv .size
 
 returns : tie.Need-returns Inv-loop μ-loop
-returns c = hex-end (c .before .loop .inv) (c .loop-test .left)
+returns c = digits-end (c .before .loop .inv) (c .loop-test .left)
 
 pub push-hex-spec : {M : Type 1} → statement M
 push-hex-spec =

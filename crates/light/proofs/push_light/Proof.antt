@@ -1,6 +1,8 @@
 -- `push_light` writes word, smoothed, space, worst and newline, one behind the other (`line-wrote`).
 use native.Mathlib.Omega.{arith}
-use Rattle.light.proofs.laws.Writing.{hex-length, word-length, line-wrote}
+use Rattle.writing.proofs.laws.Writing.{digits-length}
+use Rattle.light.specs.Light.{digitOf}
+use Rattle.light.proofs.laws.Writing.{word-length, line-wrote}
 use borrow.Author.Needs.{needs}
 use Rattle.light.proofs.push_light.Statement.{statement}
 use Rattle.light.proofs.push_light.Tie as tie
@@ -39,7 +41,7 @@ push-requires c κs =
     let at-word = word (at-smoothed .before) in
     let W = at-word .push-word .ensures in
     let a = start at-word in
-    omega (arith, S .end, S .size, hex-length 16 (a .args .smoothed), W .end, W .size, word-length (a .args .light), a .pre)
+    omega (arith, S .end, S .size, digits-length digitOf 16 16 (a .args .smoothed), W .end, W .size, word-length (a .args .light), a .pre)
 
 push-hex-requires-2 : tie.Need-push-hex-requires-2
 push-hex-requires-2 c κs =
@@ -50,7 +52,7 @@ push-hex-requires-2 c κs =
     let at-word = word (at-smoothed .before) in
     let W = at-word .push-word .ensures in
     let a = start at-word in
-    omega (arith, P .end, P .size, S .end, S .size, hex-length 16 (a .args .smoothed), W .end, W .size, word-length (a .args .light), a .pre)
+    omega (arith, P .end, P .size, S .end, S .size, digits-length digitOf 16 16 (a .args .smoothed), W .end, W .size, word-length (a .args .light), a .pre)
 
 slice-aggregate-push-2 : tie.Need-slice-aggregate-push-2
 slice-aggregate-push-2 c = search needs
@@ -67,8 +69,8 @@ push-requires-2 c κs =
     let W = at-word .push-word .ensures in
     let a = start at-word in
     let word-5 = word-length (a .args .light) in
-    let hex-16 = hex-length 16 (a .args .smoothed) in
-    omega (arith, Z .end, Z .size, hex-length 16 (a .args .worst), P .end, P .size, S .end, S .size, hex-16, W .end, W .size, word-5, a .pre)
+    let hex-16 = digits-length digitOf 16 16 (a .args .smoothed) in
+    omega (arith, Z .end, Z .size, digits-length digitOf 16 16 (a .args .worst), P .end, P .size, S .end, S .size, hex-16, W .end, W .size, word-5, a .pre)
 
 same-length : tie.Need-same-length
 same-length c = search needs

@@ -1,6 +1,6 @@
 -- `read_all` meets its claim: what a read gave is taken (`reads-more`), what is kept lies within the room of a line (`chunk-fits`), and at the end
 -- `finish` takes it (`ran`).
-use mathlib.Core.Path.{_≡_, refl, ap, _∙_}
+use mathlib.Core.Path.{_≡_, refl, _∙_}
 use mathlib.Core.List.{[]}
 use Prim.Native.Nat.{_-_, _≤_}
 use native.Mathlib.Omega.{arith}

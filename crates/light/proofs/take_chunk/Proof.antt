@@ -1,7 +1,6 @@
 -- `take_chunk` meets its claim: what comes of where it stands comes of where it began (`Reaches`), and a line, or a part of one, does not change
 -- that (`reaches-line`, `reaches-part`).
 use mathlib.Core.Path.{_≡_, refl, _∙_}
-use mathlib.Core.Bool.{true, false}
 use native.Mathlib.Omega.{arith}
 use Prim.Native.Nat.{_-_}
 use lib.ListN.{length, length-take}

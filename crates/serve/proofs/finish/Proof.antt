@@ -1,7 +1,7 @@
 -- `finish` writes within what is lent (`last-room`), and where the input has ended the last line is answered, since there is room (`closes-last`).
 use borrow.Author.Needs.{needs}
 use borrow.Author.Tests.{not-true, not-false}
-use mathlib.Core.Path.{refl, sym, _∙_}
+use mathlib.Core.Path.{sym, _∙_}
 use native.Mathlib.Omega.{arith}
 use lib.ListN.{take, length-take}
 use Rattle.lines.proofs.laws.Running.{breaks-off}

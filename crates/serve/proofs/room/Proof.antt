@@ -1,6 +1,6 @@
 -- `room` gives the room of one answer, or the whole buffer.
-use mathlib.Core.Path.{_≡_, refl, sym, _∙_}
-use mathlib.Core.Bool.{true, false, true≢false, false≢true}
+use mathlib.Core.Path.{refl, sym, _∙_}
+use mathlib.Core.Bool.{true≢false, false≢true}
 use native.Mathlib.Omega.{arith}
 use Rattle.serve.proofs.room.Statement.{statement}
 use Rattle.serve.proofs.room.Tie as tie

@@ -1,7 +1,7 @@
 -- `serve` meets its claim: what a read gave is answered (`reads-more`), and at the end of the input what is kept (`ran`).
 use borrow.Author.Needs.{needs}
 use native.Mathlib.Omega.{arith}
-use mathlib.Core.Path.{_≡_, refl, sym, ap, _∙_}
+use mathlib.Core.Path.{_≡_, refl, _∙_}
 use Prim.Native.Nat.{_-_, _≤_, _<_}
 use lib.ListN.{length, take, length-take}
 use Rattle.records.specs.Words.{words}

@@ -4,10 +4,10 @@ use mathlib.Core.Path.{_≡_, refl, _∙_}
 use Prim.Native.Nat.{ℕ, _+_, _-_, _≤_}
 use native.Mathlib.Omega.{arith}
 use lib.ListN.{length, take, length-set}
-use Rattle.light.specs.Writing.{Wrote}
-use Rattle.light.proofs.laws.Writing.{push-start, push-turn, push-end}
-use Rattle.light.proofs.push.Statement.{statement}
-use Rattle.light.proofs.push.Tie as tie
+use Rattle.writing.specs.Writing.{Wrote}
+use Rattle.writing.proofs.laws.Writing.{push-start, push-turn, push-end}
+use Rattle.writing.proofs.push.Statement.{statement}
+use Rattle.writing.proofs.push.Tie as tie
 
 abbrev Inv-loop : tie.InvT-loop
 Inv-loop out₀ at src i₀ out i = Wrote out₀ at (take i src) (at + i) out × (i ≤ length src) × (length out ≡ length out₀)

@@ -1,0 +1,2 @@
+-- What writers leave.
+pub mod Writing
