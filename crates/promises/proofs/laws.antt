@@ -1,6 +1,7 @@
 pub mod Bounded
 pub mod Cleared
 pub mod Clock
+pub mod Cut
 pub mod Decided
 pub mod Does
 pub mod Eleven

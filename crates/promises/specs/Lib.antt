@@ -1,3 +1,4 @@
+pub mod Alike
 pub mod Bounded
 pub mod Cleared
 pub mod Does
