@@ -1,7 +1,9 @@
+pub mod Alike
 pub mod Bounded
 pub mod Cleared
 pub mod Clock
 pub mod Cut
+pub mod CutCalls
 pub mod Decided
 pub mod Does
 pub mod Eleven
@@ -14,6 +16,7 @@ pub mod KeysReach
 pub mod KeysStay
 pub mod Looking
 pub mod Lost
+pub mod Masked
 pub mod Met
 pub mod Mornings
 pub mod Moves
