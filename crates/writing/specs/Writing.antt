@@ -20,3 +20,8 @@ pub record Fronts (l o : List ℕ) (r : ℕ) (o′ : List ℕ) : Type 0 where
 unfoldable pub digitsOf : (ℕ → ℕ) → ℕ → ℕ → ℕ → List ℕ
 digitsOf g b zero n = []
 digitsOf g b (suc k) n = g (n / b ^ k % b) ∷ digitsOf g b k n
+
+-- what the first of n digits to the base b is worth, where it is 1
+abbrev pub power : ℕ → ℕ → ℕ
+power b zero = 0
+power b (suc k) = b ^ k

@@ -10,7 +10,7 @@ use native.Mathlib.Nat.{pow-zero, pow-suc, one-le-pow}
 use lib.Arith.{digits-div}
 use lib.ListN.{length, getD, take, drop, set, length-append, length-set, take-append-drop}
 use lib.Seq.{take-suc, take-all, take-suc-set, drop-drop, drop-set-lt}
-use Rattle.writing.specs.Writing.{Wrote, Fronts, digitsOf}
+use Rattle.writing.specs.Writing.{Wrote, Fronts, digitsOf, power}
 
 -- what is the same from r on is the same from k on
 same-rest : (r k : ℕ) (p o : List ℕ) → r ≤ k → drop r p ≡ drop r o → drop k p ≡ drop k o
@@ -38,6 +38,16 @@ module _ {o : List ℕ} {at : ℕ} where
         size = x .size ∙ w .size;
       }
 
+-- what stands in o then is one text alone
+pub wrote-once : {o : List ℕ} {at : ℕ} {s : List ℕ} {m n : ℕ} {p q : List ℕ} → Wrote o at s m p → Wrote o at s n q → (m ≡ n) × (p ≡ q)
+wrote-once {o} {at} {s} {m} {n} {p} {q} v w =
+    let e : m ≡ n = v .end ∙ sym (w .end) in (
+      e,
+      sym (take-append-drop m p)
+          ∙ ap₂ (λ (x y : List ℕ). x ++ y) (v .text ∙ sym (w .text)) (v .rest ∙ ap (λ (k : ℕ). drop k o) e ∙ sym (w .rest))
+          ∙ take-append-drop n q,
+    )
+
 -- ---- the turns of `push`
 
 pub push-start : {o : List ℕ} {at : ℕ} → Wrote o at [] (at + 0) o
@@ -58,10 +68,6 @@ module _ {o : List ℕ} {at : ℕ} (src : List ℕ) (i : ℕ) where
   push-end {p} w h = subst (λ (y : List ℕ). Wrote o at y (at + i) p) (take-all i src h) w
 
 -- ---- the turns of a writer of digits: the first are written, and the last i of m are to come, the first of them p times what it shows
-
-abbrev pub power : ℕ → ℕ → ℕ
-power b zero = 0
-power b (suc k) = b ^ k
 
 power-down : (b k : ℕ) → 1 < b → power b (suc k) / b ≡ power b k
 power-down b zero h =
