@@ -1,63 +1,18 @@
 // The contents of a store's lists as one line: `# e=64 x=[2] 0.6=[0,1]` is elapsed, the expired stack, and LEVEL.SLOT with the
 // records in it, head first. What lies in the lists is tested here and not asked for, so a broken store has its line too.
-use libc::STDOUT_FILENO;
+use pen::Pen;
 use wheel::Wheel;
 ghost use Prim.Native.Nat.{_≤_};
 ghost use lib.ListN.{length};
 ghost use Rattle.contracts.specs.Lent.{old};
 
-// How many bytes wait to be written, and whether all writes went well.
-pub struct Pen {
-    pub at: usize,
-    pub fine: bool,
-}
-
-// One byte more. What waits is written first where it fills the room that is lent.
-fn byte(out: &mut [u8], pen: Pen, b: u8) -> Pen
-    ensures { λ r. ⌜ r .at ≤ length (old out) ⌝ }
-{
-    let at = pen.at;
-    if at < out.len() {
-        out[at] = b;
-        return Pen {
-            at: at + 1,
-            fine: pen.fine,
-        };
-    }
-    let written = io::write_all(STDOUT_FILENO, out);
-    if out.len() == 0 {
-        return Pen { at: 0, fine: false };
-    }
-    out[0] = b;
-    Pen {
-        at: 1,
-        fine: pen.fine & written,
-    }
-}
-
-fn text(out: &mut [u8], pen: Pen, s: &[u8]) -> Pen {
-    let mut p = pen;
-    let mut i: usize = 0;
-    while i < s.len() {
-        p = byte(out, p, s[i]);
-        i += 1;
-    }
-    p
-}
-
-fn number(out: &mut [u8], pen: Pen, x: u64) -> Pen {
-    let mut digits = [0u8; 20];
-    let k = io::decimal(x, &mut digits);
-    text(out, pen, &digits[..k])
-}
-
 // A record of a list, behind a comma unless it is the head.
 fn member(out: &mut [u8], pen: Pen, head: bool, i: u16) -> Pen {
     if head {
-        return number(out, pen, i as u64);
+        return pen::number(out, pen, i as u64);
     }
-    let p = byte(out, pen, b',');
-    number(out, p, i as u64)
+    let p = pen::byte(out, pen, b',');
+    pen::number(out, p, i as u64)
 }
 
 // The record behind i, nobody where i is no record.
@@ -71,18 +26,18 @@ fn after(nexts: &[u16], i: u16) -> u16 {
 
 // The list whose head is h. No list of n records is longer than n, so that the walk of one that goes round ends too.
 fn list(out: &mut [u8], pen: Pen, nexts: &[u16], n: u16, h: u16) -> Pen {
-    let mut p = byte(out, pen, b'[');
+    let mut p = pen::byte(out, pen, b'[');
     let mut i = h;
     let mut left = n;
     while 0 < left {
         if i == links::NOBODY {
-            return byte(out, p, b']');
+            return pen::byte(out, p, b']');
         }
         p = member(out, p, left == n, i);
         i = after(nexts, i);
         left -= 1;
     }
-    byte(out, p, b']')
+    pen::byte(out, p, b']')
 }
 
 // Slot s of level k, whose head is h. Nothing where it is empty.
@@ -90,11 +45,11 @@ fn slot(out: &mut [u8], pen: Pen, nexts: &[u16], n: u16, k: u64, s: u64, h: u16)
     if h == links::NOBODY {
         return pen;
     }
-    let p = byte(out, pen, b' ');
-    let q = number(out, p, k);
-    let r = byte(out, q, b'.');
-    let t = number(out, r, s);
-    let u = byte(out, t, b'=');
+    let p = pen::byte(out, pen, b' ');
+    let q = pen::number(out, p, k);
+    let r = pen::byte(out, q, b'.');
+    let t = pen::number(out, r, s);
+    let u = pen::byte(out, t, b'=');
     list(out, u, nexts, n, h)
 }
 
@@ -117,9 +72,9 @@ fn slots(out: &mut [u8], pen: Pen, state: Wheel, heads: &[[u16; 64]; 6], nexts: 
 
 // Elapsed, and the name of the expired stack.
 fn opening(out: &mut [u8], pen: Pen, elapsed: u64) -> Pen {
-    let p = text(out, pen, b"# e=");
-    let q = number(out, p, elapsed);
-    text(out, q, b" x=")
+    let p = pen::text(out, pen, b"# e=");
+    let q = pen::number(out, p, elapsed);
+    pen::text(out, q, b" x=")
 }
 
 // The line of a store, behind the bytes of out that wait. Where out is full, what waits is written to standard output.
@@ -136,5 +91,5 @@ pub fn write_lists(
     let p = opening(out, pen, state.elapsed);
     let q = list(out, p, nexts, stacks.n, stacks.expired);
     let r = slots(out, q, state, &heads, nexts);
-    byte(out, r, b'\n')
+    pen::byte(out, r, b'\n')
 }

@@ -2,11 +2,11 @@
 // What is read and written no contract can say: it reads a chunk, has `feed` answer its lines until it is used up, and
 // writes all that was answered after each call, so that nothing waits while it reads. That is a `Serving` of the crate
 // feed, whose law `all-answered` says what is written; of what the loop claims, its law `ran-answers`.
-use contents::Pen;
 use delay_queue::Heads;
 use input::Got;
 use libc::STDERR_FILENO;
 use libc::STDOUT_FILENO;
+use pen::Pen;
 use wheel::Wheel;
 ghost use mathlib.Core.Path.{_≡_};
 ghost use mathlib.Core.Bool.{true, false};

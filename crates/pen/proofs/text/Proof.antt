@@ -3,8 +3,8 @@ use borrow.Author.Needs.{needs}
 use mathlib.Core.Path.{_≡_}
 use Prim.Native.Nat.{_≤_, _-_}
 use lib.ListN.{length}
-use Rattle.contents.proofs.text.Statement.{statement}
-use Rattle.contents.proofs.text.Tie as tie
+use Rattle.pen.proofs.text.Statement.{statement}
+use Rattle.pen.proofs.text.Tie as tie
 
 abbrev Inv-loop : tie.InvT-loop
 Inv-loop out₀ s p₀ i₀ out p i = (i ≤ length s) × (length out ≡ length out₀)
