@@ -79,7 +79,7 @@ impl Taker for Lines {
     }
 }
 
-/// Gives lines until the taker is full.
+/// Gives lines until the taker is full. If it has a store, they go on with that.
 pub fn give(seed: u64, most_records: u64, taker: &mut impl Taker) {
     let mut generator = Generator {
         rng: Rng::new(seed),
@@ -107,6 +107,15 @@ struct Generator<'a, T> {
 
 impl<T: Taker> Generator<'_, T> {
     fn run(&mut self) {
+        if self.store().is_none() {
+            self.start();
+        }
+        while !self.taker.full() {
+            self.stretch();
+        }
+    }
+
+    fn start(&mut self) {
         // These meet no store yet.
         for _ in 0..self.rng.below(6) {
             self.step();
@@ -118,9 +127,6 @@ impl<T: Taker> Generator<'_, T> {
             }
         }
         self.format();
-        while !self.taker.full() {
-            self.stretch();
-        }
     }
 
     fn store(&self) -> Option<&Store> {

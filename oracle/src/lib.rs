@@ -20,6 +20,7 @@ pub mod compare;
 pub mod exit;
 pub mod gauge;
 pub mod generator;
+pub mod journal;
 pub mod line;
 mod malformed;
 mod original;

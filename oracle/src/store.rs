@@ -227,6 +227,11 @@ impl Store {
         freed.chain(self.fresh..self.size())
     }
 
+    /// Those that never will be again, in rising number.
+    pub fn retired(&self) -> impl Iterator<Item = usize> + '_ {
+        (0..self.size()).filter(|&record| self.records[record].place == Place::Retired)
+    }
+
     /// All pending timers, by place, head first.
     pub fn entries(&self, into: &mut Vec<Entry>) {
         into.clear();

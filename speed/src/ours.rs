@@ -11,6 +11,9 @@ type Command = [u64; 2];
 pub type Call = [u64; 4];
 /// An answer: its number, in the order of `Answer` in crates/queue, and its parts.
 pub type Answer = [u64; 6];
+/// Of a journal: the length kept, where reading stopped and why, by its number in the order of `Ending` in crates/entries, and the
+/// number that a step got there.
+pub type Told = [u64; 4];
 
 pub const FORMAT: u64 = 0;
 
@@ -27,6 +30,8 @@ extern "C" {
         prevs: *mut u16, p: usize, turns: *mut u64, t: usize, marks: *mut u16, m: usize, script: *const u64, words: usize) -> u64;
     fn harness_judged(state: &mut State, heads: &mut Heads, values: *mut u64, v: usize, deadlines: *mut u64, d: usize, nexts: *mut u16, x: usize,
         prevs: *mut u16, p: usize, turns: *mut u64, t: usize, marks: *mut u16, m: usize, script: *const u64, words: usize) -> u64;
+    fn harness_replay(state: &mut State, heads: &mut Heads, values: *mut u64, v: usize, deadlines: *mut u64, d: usize, nexts: *mut u16, x: usize,
+        prevs: *mut u16, p: usize, turns: *mut u64, t: usize, marks: *mut u16, m: usize, bytes: *const u8, size: usize, told: &mut Told);
 }
 
 /// A store, lent anew to each call.
@@ -105,5 +110,12 @@ impl Store {
     /// The whole script by the calls that judge first.
     pub fn judged(&mut self, script: &[Command]) -> u64 {
         lend!(harness_judged, self, script.as_ptr().cast(), 2 * script.len())
+    }
+
+    /// Recovery from the bytes of a journal, from no store.
+    pub fn replay(&mut self, bytes: &[u8]) -> Told {
+        let mut told = [u64::MAX; 4];
+        lend!(harness_replay, self, bytes.as_ptr(), bytes.len(), &mut told);
+        told
     }
 }

@@ -1,6 +1,7 @@
-// What the benchmark (speed/) and the comparison at scale (oracle/scale) call: the queue with and without the judge, the judge alone, and the
-// gauge.
+// What the benchmark (speed/) and the comparison at scale (oracle/scale) call: the queue with and without the judge, the judge alone, the
+// gauge, and recovery.
 use delay_queue::Call;
+use entries::Ending;
 use gauge::Light;
 use gauge::Reading;
 use queue::Answer;
@@ -747,4 +748,40 @@ pub extern "C" fn harness_gauge(times: &[u64], slow: f64, late: f64, told: &mut 
         gauge::bits_of(g.smoothed),
         gauge::bits_of(g.worst),
     ];
+}
+
+// Why reading stopped, as two words: 0 a cut, 1 a bad kind, 2 a 1 where zero is due, 3 a broken pair, or 4 and the number that a step gets.
+fn ending_words(ending: Ending) -> [u64; 2] {
+    match ending {
+        Ending::Cut => [0, 0],
+        Ending::Kind => [1, 0],
+        Ending::Zero => [2, 0],
+        Ending::Pair => [3, 0],
+        Ending::Gets(number) => [4, number],
+    }
+}
+
+// Recovery from the bytes of a journal. What is lent is no store before; after it holds the one that is recovered. Told are the length kept,
+// where reading stopped, and the words of why.
+#[no_mangle]
+pub extern "C" fn harness_replay(
+    state: &mut [u64; 10],
+    heads: &mut [[u16; 64]; 6],
+    values: &mut [u64],
+    deadlines: &mut [u64],
+    nexts: &mut [u16],
+    prevs: &mut [u16],
+    turns: &mut [u64],
+    marks: &mut [u16],
+    bytes: &[u8],
+    told: &mut [u64; 4],
+) {
+    let r = recover::replay(bytes, values, deadlines, nexts, prevs, turns, marks);
+    let after = r.state;
+    let h = r.heads;
+    let ending = r.ending;
+    let words = ending_words(ending);
+    keep_state(state, after);
+    *heads = delay_queue::rows_of(h);
+    *told = [r.kept as u64, r.at as u64, words[0], words[1]];
 }

@@ -49,3 +49,13 @@ pub fn number(out: &mut [u8], pen: Pen, x: u64) -> Pen {
     let k = io::decimal(x, &mut digits);
     text(out, pen, &digits[..k])
 }
+
+// What waits is written. Says whether all writes went well.
+pub fn end(out: &[u8], pen: Pen) -> bool {
+    let at = pen.at;
+    if out.len() < at {
+        return false;
+    }
+    let written = io::write_all(STDOUT_FILENO, &out[..at]);
+    pen.fine & written
+}

@@ -252,7 +252,7 @@ impl Drop for Compared {
 }
 
 /// A command in the words of crates/harness.
-fn call(command: Command) -> ours::Call {
+pub fn call(command: Command) -> ours::Call {
     match command {
         Command::Format { records, turn } => [ours::FORMAT, records, turn, 0],
         Command::Insert {

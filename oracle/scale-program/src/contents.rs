@@ -1,8 +1,10 @@
 //! What our store holds, read out of its memory, held against what the original holds.
 use crate::ours;
 use oracle::bench::{Entry, Store};
+use oracle::journal::recovered::Parts;
 use oracle::rules::SLOTS;
 use std::fmt::Write;
+use std::mem;
 
 const NOBODY: u64 = 65535;
 /// The expired stack's place, after the slots.
@@ -46,21 +48,52 @@ pub fn compare_rest(store: &Store, ours: &ours::Store) -> Result<(), [String; 2]
     if values != ours.values[..2 * store.size()] {
         return Err([values, ours.values.clone()].map(|values| format!("values and periods {values:?}")));
     }
-    let expected: Vec<u64> = store.free().map(|record| record as u64).collect();
-    let mut free = vec![];
-    let mut at = ours.state[9];
-    while at < store.size() as u64 && free.len() < store.size() {
-        free.push(at);
-        at = ours.nexts[at as usize].into();
-    }
-    if at == NOBODY && free == expected {
+    let expected: Vec<usize> = store.free().collect();
+    let (mut free, end) = free(ours, store.size());
+    if end == NOBODY && free == expected {
         return Ok(());
     }
-    free.push(at);
+    free.push(end as usize);
     Err([
         format!("free {expected:?}"),
         format!("free {free:?} up to {NOBODY}"),
     ])
+}
+
+/// Our free list, the next to be taken first, and what stands at its end.
+fn free(ours: &ours::Store, size: usize) -> (Vec<usize>, u64) {
+    let mut free = vec![];
+    let mut at = ours.state[9];
+    while at < size as u64 && free.len() < size {
+        free.push(at as usize);
+        at = ours.nexts[at as usize].into();
+    }
+    (free, at)
+}
+
+/// All that our words hold. An error says what is not as it must be between calls.
+pub fn parts(ours: &ours::Store) -> Result<Parts, String> {
+    let size = ours.state[7] as usize;
+    let mut entries = vec![];
+    read(ours, &mut entries)?;
+    let (free, end) = free(ours, size);
+    if end != NOBODY {
+        return Err(format!("the free list ends with {end}"));
+    }
+    let mut placed = vec![false; size];
+    for &record in free.iter().chain(entries.iter().map(|entry| &entry.record)) {
+        if mem::replace(&mut placed[record], true) {
+            return Err(format!("{record} is in two places"));
+        }
+    }
+    let record = |i: usize| [ours.turns[i], ours.values[2 * i], ours.deadlines[i], ours.values[2 * i + 1]];
+    Ok(Parts {
+        elapsed: ours.state[0],
+        free,
+        retired: (0..size).filter(|&i| !placed[i]).collect(),
+        pending: entries.iter().map(|entry| [entry.place, entry.record]).collect(),
+        records: (0..size).map(record).collect(),
+    })
 }
 
 /// Our pending timers by place, head first. An error says what is not as it must be between calls.

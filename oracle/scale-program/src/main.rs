@@ -1,16 +1,22 @@
 //! scale: our queue and the original in one process, every answer and the lists compared.
+#[allow(dead_code)] // the benchmark calls the rest
+#[path = "../../../speed/src/clock.rs"]
+mod clock;
 mod compared;
 mod contents;
 mod gauge;
+mod journal;
 #[allow(dead_code)] // the benchmark calls the rest
 #[path = "../../../speed/src/ours.rs"]
 mod ours;
+mod recovery;
 mod tally;
 mod wrong;
 
 use compared::{Compared, Difference, How};
 use oracle::exit::exit;
 use oracle::generator::{give, Taker};
+use oracle::journal::compare::Work;
 use oracle::rules::{BENCH_ROOM, MOST_RECORDS};
 use oracle::short;
 use std::env;
@@ -27,7 +33,8 @@ use wrong::{Wrong, WORDS};
 
 const USAGE: &str = "usage: scale [--keep FOLDER] \
     [ judged FROM TO LINES | inner FROM TO LINES | checked FROM TO LINES \
-    | large judged|inner|checked FROM TO LINES | short DEPTH | wrong [WORD] | gauge FROM TO ]";
+    | large judged|inner|checked FROM TO LINES | short DEPTH | wrong [WORD] | gauge FROM TO \
+    | journal FROM TO EVERY TIMES | journal wrong [WORD] | recovery ENTRIES ]";
 /// Where a script with a difference is kept below the oracle's folder, unless --keep names another.
 const KEEP: &str = "target/differences";
 /// So many short sequences are one piece of work.
@@ -57,6 +64,13 @@ fn run(words: &[&str]) -> Result<bool, String> {
     };
     let part = match words {
         [] => return whole(&keep),
+        ["journal", from, to, every, times] => return journals(&keep, [from, to, every, times]),
+        ["journal", "wrong"] => return all_wrong_journals(&keep),
+        ["journal", "wrong", word] => {
+            let word = number(word)? as usize;
+            let fine = word < journal::WORDS;
+            return if fine { TRIED.compare(|| Ok(journal::recovers(Some(word))), &keep) } else { Err(USAGE.into()) };
+        }
         ["large", how, from, to, lines] => seeds(MOST_RECORDS, how, from, to, lines)?,
         [how, from, to, lines] => seeds(BENCH_ROOM, how, from, to, lines)?,
         ["short", depth] => Part::Short(depth_of(depth)?),
@@ -64,6 +78,7 @@ fn run(words: &[&str]) -> Result<bool, String> {
             let (from, to) = (number(from)?, number(to)?);
             return if from <= to { Ok(gauge::compare(from, to)) } else { Err(USAGE.into()) };
         }
+        ["recovery", entries] => return Ok(recovery::measure(number(entries)? as usize)),
         ["wrong"] => return all_wrong(),
         ["wrong", word] => {
             let wrong = Wrong::new(number(word)? as usize).ok_or(USAGE)?;
@@ -72,6 +87,43 @@ fn run(words: &[&str]) -> Result<bool, String> {
         _ => return Err(USAGE.into()),
     };
     part.compare(&keep, None)
+}
+
+/// Our recovery against the second reading, for journals of these seeds.
+fn journals(keep: &Path, words: [&str; 4]) -> Result<bool, String> {
+    let [from, to, every, times] = words.map(number);
+    let work = Work {
+        seeds: from?..=to?,
+        every: every? as usize,
+        times: times? as usize,
+    };
+    if work.seeds.is_empty() || work.every == 0 {
+        return Err(USAGE.into());
+    }
+    work.compare(|| Ok(journal::recovers(None)), keep)
+}
+
+/// What wrong words of a recovery are tried on.
+const TRIED: Work = Work {
+    seeds: 1..=4,
+    every: 9,
+    times: 5,
+};
+
+/// Each word of a recovery in turn: it must be seen.
+fn all_wrong_journals(keep: &Path) -> Result<bool, String> {
+    if !TRIED.compare(|| Ok(journal::recovers(None)), keep)? {
+        return Ok(false);
+    }
+    let mut seen = 0;
+    for word in 0..journal::WORDS {
+        match TRIED.run(|| Ok(journal::recovers(Some(word))))?.1 {
+            Some(_) => seen += 1,
+            None => println!("{} was not seen", journal::name(word)),
+        }
+    }
+    println!("{} wrong words, {seen} seen", journal::WORDS);
+    Ok(seen == journal::WORDS)
 }
 
 fn number(word: &str) -> Result<u64, String> {

@@ -1,8 +1,10 @@
 //! One word of ours made wrong, to see that the comparison finds it.
 use crate::ours::{Answer, Store};
 
-/// The six words of an answer, the ten of the state, a head, and seven of a record.
-pub const WORDS: usize = 24;
+/// The six words of an answer, and those of a store.
+pub const WORDS: usize = 6 + STORE_WORDS;
+/// The ten words of the state, a head, and seven of a record.
+pub const STORE_WORDS: usize = 18;
 const NAMES: [&str; 8] = ["head", "value", "period", "deadline", "next", "prev", "turn", "mark"];
 /// Not before so many commands.
 const FROM: usize = 300;
@@ -18,8 +20,7 @@ impl Wrong {
     pub fn name(self) -> String {
         match self.0 {
             word @ 0..6 => format!("word {word} of an answer"),
-            word @ 6..16 => format!("word {} of the state", word - 6),
-            word => format!("the {} of a timer in a slot", NAMES[word - 16]),
+            word => name(word - 6),
         }
     }
 
@@ -29,24 +30,44 @@ impl Wrong {
     }
 
     pub fn is_due(self, commands: usize, store: &Store) -> bool {
-        commands >= FROM && slot(store).is_some()
+        commands >= FROM && is_due(store)
     }
 
     pub fn make(self, answers: &mut [Answer], store: &mut Store) {
-        let (level, slot) = slot(store).expect("is due");
-        let record = usize::from(store.heads[level][slot]);
         match self.0 {
             word @ 0..6 => answers[answers.len() / 2][word] ^= 1,
-            word @ 6..16 => store.state[word - 6] ^= 1,
-            16 => store.heads[level][slot] ^= 1,
-            17 => store.values[2 * record] ^= 1,
-            18 => store.values[2 * record + 1] ^= 1,
-            19 => store.deadlines[record] ^= 1,
-            20 => store.nexts[record] ^= 1,
-            21 => store.prevs[record] ^= 1,
-            22 => store.turns[record] ^= 1,
-            _ => store.marks[record] ^= 1,
+            word => make(word - 6, store),
         }
+    }
+}
+
+/// The name of a word of a store.
+pub fn name(word: usize) -> String {
+    match word {
+        0..10 => format!("word {word} of the state"),
+        word => format!("the {} of a timer in a slot", NAMES[word - 10]),
+    }
+}
+
+/// A slot is not empty.
+pub fn is_due(store: &Store) -> bool {
+    slot(store).is_some()
+}
+
+/// Its last bit is another then.
+pub fn make(word: usize, store: &mut Store) {
+    let (level, slot) = slot(store).expect("is due");
+    let record = usize::from(store.heads[level][slot]);
+    match word {
+        0..10 => store.state[word] ^= 1,
+        10 => store.heads[level][slot] ^= 1,
+        11 => store.values[2 * record] ^= 1,
+        12 => store.values[2 * record + 1] ^= 1,
+        13 => store.deadlines[record] ^= 1,
+        14 => store.nexts[record] ^= 1,
+        15 => store.prevs[record] ^= 1,
+        16 => store.turns[record] ^= 1,
+        _ => store.marks[record] ^= 1,
     }
 }
 

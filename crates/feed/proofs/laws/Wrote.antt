@@ -29,7 +29,7 @@ pub record Wrote (o : List ℕ) (at end : ℕ) (o′ l : List ℕ) : Type 0 wher
   pub room : end ≤ length o
   pub size : length o′ ≡ length o
 
-put-wrote : {w ns z o : List ℕ} {at end : ℕ} {o′ : List ℕ} (p : PutClaim w ns z o at end o′) → 0 < length (p .line) → length (p .line) ≤ 114
+pub put-wrote : {w ns z o : List ℕ} {at end : ℕ} {o′ : List ℕ} (p : PutClaim w ns z o at end o′) → 0 < length (p .line) → length (p .line) ≤ 114
     → at + answerRoom ≤ length o
     → Wrote o at end o′ (p .line)
 put-wrote {w} {ns} {z} {o} {at} {end} {o′} p some h r =
@@ -51,13 +51,13 @@ put-wrote {w} {ns} {z} {o} {at} {end} {o′} p some h r =
       size = omega (arith, s, a, length-append (take at o) (l ++ rest), length-append l rest, length-drop (at + length l) o);
     }
 
-some-bytes : {w ns z l : List ℕ} → Written w ns z l → 0 < length l
+pub some-bytes : {w ns z l : List ℕ} → Written w ns z l → 0 < length l
 some-bytes {w} {ns} {z} {l} p =
     let t = z ++ 10 ∷ [] in
     let e : length l ≡ length (w ++ (p .rest ++ t)) = ap (λ (x : List ℕ). length x) (p .line) in
     omega (arith, length-append w (p .rest ++ t), length-append (p .rest) t, length-append z (10 ∷ []))
 
-bad-4 : {l : List ℕ} → Written (bytes "bad") [] [] l → length l ≤ 114
+pub bad-4 : {l : List ℕ} → Written (bytes "bad") [] [] l → length l ≤ 114
 unfolding Spaced
 bad-4 {l} p =
     let e : length l ≡ length (bytes "bad" ++ (p .rest ++ 10 ∷ [])) = ap (λ (t : List ℕ). length t) (p .line) in

@@ -142,10 +142,10 @@ names-alike {s} {t} A S {k} {r} {p} N =
 
 -- ---- runs
 
-fits-kept : {m n : ℕ} {s t : QueueWords} → PastKept m s t → (Fits (slices s) n → Fits (slices t) n) × (Fits (slices t) n → Fits (slices s) n)
+-- lengths never change, so that as many records have room
+pub fits-kept : {m n : ℕ} {s t : QueueWords} → PastKept m s t → (Fits (slices s) n → Fits (slices t) n) × (Fits (slices t) n → Fits (slices s) n)
 fits-kept K = (λ F. omega arith, λ F. omega arith)
 
--- lengths never change
 room-kept : (c : Call) {m k : ℕ} {s t s′ t′ : QueueWords} → PastKept m s s′ → PastKept k t t′ → SameRoom c s t → SameRoom c s′ t′
 room-kept c K M R e = (λ F. fits-kept M .0 (R e .0 (fits-kept K .1 F)), λ F. fits-kept K .0 (R e .1 (fits-kept M .1 F)))
 

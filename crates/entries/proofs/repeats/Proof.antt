@@ -1,0 +1,37 @@
+-- `repeats`: what is behind a kind 9 is too short (`pair-cut`), or is read as its pair (`pair-read`).
+use borrow.Author.Needs.{needs}
+use mathlib.Core.Path.{_≡_, ap, _∙_}
+use native.Mathlib.Omega.{arith}
+use Rattle.entries.specs.declared.Next.{Next}
+use Rattle.entries.specs.Reading.{checked, pairOf}
+use Rattle.entries.proofs.laws.Reading.{pair-cut, pair-read}
+use Rattle.entries.proofs.repeats.Statement.{statement}
+use Rattle.entries.proofs.repeats.Tie as tie
+
+sub-if1 : tie.Need-sub-if1
+sub-if1 c = search needs
+
+returns : tie.Need-returns
+returns c = let a = c .before .before .args in pair-cut (a .e) (a .bytes .now) (a .at) (omega (arith, c .if1 .taken, c .before .before .pre))
+
+entry-at-requires : tie.Need-entry-at-requires
+entry-at-requires c κs = search needs
+
+pair-requires : tie.Need-pair-requires
+pair-requires c κs = search needs
+
+check-requires : tie.Need-check-requires
+check-requires c κs = search needs
+
+returns-2 : tie.Need-returns-2
+returns-2 c =
+    let b = c .before .before in
+    let a = b .before .before .before .args in
+    let e : c .check .result ≡ checked (b .entry-at .result) (pairOf (a .e) (b .entry-at .result)) =
+    c .check .ensures ∙ ap (λ (x : Next). checked (b .entry-at .result) x) (c .before .pair .ensures)
+    in
+    pair-read (a .e) (a .bytes .now) (a .at) (omega (arith, b .before .if1 .left)) (b .entry-at .ensures) e
+
+pub repeats-spec : {M : Type 1} → statement M
+repeats-spec =
+    tie.close (tie.spec sub-if1 returns entry-at-requires pair-requires check-requires returns-2)

@@ -1,0 +1,107 @@
+-- `copied` meets its contract: every turn copies a byte at least, and no file has one from 2^63 on (`chunk-within`).
+use borrow.Author.Needs.{needs}
+use mathlib.Core.Path.{_≡_}
+use Prim.Native.Nat.{_+_, _-_, _^_, _<_}
+use native.Mathlib.Omega.{arith}
+use lib.ListN.{length, length-take}
+use Rattle.restore.proofs.laws.Restore.{chunk-within}
+use Rattle.journaled.proofs.copied.Statement.{statement}
+use Rattle.journaled.proofs.copied.Tie as tie
+
+abbrev Inv-loop : tie.InvT-loop
+Inv-loop fd from to buf₀ at₀ buf at = (65536 ≡ length buf) × (at < 2 ^ 64)
+
+abbrev μ-loop : tie.MeasureT-loop
+μ-loop fd from to buf₀ at₀ buf at = 2 ^ 64 - at
+
+abbrev to-read : tie.After-count Inv-loop μ-loop → tie.After-more-from Inv-loop μ-loop
+to-read c = c .before .before
+
+abbrev to-loop : tie.After-more-from Inv-loop μ-loop → tie.At-loop Inv-loop μ-loop
+to-loop c = c .before .before
+
+abbrev to-count : tie.After-write-all Inv-loop μ-loop → tie.After-count Inv-loop μ-loop
+to-count c = c .before .before .before
+
+abbrev to-more : tie.After-write-all Inv-loop μ-loop → tie.Else1 Inv-loop μ-loop
+to-more c = c .before .before
+
+within : (c : tie.After-count Inv-loop μ-loop) → to-loop (to-read c) .loop .at + c .count .result < 2 ^ 64
+within c =
+    let r = to-read c in
+    let I = to-loop r .loop .inv in
+    chunk-within (I .1) (c .count .ensures) (omega (arith, r .more-from .ensures .0, I .0)) (r .more-from .ensures .2)
+
+large-buffer-requires : tie.Need-large-buffer-requires Inv-loop μ-loop
+large-buffer-requires c κs = search needs
+
+loop-holds : tie.Need-loop-holds Inv-loop μ-loop
+loop-holds c = search needs
+
+slice-aggregate-more-from : tie.Need-slice-aggregate-more-from Inv-loop μ-loop
+slice-aggregate-more-from c = search needs
+
+more-from-requires : tie.Need-more-from-requires Inv-loop μ-loop
+more-from-requires c κs = search needs
+
+count-requires : tie.Need-count-requires Inv-loop μ-loop
+count-requires c κs = search needs
+
+at-end-requires : tie.Need-at-end-requires Inv-loop μ-loop
+at-end-requires c κs = search needs
+
+fsync-requires : tie.Need-fsync-requires Inv-loop μ-loop
+fsync-requires c κs = search needs
+
+returns : tie.Need-returns Inv-loop μ-loop
+returns c = search needs
+
+returns-2 : tie.Need-returns-2 Inv-loop μ-loop
+returns-2 c = search needs
+
+array-share-prefix-buf : tie.Need-array-share-prefix-buf Inv-loop μ-loop
+array-share-prefix-buf c = search needs
+
+slice-aggregate-write-all : tie.Need-slice-aggregate-write-all Inv-loop μ-loop
+slice-aggregate-write-all c =
+    let n = c .before .before in simp length-take (omega (arith, n .count .ensures, to-read n .more-from .ensures .0))
+
+write-all-requires : tie.Need-write-all-requires Inv-loop μ-loop
+write-all-requires c κs = search needs
+
+returns-3 : tie.Need-returns-3 Inv-loop μ-loop
+returns-3 c = search needs
+
+add-at : tie.Need-add-at Inv-loop μ-loop
+add-at c = omega (arith, within (to-count (c .before)))
+
+loop-less : tie.Need-loop-less Inv-loop μ-loop
+loop-less c =
+    let w = c .before in
+    omega (arith, within (to-count w), to-more w .if1 .left)
+
+loop-again : tie.Need-loop-again Inv-loop μ-loop
+loop-again c = (search needs, omega (arith, within (to-count (c .before))))
+
+pub copied-spec : {M : Type 1} → statement M
+copied-spec =
+    tie.close
+    (tie.spec
+    Inv-loop
+    μ-loop
+    large-buffer-requires
+    loop-holds
+    slice-aggregate-more-from
+    more-from-requires
+    count-requires
+    at-end-requires
+    fsync-requires
+    returns
+    returns-2
+    array-share-prefix-buf
+    slice-aggregate-write-all
+    write-all-requires
+    returns-3
+    add-at
+    loop-less
+    loop-again)

@@ -1,0 +1,12 @@
+pub mod Known
+pub mod Once
+pub mod Scan
+pub mod Apply
+pub mod Parts
+pub mod Cut
+pub mod Recovers
+pub mod AnyCut
+pub mod Longest
+pub mod Elsewhere
+pub mod Later
+pub mod Keys

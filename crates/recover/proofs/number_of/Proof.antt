@@ -1,0 +1,161 @@
+-- `number_of`: by the step.
+use borrow.Author.Needs.{needs}
+use mathlib.Core.Path.{refl, ap, _∙_}
+use Rattle.entries.specs.declared.Step.the-variants as S
+use Rattle.recover.specs.Scan.{formats}
+use Rattle.recover.proofs.laws.Known.{number-as, number-call, number-open, number-close}
+use Rattle.recover.proofs.number_of.Statement.{statement}
+use Rattle.recover.proofs.number_of.Tie as tie
+
+enum-known-step : tie.Need-enum-known-step
+enum-known-step c = search needs
+
+enum-known-call : tie.Need-enum-known-call
+enum-known-call c = search needs
+
+format-number-requires : tie.Need-format-number-requires
+format-number-requires c κs = search needs
+
+enum-known-call-2 : tie.Need-enum-known-call-2
+enum-known-call-2 c = search needs
+
+choose-requires : tie.Need-choose-requires
+choose-requires c κs = search needs
+
+enum-known-call-3 : tie.Need-enum-known-call-3
+enum-known-call-3 c = search needs
+
+choose-requires-2 : tie.Need-choose-requires-2
+choose-requires-2 c κs = search needs
+
+enum-known-call-4 : tie.Need-enum-known-call-4
+enum-known-call-4 c = search needs
+
+choose-requires-3 : tie.Need-choose-requires-3
+choose-requires-3 c κs = search needs
+
+enum-known-call-5 : tie.Need-enum-known-call-5
+enum-known-call-5 c = search needs
+
+choose-requires-4 : tie.Need-choose-requires-4
+choose-requires-4 c κs = search needs
+
+enum-told : tie.Need-enum-told
+enum-told c = search needs
+
+choose-requires-5 : tie.Need-choose-requires-5
+choose-requires-5 c κs = search needs
+
+enum-told-2 : tie.Need-enum-told-2
+enum-told-2 c = search needs
+
+choose-requires-6 : tie.Need-choose-requires-6
+choose-requires-6 c κs = search needs
+
+enum-told-3 : tie.Need-enum-told-3
+enum-told-3 c = search needs
+
+choose-requires-7 : tie.Need-choose-requires-7
+choose-requires-7 c κs = search needs
+
+enum-told-4 : tie.Need-enum-told-4
+enum-told-4 c = search needs
+
+choose-requires-8 : tie.Need-choose-requires-8
+choose-requires-8 c κs = search needs
+
+enum-told-5 : tie.Need-enum-told-5
+enum-told-5 c = search needs
+
+choose-requires-9 : tie.Need-choose-requires-9
+choose-requires-9 c κs = search needs
+
+returns : tie.Need-returns
+returns c =
+    let a = c .before .before in
+    let b = a .before .before .before in
+    number-as (b .step .given .1 ∙ ap S.Asks (a .call .given .1)) (formats (c .format-number .ensures))
+
+returns-2 : tie.Need-returns-2
+returns-2 c =
+    let a = c .before .before in
+    let b = a .before .before .before in
+    number-as (b .step .given .1 ∙ ap S.Asks (a .call2 .given .1)) (number-call _ refl (c .choose .ensures))
+
+returns-3 : tie.Need-returns-3
+returns-3 c =
+    let a = c .before .before in
+    let b = a .before .before .before in
+    number-as (b .step .given .1 ∙ ap S.Asks (a .call3 .given .1)) (number-call _ refl (c .choose2 .ensures))
+
+returns-4 : tie.Need-returns-4
+returns-4 c =
+    let a = c .before .before in
+    let b = a .before .before .before in
+    number-as (b .step .given .1 ∙ ap S.Asks (a .call4 .given .1)) (number-call _ refl (c .choose3 .ensures))
+
+returns-5 : tie.Need-returns-5
+returns-5 c =
+    let a = c .before .before in
+    let b = a .before .before .before in
+    number-as (b .step .given .1 ∙ ap S.Asks (a .call5 .given .1)) (number-call _ refl (c .choose4 .ensures))
+
+returns-6 : tie.Need-returns-6
+returns-6 c =
+    let a = c .before in
+    let b = a .before .before .before in
+    number-as (b .step .given .1 ∙ ap S.Asks (a .enum-told .given .1)) (number-call _ refl (c .choose5 .ensures))
+
+returns-7 : tie.Need-returns-7
+returns-7 c =
+    let a = c .before in
+    let b = a .before .before .before in
+    number-as (b .step .given .1 ∙ ap S.Asks (a .enum-told2 .given .1)) (number-call _ refl (c .choose6 .ensures))
+
+returns-8 : tie.Need-returns-8
+returns-8 c =
+    let a = c .before in
+    let b = a .before .before .before in
+    number-as (b .step .given .1 ∙ ap S.Asks (a .enum-told3 .given .1)) (number-call _ refl (c .choose7 .ensures))
+
+returns-9 : tie.Need-returns-9
+returns-9 c = number-as (c .before .enum-told4 .given .1) (number-open _ (c .choose8 .ensures))
+
+returns-10 : tie.Need-returns-10
+returns-10 c = number-as (c .before .enum-told5 .given .1) (number-close _ (c .choose9 .ensures))
+
+pub number-of-spec : {M : Type 1} → statement M
+number-of-spec =
+    tie.close
+    (tie.spec
+    enum-known-step
+    enum-known-call
+    format-number-requires
+    enum-known-call-2
+    choose-requires
+    enum-known-call-3
+    choose-requires-2
+    enum-known-call-4
+    choose-requires-3
+    enum-known-call-5
+    choose-requires-4
+    enum-told
+    choose-requires-5
+    enum-told-2
+    choose-requires-6
+    enum-told-3
+    choose-requires-7
+    enum-told-4
+    choose-requires-8
+    enum-told-5
+    choose-requires-9
+    returns
+    returns-2
+    returns-3
+    returns-4
+    returns-5
+    returns-6
+    returns-7
+    returns-8
+    returns-9
+    returns-10)
