@@ -9,6 +9,8 @@ pub struct Bench {
     lines: u64,
     /// So many records the lent slices are long enough for.
     room: u64,
+    /// It knows the line of a poll with a limit.
+    limits: bool,
     /// The rules are not held against the original. Its own assertions are live, and both its forms
     /// must still answer the same.
     unchecked: bool,
@@ -20,6 +22,7 @@ impl Default for Bench {
             store: None,
             lines: 0,
             room: BENCH_ROOM,
+            limits: false,
             unchecked: false,
         }
     }
@@ -38,6 +41,18 @@ impl Bench {
         Bench { room, ..self }
     }
 
+    /// The same with the line of a poll with a limit, `q now limit`.
+    pub fn with_limits(self) -> Bench {
+        Bench {
+            limits: true,
+            ..self
+        }
+    }
+
+    pub fn limits(&self) -> bool {
+        self.limits
+    }
+
     pub fn store(&self) -> Option<&Store> {
         self.store.as_ref()
     }
@@ -45,7 +60,7 @@ impl Bench {
     pub fn line(&mut self, line: &[u8]) -> Answer {
         self.lines += 1;
         let _name_it = NameIt(self.lines, line);
-        parse(line).map_or(Answer::Bad, |command| self.command(command))
+        parse(line, self.limits).map_or(Answer::Bad, |command| self.command(command))
     }
 
     pub fn command(&mut self, command: Command) -> Answer {
@@ -73,6 +88,7 @@ impl Bench {
             Command::Reset { key, when } => store.reset(key, when),
             Command::Remove { key } => store.remove(key),
             Command::Poll { now } => store.poll(now),
+            Command::PollSome { now, limit } => store.poll_some(now, limit),
             Command::Wake => store.wake(),
             Command::Length => store.length(),
             Command::Clear => store.clear(),

@@ -38,8 +38,17 @@ pub fn generate(seed: u64, lines: usize, with_lists: bool) -> Script {
 
 /// The same, on stores of at most `most_records`.
 pub fn generate_small(seed: u64, lines: usize, most_records: u64, with_lists: bool) -> Script {
+    added(seed, lines, most_records, Script::new(with_lists))
+}
+
+/// What one seed gives where polls may have a limit.
+pub fn generate_limited(seed: u64, lines: usize, with_lists: bool) -> Script {
+    added(seed, lines, BENCH_ROOM, Script::limited(with_lists))
+}
+
+fn added(seed: u64, lines: usize, most_records: u64, script: Script) -> Script {
     let mut taker = Lines {
-        script: Script::new(with_lists),
+        script,
         most: lines,
     };
     give(seed, most_records, &mut taker);
@@ -54,6 +63,8 @@ pub trait Taker {
     fn store(&self) -> Option<&Store>;
     fn line(&mut self, line: &[u8]) -> Answer;
     fn command(&mut self, command: Command) -> Answer;
+    /// It takes polls with a limit.
+    fn limits(&self) -> bool;
 }
 
 struct Lines {
@@ -76,6 +87,10 @@ impl Taker for Lines {
 
     fn command(&mut self, command: Command) -> Answer {
         self.line(command.to_string().as_bytes())
+    }
+
+    fn limits(&self) -> bool {
+        self.script.bench().limits()
     }
 }
 
@@ -181,6 +196,11 @@ impl<T: Taker> Generator<'_, T> {
     }
 
     fn step(&mut self) {
+        if let Some((now, _)) = self.store().and_then(Store::in_hand) {
+            if self.in_hand(now) {
+                return;
+            }
+        }
         if self.rng.chance(1, 40) {
             let now = self.now();
             self.poll_until_none(now);
@@ -212,7 +232,10 @@ impl<T: Taker> Generator<'_, T> {
         match kind {
             1 if !lonely => self.reset(),
             2 if !lonely => Command::Remove { key: self.key() },
-            3 => Command::Poll { now: self.now() },
+            3 => {
+                let now = self.now();
+                self.poll(now)
+            }
             4 => Command::Wake,
             5 => Command::Length,
             6 => Command::Clear,
@@ -221,6 +244,67 @@ impl<T: Taker> Generator<'_, T> {
                 self.one(kind)
             }
             _ => self.insert(),
+        }
+    }
+
+    /// While a poll at `now` is in hand: it goes on, or is ended, or one is asked at another now. Says whether something was asked; else
+    /// anything is, most of it refused.
+    fn in_hand(&mut self, now: u64) -> bool {
+        match self.rng.below(64) {
+            0..26 => {
+                let poll = self.poll(now);
+                self.command(poll);
+            }
+            26 => {
+                self.command(Command::Clear);
+            }
+            27 => {
+                let format = self.odd_format();
+                self.command(format);
+            }
+            28..30 => {
+                let near = self.near(now);
+                let poll = self.poll(near);
+                self.command(poll);
+            }
+            _ => return false,
+        }
+        true
+    }
+
+    /// A poll, where it is taken three times of four with a limit.
+    fn poll(&mut self, now: u64) -> Command {
+        if !self.taker.limits() || self.rng.chance(1, 4) {
+            return Command::Poll { now };
+        }
+        let limit = self.limit();
+        Command::PollSome { now, limit }
+    }
+
+    /// None, one, two, a few; as many as are pending, or as their heights may be; about as many as are left of the poll in hand; no end of them.
+    fn limit(&mut self) -> u64 {
+        let (pending, left) = self.store().map_or((0, 0), |store| (store.pending().len() as u64, store.moves_left()));
+        match self.rng.below(12) {
+            0 | 1 => 0,
+            2..=4 => 1,
+            5 => 2,
+            6 => self.rng.below(8),
+            7 => self.rng.below(pending + 1),
+            8 => self.rng.below(5 * pending + 1),
+            9 | 10 => (left + self.rng.below(3)).saturating_sub(1),
+            _ => u64::MAX - self.rng.below(2),
+        }
+    }
+
+    /// Polls until one ends, with other commands in between. None if no more is taken.
+    fn ended_poll(&mut self, now: u64) -> Option<Answer> {
+        loop {
+            let poll = self.poll(now);
+            match self.command(poll)? {
+                Answer::Yet { .. } if self.rng.chance(1, 3) => self.step(),
+                Answer::Yet { .. } => (),
+                answer => return Some(answer),
+            }
         }
     }
 
@@ -284,7 +368,7 @@ impl<T: Taker> Generator<'_, T> {
     fn poll_until_none(&mut self, now: u64) {
         let pending = self.store().map_or(0, |store| store.pending().len());
         let mut left = self.rng.below(pending as u64 + 20);
-        while let Some(Answer::Out { key, .. }) = self.command(Command::Poll { now }) {
+        while let Some(Answer::Out { key, .. }) = self.ended_poll(now) {
             if left > 0 {
                 left -= 1;
             } else if self.store().is_some_and(|store| store.holds(key)) {

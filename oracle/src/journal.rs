@@ -45,7 +45,7 @@ pub fn parse(line: &[u8]) -> Option<Step> {
     match line {
         b"o" => Some(Step::Open),
         b"e" => Some(Step::Close),
-        _ => line::parse(line).map(Step::Asks),
+        _ => line::parse(line, true).map(Step::Asks),
     }
 }
 
@@ -70,6 +70,8 @@ impl Step {
             Command::Reset { key, when } => entry(3, key, when),
             Command::Remove { key } => entry(4, key, 0),
             Command::Poll { now } => entry(5, now, 0),
+            // "In the journal each such call is kind 11 (now, limit)" (02 [10]).
+            Command::PollSome { now, limit } => entry(11, now, limit),
             Command::Clear => entry(6, 0, 0),
             Command::Wake | Command::Length => vec![],
         }
@@ -211,6 +213,10 @@ fn next(bytes: &[u8]) -> Result<(Step, usize), Option<Damage>> {
         4 => Step::Asks(Command::Remove { key: first }),
         5 => Step::Asks(Command::Poll { now: first }),
         6 => Step::Asks(Command::Clear),
+        11 => Step::Asks(Command::PollSome {
+            now: first,
+            limit: second,
+        }),
         7 => Step::Open,
         8 => Step::Close,
         9 => {
@@ -242,7 +248,7 @@ fn next_entry(bytes: &[u8]) -> Result<[u64; 3], Option<Damage>> {
     };
     let [head, first, second] = [number(0, 2), number(2, 10), number(10, 18)];
     let due_zero = match head >> 12 {
-        1..=3 | 9 => 0,
+        1..=3 | 9 | 11 => 0,
         4 | 5 | 10 => second,
         6..=8 => first | second,
         _ => return Err(Some(Damage::Kind)),

@@ -9,6 +9,8 @@ pub enum Command {
     Reset { key: u64, when: u64 },
     Remove { key: u64 },
     Poll { now: u64 },
+    /// A poll that makes at most so many moves (02 [10]).
+    PollSome { now: u64, limit: u64 },
     Wake,
     Length,
     Clear,
@@ -35,6 +37,11 @@ pub enum Answer {
         moves: u64,
         drains: u64,
     },
+    /// "Not yet" (02 [10]), with the counts of this call.
+    Yet {
+        moves: u64,
+        drains: u64,
+    },
     Wake(Option<u64>),
     Length(u64),
     No(u8),
@@ -50,8 +57,9 @@ pub fn bare(line: &[u8]) -> &[u8] {
     line.strip_suffix(b"\n").unwrap_or(line)
 }
 
-/// The command that a line holds, if it is well-formed.
-pub fn parse(line: &[u8]) -> Option<Command> {
+/// The command that a line holds, if it is well-formed. The bench has no line for a poll with a limit; where `limits` says so there is one
+/// more, `q now limit`.
+pub fn parse(line: &[u8], limits: bool) -> Option<Command> {
     if line.len() > 80 {
         return None;
     }
@@ -73,6 +81,10 @@ pub fn parse(line: &[u8]) -> Option<Command> {
         },
         (b"r", 2) => Command::Remove { key: number(1)? },
         (b"p", 2) => Command::Poll { now: number(1)? },
+        (b"q", 3) if limits => Command::PollSome {
+            now: number(1)?,
+            limit: number(2)?,
+        },
         (b"w", 1) => Command::Wake,
         (b"l", 1) => Command::Length,
         (b"c", 1) => Command::Clear,
@@ -103,6 +115,7 @@ impl fmt::Display for Command {
             Command::Reset { key, when } => write!(f, "s {key} {when}"),
             Command::Remove { key } => write!(f, "r {key}"),
             Command::Poll { now } => write!(f, "p {now}"),
+            Command::PollSome { now, limit } => write!(f, "q {now} {limit}"),
             Command::Wake => write!(f, "w"),
             Command::Length => write!(f, "l"),
             Command::Clear => write!(f, "c"),
@@ -128,6 +141,7 @@ impl fmt::Display for Answer {
                 write!(f, "out {key} {value} {deadline} {moves} {drains}{end}")
             }
             Answer::Nothing { moves, drains } => write!(f, "none {moves} {drains}"),
+            Answer::Yet { moves, drains } => write!(f, "yet {moves} {drains}"),
             Answer::Wake(Some(time)) => write!(f, "wake {time}"),
             Answer::Wake(None) => write!(f, "wake -"),
             Answer::Length(length) => write!(f, "len {length}"),

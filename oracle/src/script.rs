@@ -26,6 +26,14 @@ impl Script {
         }
     }
 
+    /// The same for a bench that knows the line of a poll with a limit.
+    pub fn limited(with_lists: bool) -> Script {
+        Script {
+            bench: Bench::default().with_limits(),
+            ..Script::new(with_lists)
+        }
+    }
+
     pub fn bench(&self) -> &Bench {
         &self.bench
     }
@@ -41,7 +49,7 @@ impl Script {
     pub fn add(&mut self, line: &[u8]) -> Answer {
         let elapsed = self.bench.store().map_or(0, Store::elapsed);
         let answer = self.bench.line(line);
-        if let Some(command) = parse(line) {
+        if let Some(command) = parse(line, self.bench.limits()) {
             self.past.count(elapsed, command, answer);
         }
         self.commands.extend_from_slice(line);

@@ -7,7 +7,23 @@ use std::ops::Range;
 
 const TURN: u64 = LAST_TURN - 1;
 
-pub fn alphabet() -> Vec<Command> {
+/// Times to poll at with each of the limits.
+const NOWS: [u64; 3] = [64, 4160, 4161];
+const LIMITS: [u64; 3] = [0, 1, 2];
+
+/// With `limits` polls that have one too, and what may come while one is in hand.
+pub fn alphabet(limits: bool) -> Vec<Command> {
+    let mut letters = bench_alphabet();
+    if limits {
+        letters.extend(NOWS.map(|now| LIMITS.map(|limit| Command::PollSome { now, limit })).concat());
+        letters.extend([4160, 4161].map(|when| insert((when, 4096))));
+        let format = |records| Command::Format { records, turn: 1 };
+        letters.extend([Command::Poll { now: 4160 }, Command::Length, format(2), format(0)]);
+    }
+    letters
+}
+
+fn bench_alphabet() -> Vec<Command> {
     let [first, second] = [key(TURN, 0), key(TURN, 1)];
     let first_again = key(TURN + 1, 0);
     let once = [0, 1, 63, 64, 65, 4096, 4160].map(|when| (when, 0));
@@ -34,21 +50,23 @@ fn insert((when, period): (u64, u64)) -> Command {
 }
 
 /// How many sequences of this depth there are.
-pub fn count(depth: u32) -> u64 {
-    (alphabet().len() as u64).pow(depth)
+pub fn count(depth: u32, limits: bool) -> u64 {
+    (alphabet(limits).len() as u64).pow(depth)
 }
 
 /// Gives the sequences with these numbers, each with a format before it and four commands after it
-/// that show what is left.
-pub fn give(depth: u32, numbers: Range<u64>, mut take: impl FnMut(&[Command])) {
-    let alphabet = alphabet();
+/// that show what is left. With limits a poll that is in hand goes on before these.
+pub fn give(depth: u32, limits: bool, numbers: Range<u64>, mut take: impl FnMut(&[Command])) {
+    let alphabet = alphabet(limits);
     let letters = alphabet.len() as u64;
     let start = Command::Format {
         records: 2,
         turn: TURN,
     };
     let poll = Command::Poll { now: OLDEST + 8192 };
-    let end = [poll, poll, Command::Wake, Command::Length];
+    let goes_on = NOWS.map(|now| Command::PollSome { now, limit: 1 });
+    let goes_on = if limits { &goes_on[..] } else { &[] };
+    let end = [goes_on, &[poll, poll, Command::Wake, Command::Length]].concat();
     for number in numbers {
         let letter = |place| alphabet[(number / letters.pow(place) % letters) as usize];
         let middle: Vec<Command> = (0..depth).map(letter).collect();
@@ -58,7 +76,7 @@ pub fn give(depth: u32, numbers: Range<u64>, mut take: impl FnMut(&[Command])) {
 
 /// Adds them as lines.
 pub fn add(depth: u32, numbers: Range<u64>, script: &mut Script) {
-    give(depth, numbers, |commands| {
+    give(depth, script.bench().limits(), numbers, |commands| {
         for command in commands {
             script.add(command.to_string().as_bytes());
         }

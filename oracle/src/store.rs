@@ -1,12 +1,15 @@
 //! The records, their keys and turns, and the refusals: what stands in front of the original.
 mod checks;
+mod hand;
 mod model;
 
 use crate::line::Answer;
 use crate::original::Original;
-use crate::rules::{block, key, level, unpack, FARTHEST, LAST_TURN, OLDEST, SLOTS};
+use crate::rules::{block, key, level, unpack, FARTHEST, LAST_TURN, OLDEST, SLOTS, WIDTHS};
 use checks::Before;
+use hand::{Hand, Lists};
 use model::{Model, EXPIRED};
+use std::collections::{BTreeMap, VecDeque};
 use std::fmt::Write;
 use std::mem;
 
@@ -55,6 +58,8 @@ pub struct Store {
     /// The record of each number of the original.
     record_of: Vec<usize>,
     placings: u64,
+    /// The original's poll, which it has made whole, while calls with a limit are still to make the rest of its moves (02 [10]).
+    hand: Option<Hand>,
     original: Original,
     /// Only where every answer is checked.
     model: Option<Model>,
@@ -78,12 +83,16 @@ impl Store {
             fresh: 0,
             record_of: vec![0; records],
             placings: 0,
+            hand: None,
             original: Original::new(records),
             model: checked.then(|| Model::new(records)),
         }
     }
 
     pub fn insert(&mut self, value: u64, when: u64, period: u64) -> Answer {
+        if self.hand.is_some() {
+            return Answer::No(12);
+        }
         if self.freed.is_empty() && self.fresh == self.records.len() {
             return Answer::No(3);
         }
@@ -101,6 +110,9 @@ impl Store {
     }
 
     pub fn reset(&mut self, key: u64, when: u64) -> Answer {
+        if self.hand.is_some() {
+            return Answer::No(12);
+        }
         let Some(record) = self.find(key) else {
             return Answer::No(6);
         };
@@ -116,6 +128,9 @@ impl Store {
     }
 
     pub fn remove(&mut self, key: u64) -> Answer {
+        if self.hand.is_some() {
+            return Answer::No(12);
+        }
         let Some(record) = self.find(key) else {
             return Answer::No(6);
         };
@@ -129,26 +144,66 @@ impl Store {
         Answer::Gone { value, deadline }
     }
 
+    /// A whole poll is one with no limit.
     pub fn poll(&mut self, now: u64) -> Answer {
-        let elapsed = self.elapsed();
-        if now < elapsed {
-            return Answer::No(7);
+        self.poll_some(now, u64::MAX)
+    }
+
+    /// "It stops before the move that would exceed the limit and answers "not yet"" (02 [10]). A poll in hand is gone on with at its own now.
+    pub fn poll_some(&mut self, now: u64, limit: u64) -> Answer {
+        let mut hand = match self.hand.take() {
+            Some(hand) if hand.now != now => {
+                self.hand = Some(hand);
+                return Answer::No(12);
+            }
+            Some(hand) => hand,
+            None if now < self.elapsed() => return Answer::No(7),
+            None => self.begin(now, limit),
+        };
+        let moves = hand.left().min(limit);
+        let stops = moves < hand.left();
+        let drains = hand.make(moves, |record| self.records[record].deadline);
+        if stops {
+            self.hand = Some(hand);
+            return Answer::Yet { moves, drains };
         }
+        let (out, checked) = (hand.out, hand.before.is_some());
+        if let Some(lists) = hand.into_lists() {
+            self.check_lists(lists, out, now);
+        }
+        self.end(out, checked, moves, drains)
+    }
+
+    /// The original makes its poll, whole. What it hands out has not yet left.
+    fn begin(&mut self, now: u64, limit: u64) -> Hand {
+        let elapsed = self.elapsed();
         let before = self.model.is_some().then(|| Before {
             now,
             elapsed,
             heights: self.heights(),
             from_expired: self.original.has_expired(),
         });
+        let stops = self.may_stop(now, limit);
+        let lists = stops.then(|| Lists::new(elapsed, self.filled()));
         let out = self.original.poll(now).map(|(number, value, deadline)| {
             let record = self.record_of[number];
             self.check_held(record, value, deadline);
             record
         });
-        let (moves, drains) = self.counted();
         if let Some(before) = &before {
             self.check_poll(before, out);
         }
+        Hand::new(now, out, before, self.drained(), self.counted().0, lists)
+    }
+
+    /// More moves may be needed than the limit allows: something is to be drained, and it lies high enough.
+    fn may_stop(&self, now: u64, limit: u64) -> bool {
+        let most = (WIDTHS.len() - 1) * self.pending.len();
+        limit < most as u64 && !self.original.has_expired() && self.wheel_wake().is_some_and(|wake| wake <= now)
+    }
+
+    /// The last call of a poll answers.
+    fn end(&mut self, out: Option<usize>, checked: bool, moves: u64, drains: u64) -> Answer {
         let Some(record) = out else {
             return Answer::Nothing { moves, drains };
         };
@@ -163,7 +218,7 @@ impl Store {
             }
         }
         let last = handed.period > 0 && again.is_none();
-        if before.is_some() {
+        if checked {
             self.check_again(record, &handed, last);
         }
         Answer::Out {
@@ -177,14 +232,24 @@ impl Store {
     }
 
     pub fn wake(&self) -> Answer {
+        if self.hand.is_some() {
+            return Answer::No(12);
+        }
         Answer::Wake(self.next_wake())
     }
 
     pub fn length(&self) -> Answer {
-        Answer::Length(self.original.len() as u64)
+        let length = match self.hand {
+            // What the original handed out is still to be.
+            Some(_) => self.pending.len(),
+            None => self.original.len(),
+        };
+        Answer::Length(length as u64)
     }
 
+    /// "Clear or format ends it", a poll in hand (02 [10]).
     pub fn clear(&mut self) -> Answer {
+        self.hand = None;
         self.original.clear();
         if let Some(model) = &mut self.model {
             model.clear();
@@ -200,7 +265,20 @@ impl Store {
     }
 
     pub fn elapsed(&self) -> u64 {
-        self.original.elapsed()
+        match &self.hand {
+            Some(hand) => hand.elapsed(),
+            None => self.original.elapsed(),
+        }
+    }
+
+    /// The now of the poll in hand, and the slot that its next move is taken from.
+    pub fn in_hand(&self) -> Option<(u64, usize)> {
+        self.hand.as_ref().map(|hand| (hand.now, hand.place()))
+    }
+
+    /// The moves that the poll in hand has still to make.
+    pub fn moves_left(&self) -> u64 {
+        self.hand.as_ref().map_or(0, Hand::left)
     }
 
     /// Elapsed whenever the expired stack holds anything, and the wheel's answer otherwise (02 [1]).
@@ -235,6 +313,12 @@ impl Store {
     /// All pending timers, by place, head first.
     pub fn entries(&self, into: &mut Vec<Entry>) {
         into.clear();
+        if let Some(hand) = &self.hand {
+            for (&place, list) in &hand.lists().places {
+                into.extend(list.iter().map(|&record| self.entry(place, record)));
+            }
+            return;
+        }
         let watched = self.original.watched();
         watched.each(|place, number, value, deadline| {
             let record = self.record_of[number];
@@ -248,6 +332,19 @@ impl Store {
             });
         });
         assert_eq!(into.len(), self.original.len(), "all are in the lists");
+    }
+
+    /// A pending timer as the records have it.
+    fn entry(&self, place: usize, record: usize) -> Entry {
+        let held = &self.records[record];
+        Entry {
+            place,
+            record,
+            turn: held.turn,
+            value: held.value,
+            period: held.period,
+            deadline: held.deadline,
+        }
     }
 
     pub fn key(&self, record: usize) -> u64 {
@@ -286,14 +383,30 @@ impl Store {
         text
     }
 
-    /// The original's lists in record numbers, head first: the slots, then the expired stack.
+    /// The original's lists in record numbers, head first: the slots, then the expired stack. While a poll is in hand, those in between.
     fn lists(&self) -> Vec<Vec<usize>> {
+        if let Some(hand) = &self.hand {
+            let mut lists = vec![vec![]; EXPIRED + 1];
+            for (&place, list) in &hand.lists().places {
+                lists[place] = list.iter().copied().collect();
+            }
+            return lists;
+        }
         let mut lists = self.original.watched().lists();
         lists.push(self.original.watched().expired());
         for number in lists.iter_mut().flatten() {
             *number = self.record_of[*number];
         }
         lists
+    }
+
+    /// The original's lists that are not empty.
+    fn filled(&self) -> BTreeMap<usize, VecDeque<usize>> {
+        let mut places: BTreeMap<usize, VecDeque<usize>> = BTreeMap::new();
+        self.original.watched().each(|place, number, _, _| {
+            places.entry(place).or_default().push_back(self.record_of[number]);
+        });
+        places
     }
 
     fn is_pending(&self, record: usize) -> bool {

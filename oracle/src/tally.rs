@@ -12,6 +12,8 @@ const KINDS: [&str; 25] = [
     "no 3", "no 4", "no 5", "no 6", "no 7", "no 8", "no 11", "drains 0", "drains 1", "drains 2",
     "drains 3", "drains 4", "drains 5",
 ];
+/// Where polls may have a limit; the drains of `yet` are not counted among the others.
+const LIMITED: [&str; 2] = ["yet", "no 12"];
 
 #[derive(Default)]
 pub struct Tally {
@@ -44,7 +46,7 @@ impl Tally {
     }
 
     fn count(&mut self, kind: &str) {
-        assert!(KINDS.contains(&kind), "an answer of no known kind: {kind}");
+        assert!(KINDS.contains(&kind) || LIMITED.contains(&kind), "an answer of no known kind: {kind}");
         *self.kinds.entry(kind.to_string()).or_default() += 1;
     }
 
@@ -57,7 +59,9 @@ impl Tally {
 
 impl fmt::Display for Tally {
     fn fmt(&self, f: &mut fmt::Formatter<'_>) -> fmt::Result {
-        let counts = KINDS.map(|kind| format!("{kind}: {}", self.kinds.get(kind).unwrap_or(&0)));
+        let met = LIMITED.iter().filter(|&&kind| self.kinds.contains_key(kind));
+        let count = |kind: &&str| format!("{kind}: {}", self.kinds.get(*kind).unwrap_or(&0));
+        let counts: Vec<String> = KINDS.iter().chain(met).map(count).collect();
         write!(f, "{}\n{}", counts.join(", "), self.past)
     }
 }

@@ -1,13 +1,13 @@
 //! Our queue, through the functions that crates/harness exports. A slice crosses as its pointer and its length.
 //! oracle/scale-program takes this file too.
 
-type State = [u64; 10];
+type State = [u64; 12];
 type Heads = [[u16; 64]; 6];
 
 /// A command of the benchmark.
 type Command = [u64; 2];
 /// A call: its number, in the order of `Call` in crates/delay_queue, and three arguments. A poll's time is the second, an insert's
-/// period the third.
+/// period or a poll's limit the third.
 pub type Call = [u64; 4];
 /// An answer: its number, in the order of `Answer` in crates/queue, and its parts.
 pub type Answer = [u64; 6];
@@ -36,7 +36,7 @@ extern "C" {
 
 /// A store, lent anew to each call.
 pub struct Store {
-    /// Elapsed, six rows, n, the heads of the expired stack and of the free list.
+    /// Elapsed, six rows, n, the heads of the expired stack and of the free list, the slot in hand and the time of its poll.
     pub state: State,
     pub heads: Heads,
     /// Two words a record: the value of record i is word 2 i, its period the next.
@@ -73,7 +73,7 @@ impl Store {
     /// Memory for so many records, and no store in it.
     pub fn room(n: usize) -> Store {
         Store {
-            state: [0; 10],
+            state: [0; 12],
             heads: [[0; 64]; 6],
             values: vec![0; 2 * n],
             deadlines: vec![0; n],

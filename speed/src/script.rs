@@ -5,7 +5,7 @@ pub const INSERT: u64 = 1;
 pub const RESET: u64 = 2;
 pub const REMOVE: u64 = 3;
 pub const POLL: u64 = 4;
-pub const WAKE: u64 = 5;
+pub const WAKE: u64 = 6;
 
 pub const SIZES: [usize; 2] = [64, 1024];
 pub const MIXES: [&str; 3] = ["reset", "rush", "steady"];

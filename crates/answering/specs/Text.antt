@@ -9,7 +9,8 @@ use Rattle.queue.specs.declared.Answer.the-variants as A
 use Rattle.decimals.specs.Text.{bytes, Spaced}
 
 -- ---- "Answers: `ok` (f, s, c), `key K`, `gone value deadline`, `out key value deadline moves drains`, `none moves drains`,
--- `wake T` or `wake -`, `len n`, `no number`"; 02 [7]: "such an `out` line ends with a space and `last`"
+-- `wake T` or `wake -`, `len n`, `no number`"; 02 [7]: "such an `out` line ends with a space and `last`". 02 [10] gives "not yet" no line:
+-- `yet moves drains`
 
 abbrev pub word : Answer → List ℕ
 word A.Done = bytes "ok"
@@ -18,6 +19,7 @@ word (A.Gone value deadline) = bytes "gone"
 word (A.Out key value deadline moves drains) = bytes "out"
 word (A.Last key value deadline moves drains) = bytes "out"
 word (A.Nothing moves drains) = bytes "none"
+word (A.NotYet moves drains) = bytes "yet"
 word (A.Wake t) = bytes "wake"
 word A.NoWake = bytes "wake -"
 word (A.Length n) = bytes "len"
@@ -30,6 +32,7 @@ shown (A.Gone value deadline) = value ∷ deadline ∷ []
 shown (A.Out key value deadline moves drains) = key ∷ value ∷ deadline ∷ moves ∷ drains ∷ []
 shown (A.Last key value deadline moves drains) = key ∷ value ∷ deadline ∷ moves ∷ drains ∷ []
 shown (A.Nothing moves drains) = moves ∷ drains ∷ []
+shown (A.NotYet moves drains) = moves ∷ drains ∷ []
 shown (A.Wake t) = t ∷ []
 shown A.NoWake = []
 shown (A.Length n) = n ∷ []
@@ -42,6 +45,7 @@ ending (A.Gone value deadline) = []
 ending (A.Out key value deadline moves drains) = []
 ending (A.Last key value deadline moves drains) = bytes " last"
 ending (A.Nothing moves drains) = []
+ending (A.NotYet moves drains) = []
 ending (A.Wake t) = []
 ending A.NoWake = []
 ending (A.Length n) = []

@@ -104,6 +104,7 @@ pub fn write_answer(out: &mut [u8], at: usize, a: Answer) -> usize
         Answer::Out(k, v, d, m, n) => write_line(out, at, b"out", &[k, v, d, m, n]),
         Answer::Last(k, v, d, m, n) => write_ended(out, at, b"out", &[k, v, d, m, n], b" last"),
         Answer::Nothing(m, n) => write_line(out, at, b"none", &[m, n]),
+        Answer::NotYet(m, n) => write_line(out, at, b"yet", &[m, n]),
         Answer::Wake(t) => write_line(out, at, b"wake", &[t]),
         Answer::NoWake => write_line(out, at, b"wake -", &[]),
         Answer::Length(n) => write_line(out, at, b"len", &[n]),

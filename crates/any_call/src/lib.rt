@@ -83,6 +83,18 @@ pub fn ask(
             marks,
             time,
         ),
+        Call::PollSome(time, limit) => delay_queue::poll_some(
+            state,
+            heads,
+            values,
+            deadlines,
+            nexts,
+            prevs,
+            turns,
+            marks,
+            time,
+            limit,
+        ),
         Call::Wake => {
             let answer = delay_queue::next_wake(
                 state,

@@ -63,7 +63,7 @@ fieldsOf (x ∷ y ∷ z ∷ w ∷ ns) = F.Bad
 abbrev pub calls : Fields → List Call
 calls F.None = C.Wake ∷ C.Length ∷ C.Clear ∷ []
 calls (F.One x) = C.Remove x ∷ C.Poll x ∷ []
-calls (F.Two x y) = C.Format x y ∷ C.Reset x y ∷ []
+calls (F.Two x y) = C.Format x y ∷ C.Reset x y ∷ C.PollSome x y ∷ []
 calls (F.Three x y z) = C.Insert x y z ∷ []
 calls F.Bad = []
 

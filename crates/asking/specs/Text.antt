@@ -12,7 +12,7 @@ use Rattle.asking.specs.declared.Line.{Line}
 use Rattle.asking.specs.declared.Line.the-variants as L
 
 -- ---- "`f N turn`, `i value when`, `s key when` (reset), `r key`, `p now`, `w`, `l`, `c`"; 02 [7]: "the `i` line always has a third field,
--- the period"
+-- the period". 02 [10] gives the poll with a limit no line: `q now limit`, which the bench itself does not know (`bench/specs/Line`)
 
 abbrev pub letter : Call → ℕ
 letter (C.Format n turn) = code "f"
@@ -20,6 +20,7 @@ letter (C.Insert value when period) = code "i"
 letter (C.Reset key when) = code "s"
 letter (C.Remove key) = code "r"
 letter (C.Poll now) = code "p"
+letter (C.PollSome now limit) = code "q"
 letter C.Wake = code "w"
 letter C.Length = code "l"
 letter C.Clear = code "c"
@@ -30,6 +31,7 @@ numbers (C.Insert value when period) = value ∷ when ∷ period ∷ []
 numbers (C.Reset key when) = key ∷ when ∷ []
 numbers (C.Remove key) = key ∷ []
 numbers (C.Poll now) = now ∷ []
+numbers (C.PollSome now limit) = now ∷ limit ∷ []
 numbers C.Wake = []
 numbers C.Length = []
 numbers C.Clear = []

@@ -144,6 +144,7 @@ fn call_of(letter: u8, numbers: Fields) -> Line
         Fields::Two(x, y) => match letter {
             b'f' => Line::Asks(Call::Format(x, y)),
             b's' => Line::Asks(Call::Reset(x, y)),
+            b'q' => Line::Asks(Call::PollSome(x, y)),
             _ => Line::Bad,
         },
         Fields::Three(x, y, z) => match letter {

@@ -1,2 +1,3 @@
+pub mod Hearing
 pub mod Line
 pub mod Once

@@ -8,6 +8,7 @@ use wheel::Wheel;
 ghost use Rattle.contracts.specs.Lent.{old, new};
 ghost use Rattle.records.specs.Store.{before, after};
 ghost use Rattle.bench.specs.Line.{LineClaim};
+ghost use Rattle.bench.specs.Parts.{Heard};
 
 // Where the answer ends in what is written, and the state and the heads after it.
 pub struct Answered {
@@ -16,8 +17,26 @@ pub struct Answered {
     pub heads: Heads,
 }
 
+// What a line asks. The letter q, of a poll with a limit, is one of the bench's only where it knows limits.
+fn hear(limits: bool, line: &[u8]) -> Line
+    ensures { λ r. ⌜ Heard limits (old line) r ⌝ }
+{
+    let asked = read_line(line);
+    if limits {
+        return asked;
+    }
+    if line.len() == 0 {
+        return asked;
+    }
+    if line[0] == b'q' {
+        return Line::Bad;
+    }
+    asked
+}
+
 // Answers the line, which comes without its newline, into out from at on.
 pub fn answer_line(
+    limits: bool,
     line: &[u8],
     state: Wheel,
     heads: [[u16; 64]; 6],
@@ -32,6 +51,7 @@ pub fn answer_line(
 ) -> Answered
     ensures { λ r. ⌜
         LineClaim
+        limits
         (old line)
         (before state heads values deadlines nexts prevs turns marks)
         (old out)
@@ -40,7 +60,7 @@ pub fn answer_line(
         (new out)
         (r .at) ⌝ }
 {
-    let asked = read_line(line);
+    let asked = hear(limits, line);
     match asked {
         Line::Asks(call) => {
             let reply = any_call::ask(

@@ -1,6 +1,6 @@
 // A morning on an old board, whose tick counts milliseconds in 32 bits and starts again at 0 while the first cow is
-// milked. The board hands its raw tick to `tick::poll`, and counts its deadlines from the front part's time. How a store
-// is lent is shown by `morning`.
+// milked. The board hands its raw tick to `tick::poll`, or to `tick::poll_some` where the arm must not wait for long, and
+// counts its deadlines from the front part's time. How a store is lent is shown by `morning`.
 use delay_queue::Reply;
 use delay_queue::format;
 use delay_queue::insert;
@@ -32,6 +32,7 @@ fn act(answer: Answer) {
         Answer::Key(key) => say(b"  set, its key is ", key),
         Answer::Out(key, value, deadline, moves, drains) => say(b"  due: ", value),
         Answer::Nothing(moves, drains) => say(b"  nothing is due, moves: ", moves),
+        Answer::NotYet(moves, drains) => say(b"  not yet, moves: ", moves),
         Answer::No(number) => say(b"  refused, number ", number),
         _ => {}
     }
@@ -122,6 +123,64 @@ fn look(
     looked
 }
 
+// The same with at most `limit` moves, so that the arm is not held up. A poll that paused is gone on with, whatever the tick
+// is by then.
+fn look_for(
+    board: Polled,
+    values: &mut Pairs,
+    deadlines: &mut Words,
+    nexts: &mut Numbers,
+    prevs: &mut Numbers,
+    turns: &mut Words,
+    marks: &mut Numbers,
+    now: u32,
+    limit: u64,
+) -> Polled {
+    let front = board.front;
+    let store = board.reply;
+    let s = store.state;
+    let h = heads_in(store);
+    let looked = tick::poll_some(
+        front,
+        s,
+        h,
+        values,
+        deadlines,
+        nexts,
+        prevs,
+        turns,
+        marks,
+        now,
+        limit,
+    );
+    let moved = looked.front;
+    let reply = looked.reply;
+    let answer = reply.answer;
+    say(b"the tick is ", now as u64);
+    say(b"  the time is ", moved.time);
+    act(answer);
+    looked
+}
+
+// Two cut-offs for one time, and a poll that may make one move a call. It pauses while the tick moves on: a whole poll at
+// another time is refused meanwhile, and the next with a limit goes on with it.
+fn pause(
+    board: Polled,
+    values: &mut Pairs,
+    deadlines: &mut Words,
+    nexts: &mut Numbers,
+    prevs: &mut Numbers,
+    turns: &mut Words,
+    marks: &mut Numbers,
+) {
+    let a = cut_in(board, values, deadlines, nexts, prevs, turns, marks, 70);
+    let b = cut_in(a, values, deadlines, nexts, prevs, turns, marks, 70);
+    let c = look_for(b, values, deadlines, nexts, prevs, turns, marks, 840_100, 1);
+    let d = look(c, values, deadlines, nexts, prevs, turns, marks, 840_150);
+    let e = look_for(d, values, deadlines, nexts, prevs, turns, marks, 840_200, 1);
+    look_for(e, values, deadlines, nexts, prevs, turns, marks, 840_200, 1);
+}
+
 // The first cow comes in a minute before the tick starts again at 0, the second after it. What a call hands back goes
 // into the next.
 fn milk(
@@ -169,7 +228,8 @@ fn milk(
         360_000,
     );
     let two = cut_in(cut, values, deadlines, nexts, prevs, turns, marks, 480_000);
-    look(two, values, deadlines, nexts, prevs, turns, marks, 840_000);
+    let last = look(two, values, deadlines, nexts, prevs, turns, marks, 840_000);
+    pause(last, values, deadlines, nexts, prevs, turns, marks);
 }
 
 // Reads a tick, and says what came of it.

@@ -31,16 +31,20 @@ pub const EXPIRED: usize = 86;
 
 pub const FREE: usize = 87;
 
-pub const OCCUPIED: usize = 88;
+pub const HAND: usize = 88;
 
-pub const HEADS: usize = 94;
+pub const UNTIL: usize = 89;
+
+pub const OCCUPIED: usize = 90;
+
+pub const HEADS: usize = 96;
 
 pub const SLOTS: usize = stack::SLOTS as usize;
 
 // One number for the words of the slices that the row does not have: 0 while they are as they were made.
-const REST: usize = 478;
+const REST: usize = 480;
 
-pub type Image = [u64; 479];
+pub type Image = [u64; 481];
 
 // How many calls answered no 2, and how many left every word as it was.
 struct Seen {
@@ -50,9 +54,9 @@ struct Seen {
 
 // Words that no call has written yet.
 fn blank(x: u64) -> Image
-    ensures { λ r. ⌜ length r ≡ 479 ⌝ }
+    ensures { λ r. ⌜ length r ≡ 481 ⌝ }
 {
-    [x; 479]
+    [x; 481]
 }
 
 // The contracts give the lengths alone, so that no proof meets the words. A record of such words is a retired one: its turn is the
@@ -112,7 +116,7 @@ fn narrow(x: u64) -> u16 {
 
 // The first `count` words of a slice, out of the row.
 fn take_words(words: &mut [u64], image: &Image, from: usize, count: usize)
-    requires { ⌜ (count ≤ length (now words)) × (from + count ≤ 478) ⌝ }
+    requires { ⌜ (count ≤ length (now words)) × (from + count ≤ 480) ⌝ }
 {
     let mut i: usize = 0;
     while i < count {
@@ -130,7 +134,7 @@ fn pairs_in(image: &Image) -> [u64; 2050]
 }
 
 fn words_in(image: &Image, from: usize) -> [u64; 1025]
-    requires { ⌜ from ≤ 466 ⌝ }
+    requires { ⌜ from ≤ 468 ⌝ }
     ensures { λ r. ⌜ length r ≡ 1025 ⌝ }
 {
     let mut words = words();
@@ -139,7 +143,7 @@ fn words_in(image: &Image, from: usize) -> [u64; 1025]
 }
 
 fn numbers_in(image: &Image, from: usize) -> [u16; 1025]
-    requires { ⌜ from ≤ 466 ⌝ }
+    requires { ⌜ from ≤ 468 ⌝ }
     ensures { λ r. ⌜ length r ≡ 1025 ⌝ }
 {
     let mut numbers = numbers();
@@ -168,6 +172,8 @@ fn state_in(image: &Image) -> Wheel {
         elapsed: image[ELAPSED],
         occupied,
         stacks,
+        hand: narrow(image[HAND]),
+        until: image[UNTIL],
     }
 }
 
@@ -191,7 +197,7 @@ fn put_head(heads: &mut [[u16; 64]; 6], i: usize, x: u16)
 
 // The first `count` words of a slice, into the row.
 fn note_slice(image: &mut Image, from: usize, words: &[u64], count: usize)
-    requires { ⌜ (count ≤ length (now words)) × (from + count ≤ 478) ⌝ }
+    requires { ⌜ (count ≤ length (now words)) × (from + count ≤ 480) ⌝ }
 {
     let mut i: usize = 0;
     while i < count {
@@ -206,13 +212,13 @@ fn note_pairs(image: &mut Image, pairs: &[u64; 2050]) {
 }
 
 fn note_words(image: &mut Image, from: usize, words: &[u64; 1025])
-    requires { ⌜ from ≤ 466 ⌝ }
+    requires { ⌜ from ≤ 468 ⌝ }
 {
     note_slice(image, from, words, 12);
 }
 
 fn note_numbers(image: &mut Image, from: usize, numbers: &[u16; 1025])
-    requires { ⌜ from ≤ 466 ⌝ }
+    requires { ⌜ from ≤ 468 ⌝ }
 {
     let mut i: usize = 0;
     while i < 12 {
@@ -235,6 +241,8 @@ fn note_state(image: &mut Image, state: Wheel) {
     image[EXPIRED] = wide(stacks.expired);
     image[FREE] = wide(stacks.free);
     image[ELAPSED] = state.elapsed;
+    image[HAND] = wide(state.hand);
+    image[UNTIL] = state.until;
 }
 
 fn note_heads(image: &mut Image, heads: &[[u16; 64]; 6]) {
@@ -317,7 +325,7 @@ fn ask(image: &mut Image, part: Part, call: Call) -> bool {
 
 fn same(a: &Image, b: &Image) -> bool {
     let mut i: usize = 0;
-    while i < 479 {
+    while i < 481 {
         if a[i] != b[i] {
             return false;
         }
@@ -364,6 +372,60 @@ pub fn polled(x: u64) -> Image {
     image
 }
 
+// A poll at 210 in hand, after the first of two moves out of slot 3 of level 1: 2 is at level 0, and 3 still there. 4 is at level 2, 5 at
+// level 5; 7 and then 8 are free, the others retired.
+pub fn held(x: u64) -> Image {
+    let mut image = polled(x);
+    ask(&mut image, whole(), Call::Poll(105));
+    ask(&mut image, whole(), Call::PollSome(210, 1));
+    image
+}
+
+// The same with 2 on the expired stack.
+pub fn expired(x: u64) -> Image {
+    let mut image = held(x);
+    image[HEADS + 8] = wide(links::NOBODY);
+    image[OCCUPIED] = 0;
+    image[EXPIRED] = 2;
+    image[MARKS + 2] = wide(stack::EXPIRED);
+    image[DEADLINES + 2] = image[ELAPSED];
+    image
+}
+
+// The same with no poll in hand: 2 lies too low.
+pub fn let_go(x: u64) -> Image {
+    let mut image = held(x);
+    image[HAND] = wide(links::NOBODY);
+    image
+}
+
+// A poll at 5000 in hand, after the first of two moves out of slot 1 of level 2: 1 is in slot 14 of level 1, and 2 still there.
+pub fn high() -> Image {
+    let mut image = begun(3, 77);
+    ask(&mut image, whole(), Call::Insert(11, 5000, 0));
+    ask(&mut image, whole(), Call::Insert(12, 5001, 0));
+    ask(&mut image, whole(), Call::PollSome(5000, 1));
+    image
+}
+
+// The same with 1 moved on to level 0, which is filled too early.
+pub fn too_low() -> Image {
+    let mut image = high();
+    image[HEADS + 78] = wide(links::NOBODY);
+    image[OCCUPIED + 1] = 0;
+    image[HEADS + 8] = 1;
+    image[OCCUPIED] = 1 << 8;
+    image[MARKS + 1] = 8;
+    image
+}
+
+// Both drained, and the poll between two drains: it goes on in slot 14 of level 1, which starts after elapsed.
+pub fn between() -> Image {
+    let mut image = high();
+    ask(&mut image, whole(), Call::PollSome(5000, 1));
+    image
+}
+
 // Three timers at 70 in one slot of level 1: 0, then 1, then 2.
 fn three() -> Image {
     let mut image = blank(77);
@@ -386,15 +448,16 @@ pub fn cut() -> Image {
     image
 }
 
-// The seven calls but format. None is refused by the store of nine, and all but next wake and length change words there.
+// The eight calls but format. None is refused by the store of nine, and all but next wake and length change words there.
 fn call_of(i: u64) -> Call {
     match i {
         0 => Call::Insert(17, 300, 0),
         1 => Call::Reset(key(2), 400),
         2 => Call::Remove(key(3)),
         3 => Call::Poll(100),
-        4 => Call::Wake,
-        5 => Call::Length,
+        4 => Call::PollSome(100, 0),
+        5 => Call::Wake,
+        6 => Call::Length,
         _ => Call::Clear,
     }
 }
@@ -420,14 +483,14 @@ fn ask_once(image: &Image, part: Part, call: Call) -> Seen
     }
 }
 
-// Asks the seven calls, each of the store as it is in the image.
+// Asks the eight calls, each of the store as it is in the image.
 fn ask_all(image: &Image, part: Part) -> Seen
-    ensures { λ r. ⌜ (r .refused ≤ 7) × (r .kept ≤ 7) ⌝ }
+    ensures { λ r. ⌜ (r .refused ≤ 8) × (r .kept ≤ 8) ⌝ }
 {
     let mut refused = 0u64;
     let mut kept = 0u64;
     let mut i = 0u64;
-    while i < 7 {
+    while i < 8 {
         let seen = ask_once(image, part, call_of(i));
         refused += seen.refused;
         kept += seen.kept;
@@ -482,12 +545,14 @@ fn say_word(at: usize) {
         N => say(b"n"),
         ELAPSED => say(b"elapsed"),
         EXPIRED => say(b"expired"),
-        _ => say(b"free"),
+        FREE => say(b"free"),
+        HAND => say(b"hand"),
+        _ => say(b"until"),
     }
 }
 
 fn say_row(at: usize)
-    requires { ⌜ 88 ≤ at ⌝ }
+    requires { ⌜ 90 ≤ at ⌝ }
 {
     if at < HEADS {
         say_entry(b"occupied", at - OCCUPIED);
@@ -514,7 +579,7 @@ pub fn show_whole(image: &Image) {
 
 // The store with the word at `at` changed to x.
 pub fn show(image: &Image, at: usize, x: u64)
-    requires { ⌜ at < 478 ⌝ }
+    requires { ⌜ at < 480 ⌝ }
 {
     let mut changed = *image;
     changed[at] = x;
@@ -545,8 +610,8 @@ fn one_more(x: u64) -> u64 {
 }
 
 fn ask_raised(image: &Image, at: usize) -> Seen
-    requires { ⌜ at < 478 ⌝ }
-    ensures { λ r. ⌜ (r .refused ≤ 7) × (r .kept ≤ 7) ⌝ }
+    requires { ⌜ at < 480 ⌝ }
+    ensures { λ r. ⌜ (r .refused ≤ 8) × (r .kept ≤ 8) ⌝ }
 {
     let mut changed = *image;
     changed[at] = one_more(image[at]);
@@ -555,7 +620,7 @@ fn ask_raised(image: &Image, at: usize) -> Seen
 
 // The store with one word raised by one: each of the `count` words from `from` on in turn.
 pub fn show_each(image: &Image, from: usize, count: usize)
-    requires { ⌜ (from ≤ 478) × (count ≤ 478 - from) ⌝ }
+    requires { ⌜ (from ≤ 480) × (count ≤ 480 - from) ⌝ }
 {
     let mut refused = 0u64;
     let mut kept = 0u64;

@@ -1,12 +1,13 @@
-// What the calls do with a damaged store. Of a store of nine records one word is changed, or a slice is too short, and the seven
-// calls but format are asked, each of the store so changed. What is not sound gets no 2 from all seven, which change no word; what
-// is still sound gets it from none, and all but next wake and length change words.
+// What the calls do with a damaged store. Of a store of nine records one word is changed, or a slice is too short, and the eight
+// calls but format are asked, each of the store so changed. What is not sound gets no 2 from all eight, which change no word; what
+// is still sound gets it from none, and all but next wake and length change words. While a poll is in hand clear alone does.
 mod image;
 
 use image::DEADLINES;
 use image::ELAPSED;
 use image::EXPIRED;
 use image::FREE;
+use image::HAND;
 use image::HEADS;
 use image::Image;
 use image::MARKS;
@@ -15,6 +16,7 @@ use image::NEXTS;
 use image::OCCUPIED;
 use image::PREVS;
 use image::TURNS;
+use image::UNTIL;
 use image::VALUES;
 use image::show;
 use image::show_each;
@@ -127,7 +129,12 @@ fn numbers(image: &Image) {
     show(image, FREE, 6);
     show(image, FREE, 8);
     show(image, FREE, 9);
-    show_each(image, N, 10);
+    // a slot in hand, filled or not, with no now; a now with no slot
+    show(image, HAND, 67);
+    show(image, HAND, 0);
+    show(image, UNTIL, 1);
+    show(image, UNTIL, 100);
+    show_each(image, N, 12);
 }
 
 fn rows(image: &Image) {
@@ -229,6 +236,56 @@ fn lost(image: &Image) {
     show(image, TURNS + 1, LAST_TURN);
 }
 
+// A poll in hand, whose next move is the head of slot 3 of level 1.
+fn held(image: &Image) {
+    image::say(b"a poll at 210 in hand, inside its drain:\n");
+    image::show_whole(image);
+    // the slot's start, any later time; before the start, none
+    show(image, UNTIL, 192);
+    show(image, UNTIL, u64::MAX);
+    show(image, UNTIL, 191);
+    show(image, UNTIL, 0);
+    // any clock before the start; the start itself, past it, another block
+    show(image, ELAPSED, 0);
+    show(image, ELAPSED, 191);
+    show(image, ELAPSED, 192);
+    show(image, ELAPSED, 193);
+    show(image, ELAPSED, (1 << 36) + 100);
+    // a slot of level 0, an empty one, one that is not due, no slot at all, nobody
+    show(image, HAND, 8);
+    show(image, HAND, 68);
+    show(image, HAND, 129);
+    show(image, HAND, image::SLOTS as u64);
+    show(image, HAND, stack::FREE as u64);
+    show(image, HAND, NOBODY - 1);
+    show(image, HAND, NOBODY);
+    // one of the slot in hand, and one moved out of it, that are another slot's
+    show(image, DEADLINES + 3, 191);
+    show(image, DEADLINES + 3, 256);
+    show(image, DEADLINES + 2, 264);
+    show_each(image, N, 12);
+}
+
+// Damages of more than one word.
+fn midway() {
+    image::say(b"the poll let go, and then its now:\n");
+    let gone = image::let_go(77);
+    image::show_whole(&gone);
+    show(&gone, UNTIL, 0);
+    image::say(b"a timer on the expired stack while a poll is in hand:\n");
+    image::show_whole(&image::expired(77));
+    image::say(b"a poll at 5000 in hand, inside a drain of level 2:\n");
+    image::show_whole(&image::high());
+    image::say(b"the same with a timer moved on to level 0:\n");
+    image::show_whole(&image::too_low());
+    image::say(b"a poll at 5000 in hand, between two drains:\n");
+    let between = image::between();
+    image::show_whole(&between);
+    // any clock of its turn before the slot's start; the turn before
+    show(&between, ELAPSED, 4991);
+    show(&between, ELAPSED, 4095);
+}
+
 fn main() {
     let image = image::store(77);
     image::say(b"not sound:\n");
@@ -248,4 +305,6 @@ fn main() {
     retired(&image::store(LAST_TURN));
     single(&image::begun(1, 77));
     lost(&image::cut());
+    held(&image::held(77));
+    midway();
 }

@@ -4,6 +4,7 @@ use mathlib.Core.List.{List}
 use Prim.Native.Nat.{ℕ, _*_}
 use lib.ListN.{replicate}
 use Rattle.contracts.specs.Lent.{Turned, new as left}
+use Rattle.links.specs.Lists.{nobody}
 use Rattle.stack.specs.Format.{over, range, formatted}
 use Rattle.wheel.specs.Words.{wheelWords}
 use Rattle.records.specs.Slices.{Slices, before as given}
@@ -26,6 +27,8 @@ pub record Makes (n turn : ℕ) (l : Slices) (s′ : QueueWords) : Type 0 where
   pub values : s′ .values ≡ over (2 * n) (λ i. 0) (l .values)
   pub deadlines : s′ .deadlines ≡ over n (λ i. 0) (l .deadlines)
   pub turns : s′ .turns ≡ over n (λ i. turn) (l .turns)
+  pub hand : s′ .hand ≡ nobody
+  pub until : s′ .until ≡ 0
 
 -- of the words that `make` is lent
 module _ (n turn : ℕ) (tops : Turned (List ℕ)) (heads : Turned (List (List ℕ)))

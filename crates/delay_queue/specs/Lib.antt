@@ -1,3 +1,4 @@
 pub mod Claims
 pub mod Format
 pub mod NoStore
+pub mod Free

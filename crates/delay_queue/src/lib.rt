@@ -10,7 +10,8 @@ ghost use Rattle.contracts.specs.Lent.{old, new};
 ghost use Rattle.records.specs.Slices.{Fits, lent, before as slices};
 ghost use Rattle.records.specs.Store.{before, after, wheelOf};
 ghost use Rattle.delay_queue.specs.Claims.{InRange, FormatClaim, InsertClaim, ResetClaim, RemoveClaim};
-ghost use Rattle.delay_queue.specs.Claims.{PollClaim, WakeClaim, LengthClaim, ClearClaim};
+ghost use Rattle.delay_queue.specs.Claims.{PollClaim, PollSomeClaim, WakeClaim, LengthClaim, ClearClaim};
+ghost use Rattle.delay_queue.specs.Free.{FreeNo};
 ghost use Rattle.delay_queue.specs.Format.{FormatNo, MakesOf};
 ghost use Rattle.delay_queue.specs.NoStore.{NoStoreClaim};
 
@@ -26,6 +27,8 @@ pub enum Call {
     Remove(u64),
     // now
     Poll(u64),
+    // now, limit on moves
+    PollSome(u64, u64),
     Wake,
     Length,
     Clear,
@@ -69,6 +72,8 @@ pub fn no_store() -> Wheel
         elapsed: 0,
         occupied,
         stacks,
+        hand: links::NOBODY,
+        until: 0,
     }
 }
 
@@ -99,8 +104,12 @@ fn packed(
     rows: [u64; 6],
     tops: [u16; 3],
     slots: [[u16; 64]; 6],
+    hand: u16,
+    until: u64,
 ) -> Reply
-    ensures { λ r. ⌜ (r .answer ≡ answer) × (r .state ≡ wheelOf elapsed rows tops) × (r .heads .rows ≡ slots) ⌝ }
+    ensures { λ r. ⌜
+        (r .answer ≡ answer)
+        × (r .state ≡ wheelOf elapsed rows tops hand until) × (r .heads .rows ≡ slots) ⌝ }
 {
     let stacks = Stacks {
         n: tops[0],
@@ -111,6 +120,8 @@ fn packed(
         elapsed,
         occupied: rows,
         stacks,
+        hand,
+        until,
     };
     let h = heads_of(slots);
     Reply {
@@ -118,6 +129,28 @@ fn packed(
         state,
         heads: h,
     }
+}
+
+// 2 for a store that is not sound, 12 while a poll is in hand, 0 if it is neither.
+fn free_no(
+    state: Wheel,
+    heads: [[u16; 64]; 6],
+    values: &[u64],
+    deadlines: &[u64],
+    nexts: &[u16],
+    prevs: &[u16],
+    turns: &[u64],
+    marks: &[u16],
+) -> u64
+    ensures { λ r. ⌜ FreeNo (before state heads values deadlines nexts prevs turns marks) r ⌝ }
+{
+    if !judge::is_sound(state, heads, values, deadlines, nexts, prevs, turns, marks) {
+        return 2;
+    }
+    if state.hand != links::NOBODY {
+        return 12;
+    }
+    0
 }
 
 // The first n words become x.
@@ -223,7 +256,7 @@ pub fn format(
         turn,
     );
     let rows = [0u64; 6];
-    packed(Answer::Done, 0, rows, tops, slots)
+    packed(Answer::Done, 0, rows, tops, slots, links::NOBODY, 0)
 }
 
 // A timer with the value, at the deadline `when` and then after each period, if it is not 0: its key.
@@ -244,8 +277,9 @@ pub fn insert(
         InsertClaim (before state heads values deadlines nexts prevs turns marks)
         value when period (r .answer) (after (r .state) (r .heads .rows) values deadlines nexts prevs turns marks) ⌝ }
 {
-    if !judge::is_sound(state, heads, values, deadlines, nexts, prevs, turns, marks) {
-        return refused(2, state, heads);
+    let number = free_no(state, heads, values, deadlines, nexts, prevs, turns, marks);
+    if number != 0 {
+        return refused(number, state, heads);
     }
     let elapsed = state.elapsed;
     let mut rows = state.occupied;
@@ -267,7 +301,7 @@ pub fn insert(
         when,
         period,
     );
-    packed(answer, elapsed, rows, tops, slots)
+    packed(answer, elapsed, rows, tops, slots, links::NOBODY, 0)
 }
 
 // The timer of the key gets the deadline `when`.
@@ -287,8 +321,9 @@ pub fn reset(
         ResetClaim (before state heads values deadlines nexts prevs turns marks)
         key when (r .answer) (after (r .state) (r .heads .rows) values deadlines nexts prevs turns marks) ⌝ }
 {
-    if !judge::is_sound(state, heads, values, deadlines, nexts, prevs, turns, marks) {
-        return refused(2, state, heads);
+    let number = free_no(state, heads, values, deadlines, nexts, prevs, turns, marks);
+    if number != 0 {
+        return refused(number, state, heads);
     }
     let elapsed = state.elapsed;
     let mut rows = state.occupied;
@@ -309,7 +344,7 @@ pub fn reset(
         key,
         when,
     );
-    packed(answer, elapsed, rows, tops, slots)
+    packed(answer, elapsed, rows, tops, slots, links::NOBODY, 0)
 }
 
 // The timer of the key is taken out: its value and deadline.
@@ -328,8 +363,9 @@ pub fn remove(
         RemoveClaim (before state heads values deadlines nexts prevs turns marks)
         key (r .answer) (after (r .state) (r .heads .rows) values deadlines nexts prevs turns marks) ⌝ }
 {
-    if !judge::is_sound(state, heads, values, deadlines, nexts, prevs, turns, marks) {
-        return refused(2, state, heads);
+    let number = free_no(state, heads, values, deadlines, nexts, prevs, turns, marks);
+    if number != 0 {
+        return refused(number, state, heads);
     }
     let elapsed = state.elapsed;
     let mut rows = state.occupied;
@@ -349,11 +385,12 @@ pub fn remove(
         marks,
         key,
     );
-    packed(answer, elapsed, rows, tops, slots)
+    packed(answer, elapsed, rows, tops, slots, links::NOBODY, 0)
 }
 
-// A timer that is due at `time`, or nothing.
-pub fn poll(
+// A timer that is due at `time`, or nothing, or not yet: it stops before the move that would exceed `limit`, and the next
+// poll at `time` goes on.
+pub fn poll_some(
     state: Wheel,
     heads: [[u16; 64]; 6],
     values: &[u64],
@@ -363,10 +400,11 @@ pub fn poll(
     turns: &mut [u64],
     marks: &mut [u16],
     time: u64,
+    limit: u64,
 ) -> Reply
     ensures { λ r. ⌜
-        PollClaim (before state heads values deadlines nexts prevs turns marks)
-        time (r .answer) (after (r .state) (r .heads .rows) values deadlines nexts prevs turns marks) ⌝ }
+        PollSomeClaim (before state heads values deadlines nexts prevs turns marks)
+        time limit (r .answer) (after (r .state) (r .heads .rows) values deadlines nexts prevs turns marks) ⌝ }
 {
     if !judge::is_sound(state, heads, values, deadlines, nexts, prevs, turns, marks) {
         return refused(2, state, heads);
@@ -387,11 +425,46 @@ pub fn poll(
         prevs,
         turns,
         marks,
+        state.hand,
+        state.until,
         time,
+        limit,
     );
     let answer = out.answer;
     let e = out.elapsed;
-    packed(answer, e, rows, tops, slots)
+    let hand = out.hand;
+    let until = out.until;
+    packed(answer, e, rows, tops, slots, hand, until)
+}
+
+// A timer that is due at `time`, or nothing: no store has so many moves to make.
+pub fn poll(
+    state: Wheel,
+    heads: [[u16; 64]; 6],
+    values: &[u64],
+    deadlines: &mut [u64],
+    nexts: &mut [u16],
+    prevs: &mut [u16],
+    turns: &mut [u64],
+    marks: &mut [u16],
+    time: u64,
+) -> Reply
+    ensures { λ r. ⌜
+        PollClaim (before state heads values deadlines nexts prevs turns marks)
+        time (r .answer) (after (r .state) (r .heads .rows) values deadlines nexts prevs turns marks) ⌝ }
+{
+    poll_some(
+        state,
+        heads,
+        values,
+        deadlines,
+        nexts,
+        prevs,
+        turns,
+        marks,
+        time,
+        u64::MAX,
+    )
 }
 
 // From when on a poll has something to do: from elapsed on if a timer has expired, else from the start of the wheel's
@@ -408,8 +481,9 @@ pub fn next_wake(
 ) -> Answer
     ensures { λ r. ⌜ WakeClaim (before state heads values deadlines nexts prevs turns marks) r ⌝ }
 {
-    if !judge::is_sound(state, heads, values, deadlines, nexts, prevs, turns, marks) {
-        return Answer::No(2);
+    let number = free_no(state, heads, values, deadlines, nexts, prevs, turns, marks);
+    if number != 0 {
+        return Answer::No(number);
     }
     let rows = state.occupied;
     let stacks = state.stacks;
@@ -472,5 +546,5 @@ pub fn clear(
         turns,
         marks,
     );
-    packed(answer, 0, rows, tops, slots)
+    packed(answer, 0, rows, tops, slots, links::NOBODY, 0)
 }

@@ -20,13 +20,15 @@ insertBytes value when zero = entry 2 value when
 insertBytes value when (suc p) = entry 9 value when ++ entry 10 (suc p) 0
 
 -- "Kinds: 1 format (N, turn), 2 insert (value, when), 3 reset (key, when), 4 remove (key, 0), 5 poll (now, 0), 6 clear, 7 open patch,
--- 8 close patch; 6 to 8 carry two zeros": the bytes of a step. Next wake and length have none
+-- 8 close patch; 6 to 8 carry two zeros"; 02 [10], of the poll with a limit: "In the journal each such call is kind 11 (now, limit)": the
+-- bytes of a step. Next wake and length have none
 abbrev pub stepBytes : Step → List ℕ
 stepBytes (S.Asks (C.Format n turn)) = entry 1 n turn
 stepBytes (S.Asks (C.Insert value when period)) = insertBytes value when period
 stepBytes (S.Asks (C.Reset key when)) = entry 3 key when
 stepBytes (S.Asks (C.Remove key)) = entry 4 key 0
 stepBytes (S.Asks (C.Poll now)) = entry 5 now 0
+stepBytes (S.Asks (C.PollSome now limit)) = entry 11 now limit
 stepBytes (S.Asks C.Wake) = []
 stepBytes (S.Asks C.Length) = []
 stepBytes (S.Asks C.Clear) = entry 6 0 0
@@ -43,6 +45,7 @@ Fit (S.Asks (C.Insert value when period)) = Fits64 value × Fits64 when × Fits6
 Fit (S.Asks (C.Reset key when)) = Fits64 key × Fits64 when
 Fit (S.Asks (C.Remove key)) = Fits64 key
 Fit (S.Asks (C.Poll now)) = Fits64 now
+Fit (S.Asks (C.PollSome now limit)) = Fits64 now × Fits64 limit
 Fit (S.Asks C.Wake) = Unit
 Fit (S.Asks C.Length) = Unit
 Fit (S.Asks C.Clear) = Unit

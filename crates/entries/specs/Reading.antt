@@ -38,15 +38,15 @@ entryIn l =
 
 -- ---- damage that an entry shows by itself
 
--- "a bad kind": there are 1 to 10
+-- "a bad kind": there are 1 to 11
 abbrev pub known : ℕ → Bool
-known k = ltb 0 k && ltb k 11
+known k = ltb 0 k && ltb k 12
 
 -- "6 to 8 carry two zeros"
 abbrev pub bare : ℕ → ℕ → Bool
 bare a b = eqb a 0 && eqb b 0
 
--- "4 remove (key, 0), 5 poll (now, 0)", "10 (period over 0, 0)": the second field is 0. Of 1, 2, 3 and 9 both are free
+-- "4 remove (key, 0), 5 poll (now, 0)", "10 (period over 0, 0)": the second field is 0. Of 1, 2, 3, 9 and 11 both are free
 abbrev pub fieldZeros : ℕ → ℕ → ℕ → Bool
 fieldZeros k a b = cond (eqb k 4 || eqb k 5 || eqb k 10) (eqb b 0) (cond (eqb k 6 || eqb k 7 || eqb k 8) (bare a b) true)
 
@@ -80,7 +80,8 @@ stepOf e l =
     (cond (eqb (e .kind) 6) (X.One (S.Asks C.Clear))
     (cond (eqb (e .kind) 7) (X.One S.Open)
     (cond (eqb (e .kind) 8) (X.One S.Close)
-    (cond (eqb (e .kind) 9) (repeating e l) (X.Ends E.Pair)))))))))
+    (cond (eqb (e .kind) 9) (repeating e l)
+    (cond (eqb (e .kind) 11) (X.One (S.Asks (C.PollSome (e .a) (e .b)))) (X.Ends E.Pair))))))))))
 
 -- what l begins with: fewer than 18 bytes are a cut, whatever they are
 unfoldable pub next : List ℕ → Next

@@ -126,6 +126,7 @@ fn parts_of(step: Step) -> Parts
             Call::Reset(key, when) => Parts::Single(3, key, when),
             Call::Remove(key) => Parts::Single(4, key, 0),
             Call::Poll(time) => Parts::Single(5, time, 0),
+            Call::PollSome(time, limit) => Parts::Single(11, time, limit),
             Call::Wake => Parts::Nothing,
             Call::Length => Parts::Nothing,
             Call::Clear => Parts::Single(6, 0, 0),
@@ -221,7 +222,7 @@ fn check(e: Entry, x: Next) -> Next
     if e.kind == 0 {
         return Next::Ends(Ending::Kind);
     }
-    if 10 < e.kind {
+    if 11 < e.kind {
         return Next::Ends(Ending::Kind);
     }
     if !has_zeros(e) {
@@ -272,6 +273,7 @@ fn step_of(e: Entry, bytes: &[u8], at: usize) -> Next
         7 => Next::One(Step::Open),
         8 => Next::One(Step::Close),
         9 => repeats(e, bytes, at),
+        11 => Next::One(Step::Asks(Call::PollSome(e.a, e.b))),
         _ => Next::Ends(Ending::Pair),
     }
 }

@@ -1,6 +1,6 @@
 -- What this crate's functions claim: the lines of a chunk, answered as far as the output has room, and the last line.
 use mathlib.Core.Path.{_≡_}
-use mathlib.Core.Bool.{true, false}
+use mathlib.Core.Bool.{Bool, true, false}
 use mathlib.Core.List.{List}
 use Prim.Native.Nat.{ℕ, _+_, _≤_, _<_}
 use lib.ListN.{length, take}
@@ -30,19 +30,19 @@ abbrev pub Goes : List ℕ → Stand → Type 0
 Goes got a = (a .next < length got) × (a .at + answerRoom ≤ length (a .out))
 
 -- one line is taken: it has ended and is answered, or the chunk has ended and what came of it is kept
-pub data Turn (got : List ℕ) (a : Stand) : Stand → Type 0 where
+pub data Turn (limits : Bool) (got : List ℕ) (a : Stand) : Stand → Type 0 where
   answered : {i k : ℕ} {l : List ℕ} {w : QueueWords} {o : List ℕ} {e : ℕ} → TakeClaim got (a .next) (a .line) (a .kept) i k true l
-      → LineClaim (take k l) (a .store) (a .out) (a .at) w o e
-      → Turn got a (stand i l 0 w o e)
+      → LineClaim limits (take k l) (a .store) (a .out) (a .at) w o e
+      → Turn limits got a (stand i l 0 w o e)
   goes-on : {i k : ℕ} {l : List ℕ} → TakeClaim got (a .next) (a .line) (a .kept) i k false l
-      → Turn got a (stand i l k (a .store) (a .out) (a .at))
+      → Turn limits got a (stand i l k (a .store) (a .out) (a .at))
 
 -- one line after the other, as long as a byte is left and room for an answer
-pub data FeedClaim (got : List ℕ) : Stand → Stand → Type 0 where
-  stops : {a : Stand} → (Goes got a → ⊥) → FeedClaim got a a
-  turns : {a b c : Stand} → Goes got a → Turn got a b → FeedClaim got b c → FeedClaim got a c
+pub data FeedClaim (limits : Bool) (got : List ℕ) : Stand → Stand → Type 0 where
+  stops : {a : Stand} → (Goes got a → ⊥) → FeedClaim limits got a a
+  turns : {a b c : Stand} → Goes got a → Turn limits got a b → FeedClaim limits got b c → FeedClaim limits got a c
 
 -- the input has ended: what was kept, l, is the last line, if it is anything, and is answered at the front of o
-pub record LastClaim (l : List ℕ) (w : QueueWords) (o : List ℕ) (w′ : QueueWords) (o′ : List ℕ) (end : ℕ) : Type 0 where
+pub record LastClaim (limits : Bool) (l : List ℕ) (w : QueueWords) (o : List ℕ) (w′ : QueueWords) (o′ : List ℕ) (end : ℕ) : Type 0 where
   pub none : length l ≡ 0 → (w′ ≡ w) × (o′ ≡ o) × (end ≡ 0)
-  pub some : 0 < length l → LineClaim l w o 0 w′ o′ end
+  pub some : 0 < length l → LineClaim limits l w o 0 w′ o′ end

@@ -36,6 +36,7 @@ fn goes(next: usize, len: usize, at: usize, size: usize) -> bool
 
 // Takes one line out of the chunk and answers it, or keeps it where it does not end in the chunk.
 fn turn(
+    limits: bool,
     got: &[u8],
     from: usize,
     line: &mut [u8],
@@ -53,6 +54,7 @@ fn turn(
 ) -> Fed
     ensures { λ r. ⌜
         Turn
+        limits
         (old got)
         (stand from (old line) n (before state (heads .rows) values deadlines nexts prevs turns marks) (old out) at)
         (stand
@@ -69,6 +71,7 @@ fn turn(
     if t.ended {
         let rows = delay_queue::rows_of(heads);
         let done = bench::answer_line(
+            limits,
             &line[..k],
             state,
             rows,
@@ -104,6 +107,7 @@ fn turn(
 // Answers the lines of the chunk from `from` on, of whose first line n bytes are kept already, into out from its front
 // on: until the chunk is used up or out has no room left for an answer.
 pub fn answer_lines(
+    limits: bool,
     got: &[u8],
     from: usize,
     line: &mut [u8],
@@ -120,6 +124,7 @@ pub fn answer_lines(
 ) -> Fed
     ensures { λ r. ⌜
         FeedClaim
+        limits
         (old got)
         (stand from (old line) n (before state (heads .rows) values deadlines nexts prevs turns marks) (old out) 0)
         (stand
@@ -137,6 +142,7 @@ pub fn answer_lines(
     let mut left = heads;
     while goes(i, got.len(), end, out.len()) {
         let r = turn(
+            limits,
             got,
             i,
             line,
@@ -169,6 +175,7 @@ pub fn answer_lines(
 
 // The input has ended: answers what is kept, the last line, if it is anything, into out from its front on.
 pub fn answer_last(
+    limits: bool,
     line: &[u8],
     state: Wheel,
     heads: Heads,
@@ -182,6 +189,7 @@ pub fn answer_last(
 ) -> Answered
     ensures { λ r. ⌜
         LastClaim
+        limits
         (old line)
         (before state (heads .rows) values deadlines nexts prevs turns marks)
         (old out)
@@ -198,6 +206,7 @@ pub fn answer_last(
     }
     let rows = delay_queue::rows_of(heads);
     bench::answer_line(
+        limits,
         line,
         state,
         rows,

@@ -10,12 +10,12 @@ use stack::Stacks;
 use wheel::Wheel;
 ghost use Prim.Native.Nat.{_+_, _≤_};
 ghost use lib.ListN.{length};
-ghost use Rattle.records.specs.Words.{lent, after, Sound};
+ghost use Rattle.records.specs.Words.{lent, after, holding, Sound};
 ghost use Rattle.wheel.specs.Expiration.{NotPassed};
 
 // Calls by number, in the order of `Call`. A call is four words: its number, then a value, a key or N, then a deadline, a time or a first
-// turn, then a period. A command of the benchmark is two: its number in the top four bits and the key below, then the deadline or the
-// time; none of its timers repeats.
+// turn, then a period or a limit on moves. A command of the benchmark is two: its number in the top four bits and the key below, then the
+// deadline or the time; none of its timers repeats, and no poll of it has a limit.
 const FORMAT: u64 = 0;
 
 const INSERT: u64 = 1;
@@ -26,14 +26,23 @@ const REMOVE: u64 = 3;
 
 const POLL: u64 = 4;
 
-const LENGTH: u64 = 6;
+const POLL_SOME: u64 = 5;
 
-const CLEAR: u64 = 7;
+const LENGTH: u64 = 7;
+
+const CLEAR: u64 = 8;
 
 // Elapsed after a command, and the sum of what has been answered.
 pub struct Ran {
     pub elapsed: u64,
     pub sum: u64,
+}
+
+// Elapsed after some calls, and the slot and the time of the poll in hand.
+struct Left {
+    elapsed: u64,
+    hand: u16,
+    until: u64,
 }
 
 fn mix(sum: u64, x: u64) -> u64 {
@@ -60,6 +69,7 @@ fn told(sum: u64, answer: Answer) -> u64 {
             )
         }
         Answer::Nothing(moves, drains) => mix(sum, 7),
+        Answer::NotYet(moves, drains) => mix(sum, 5),
         Answer::Wake(time) => mix(sum, time),
         Answer::NoWake => mix(sum, 3),
         Answer::Length(n) => mix(sum, n),
@@ -76,7 +86,7 @@ fn summed(op: u64, sum: u64, answer: Answer, elapsed: u64) -> u64 {
     s
 }
 
-// One command on a sound store, which stays sound.
+// One command on a sound store with no poll in hand, which stays so: its polls have no limit.
 fn turn(
     elapsed: u64,
     rows: &mut [u64; 6],
@@ -164,7 +174,10 @@ fn turn(
             prevs,
             turns,
             marks,
+            links::NOBODY,
+            0,
             second,
+            u64::MAX,
         );
         let answer = out.answer;
         let e = out.elapsed;
@@ -176,7 +189,7 @@ fn turn(
     Ran { elapsed, sum: s }
 }
 
-// The whole script on a sound store.
+// The whole script on a sound store with no poll in hand.
 fn script_on(
     elapsed: u64,
     rows: &mut [u64; 6],
@@ -223,19 +236,9 @@ fn script_on(
     Ran { elapsed: e, sum }
 }
 
-// The calls that change nothing.
-fn asked(elapsed: u64, rows: &[u64; 6], n: u16, expired: u16, marks: &[u16], op: u64) -> Answer
-    requires { ⌜ NotPassed elapsed (now rows) × (n ≤ length (now marks)) ⌝ }
-{
-    if op == LENGTH {
-        return Answer::Length(queue::length(n, marks));
-    }
-    queue::next_wake(elapsed, rows, expired)
-}
-
-// One call on a sound store, which stays sound. Nothing formats here: that number too asks for the next wake. The benchmark has `turn` of
-// its own: there no answer is handed on, which would be measured too.
-fn called(
+// A call that is refused with 12 while a poll is in hand, on a sound store with none, which stays so. All numbers but three ask for the
+// next wake, format's too: nothing formats here.
+fn freely(
     elapsed: u64,
     rows: &mut [u64; 6],
     tops: &mut [u16; 3],
@@ -250,12 +253,12 @@ fn called(
     a: u64,
     b: u64,
     c: u64,
-) -> Out
+) -> Answer
     requires { ⌜ Sound (lent elapsed rows tops heads values deadlines nexts prevs turns marks) ⌝ }
-    ensures { λ r. ⌜ Sound (after (r .elapsed) rows tops heads values deadlines nexts prevs turns marks) ⌝ }
+    ensures { λ _. ⌜ Sound (after elapsed rows tops heads values deadlines nexts prevs turns marks) ⌝ }
 {
     if op == INSERT {
-        let answer = queue::insert(
+        return queue::insert(
             elapsed,
             rows,
             tops,
@@ -270,10 +273,9 @@ fn called(
             b,
             c,
         );
-        return Out { answer, elapsed };
     }
     if op == RESET {
-        let answer = queue::reset(
+        return queue::reset(
             elapsed,
             rows,
             tops,
@@ -287,10 +289,9 @@ fn called(
             a,
             b,
         );
-        return Out { answer, elapsed };
     }
     if op == REMOVE {
-        let answer = queue::remove(
+        return queue::remove(
             elapsed,
             rows,
             tops,
@@ -303,9 +304,48 @@ fn called(
             marks,
             a,
         );
-        return Out { answer, elapsed };
     }
-    if op == POLL {
+    queue::next_wake(elapsed, rows, tops[1])
+}
+
+fn is_poll(op: u64) -> bool {
+    op == POLL || op == POLL_SOME
+}
+
+// A poll with no limit has one past all heights.
+fn limit_of(op: u64, c: u64) -> u64 {
+    if op == POLL_SOME {
+        return c;
+    }
+    u64::MAX
+}
+
+// One call on a sound store, which stays sound. The benchmark has `turn` of its own: there no answer is handed on, which would be measured
+// too.
+fn called(
+    elapsed: u64,
+    rows: &mut [u64; 6],
+    tops: &mut [u16; 3],
+    heads: &mut [[u16; 64]; 6],
+    values: &mut [u64],
+    deadlines: &mut [u64],
+    nexts: &mut [u16],
+    prevs: &mut [u16],
+    turns: &mut [u64],
+    marks: &mut [u16],
+    hand: u16,
+    until: u64,
+    op: u64,
+    a: u64,
+    b: u64,
+    c: u64,
+) -> Out
+    requires { ⌜ Sound (holding hand until (lent elapsed rows tops heads values deadlines nexts prevs turns marks)) ⌝ }
+    ensures { λ r. ⌜
+        Sound (holding (r .hand) (r .until)
+        (after (r .elapsed) rows tops heads values deadlines nexts prevs turns marks)) ⌝ }
+{
+    if is_poll(op) {
         return queue::poll(
             elapsed,
             rows,
@@ -317,7 +357,10 @@ fn called(
             prevs,
             turns,
             marks,
+            hand,
+            until,
             b,
+            limit_of(op, c),
         );
     }
     if op == CLEAR {
@@ -333,10 +376,52 @@ fn called(
             turns,
             marks,
         );
-        return Out { answer, elapsed: 0 };
+        return Out {
+            answer,
+            elapsed: 0,
+            hand: links::NOBODY,
+            until: 0,
+        };
     }
-    let answer = asked(elapsed, rows, tops[0], tops[1], marks, op);
-    Out { answer, elapsed }
+    if op == LENGTH {
+        let n = queue::length(tops[0], marks);
+        return Out {
+            answer: Answer::Length(n),
+            elapsed,
+            hand,
+            until,
+        };
+    }
+    if hand != links::NOBODY {
+        return Out {
+            answer: Answer::No(12),
+            elapsed,
+            hand,
+            until,
+        };
+    }
+    let answer = freely(
+        elapsed,
+        rows,
+        tops,
+        heads,
+        values,
+        deadlines,
+        nexts,
+        prevs,
+        turns,
+        marks,
+        op,
+        a,
+        b,
+        c,
+    );
+    Out {
+        answer,
+        elapsed,
+        hand: links::NOBODY,
+        until: 0,
+    }
 }
 
 // An answer's number, in the order of `Answer`, and its parts.
@@ -362,10 +447,11 @@ fn words_of(answer: Answer) -> [u64; 6] {
             drains,
         ],
         Answer::Nothing(moves, drains) => [5, moves, drains, 0, 0, 0],
-        Answer::Wake(time) => [6, time, 0, 0, 0, 0],
-        Answer::NoWake => [7, 0, 0, 0, 0, 0],
-        Answer::Length(n) => [8, n, 0, 0, 0, 0],
-        Answer::No(number) => [9, number, 0, 0, 0, 0],
+        Answer::NotYet(moves, drains) => [6, moves, drains, 0, 0, 0],
+        Answer::Wake(time) => [7, time, 0, 0, 0, 0],
+        Answer::NoWake => [8, 0, 0, 0, 0, 0],
+        Answer::Length(n) => [9, n, 0, 0, 0, 0],
+        Answer::No(number) => [10, number, 0, 0, 0, 0],
     }
 }
 
@@ -389,7 +475,8 @@ fn least(x: usize, y: usize) -> usize
     y
 }
 
-// As many calls of four words on a sound store as have room for their answers, six words each. Elapsed after them.
+// As many calls of four words on a sound store as have room for their answers, six words each. Elapsed
+// after them, and the poll in hand.
 fn answers_on(
     elapsed: u64,
     rows: &mut [u64; 6],
@@ -401,12 +488,16 @@ fn answers_on(
     prevs: &mut [u16],
     turns: &mut [u64],
     marks: &mut [u16],
+    hand: u16,
+    until: u64,
     script: &[u64],
     answers: &mut [u64],
-) -> u64
-    requires { ⌜ Sound (lent elapsed rows tops heads values deadlines nexts prevs turns marks) ⌝ }
+) -> Left
+    requires { ⌜ Sound (holding hand until (lent elapsed rows tops heads values deadlines nexts prevs turns marks)) ⌝ }
 {
     let mut e = elapsed;
+    let mut place = hand;
+    let mut time = until;
     let commands = least(script.len() / 4, answers.len() / 6);
     let mut i: usize = 0;
     while i < commands {
@@ -427,6 +518,8 @@ fn answers_on(
             prevs,
             turns,
             marks,
+            place,
+            time,
             op,
             a,
             b,
@@ -434,17 +527,24 @@ fn answers_on(
         );
         let answer = out.answer;
         e = out.elapsed;
+        place = out.hand;
+        time = out.until;
         write_words(answers, at, words_of(answer));
     }
-    e
+    Left {
+        elapsed: e,
+        hand: place,
+        until: time,
+    }
 }
 
 fn low(x: u64) -> u16 {
     (x % 65536) as u16
 }
 
-// The state across the border: elapsed, six rows, n, the heads of the expired stack and of the free list.
-fn state_of(s: &[u64; 10]) -> Wheel {
+// The state across the border: elapsed, six rows, n, the heads of the expired stack and of the free list, the slot whose drain is in hand and
+// the time of its poll.
+fn state_of(s: &[u64; 12]) -> Wheel {
     let occupied = [s[1], s[2], s[3], s[4], s[5], s[6]];
     let stacks = Stacks {
         n: low(s[7]),
@@ -455,11 +555,13 @@ fn state_of(s: &[u64; 10]) -> Wheel {
         elapsed: s[0],
         occupied,
         stacks,
+        hand: low(s[10]),
+        until: s[11],
     }
 }
 
 // The parts put together again.
-fn wheel_of(elapsed: u64, rows: [u64; 6], tops: [u16; 3]) -> Wheel {
+fn wheel_of(elapsed: u64, rows: [u64; 6], tops: [u16; 3], hand: u16, until: u64) -> Wheel {
     let stacks = Stacks {
         n: tops[0],
         expired: tops[1],
@@ -469,10 +571,12 @@ fn wheel_of(elapsed: u64, rows: [u64; 6], tops: [u16; 3]) -> Wheel {
         elapsed,
         occupied: rows,
         stacks,
+        hand,
+        until,
     }
 }
 
-fn keep_state(s: &mut [u64; 10], wheel: Wheel) {
+fn keep_state(s: &mut [u64; 12], wheel: Wheel) {
     let stacks = wheel.stacks;
     s[0] = wheel.elapsed;
     s[1] = wheel.occupied[0];
@@ -484,12 +588,14 @@ fn keep_state(s: &mut [u64; 10], wheel: Wheel) {
     s[7] = stacks.n as u64;
     s[8] = stacks.expired as u64;
     s[9] = stacks.free as u64;
+    s[10] = wheel.hand as u64;
+    s[11] = wheel.until;
 }
 
 // Whether the store is sound.
 #[no_mangle]
 pub extern "C" fn harness_judge(
-    state: &[u64; 10],
+    state: &[u64; 12],
     heads: &[[u16; 64]; 6],
     values: &[u64],
     deadlines: &[u64],
@@ -510,10 +616,10 @@ pub extern "C" fn harness_judge(
     )
 }
 
-// The whole script by the calls that judge nothing. The store is judged once, before the first.
+// The whole script by the calls that judge nothing, on a store with no poll in hand. The store is judged once, before the first.
 #[no_mangle]
 pub extern "C" fn harness_inner(
-    state: &mut [u64; 10],
+    state: &mut [u64; 12],
     heads: &mut [[u16; 64]; 6],
     values: &mut [u64],
     deadlines: &mut [u64],
@@ -536,6 +642,9 @@ pub extern "C" fn harness_inner(
     ) {
         return 0;
     }
+    if before.hand != links::NOBODY {
+        return 0;
+    }
     let elapsed = before.elapsed;
     let mut rows = before.occupied;
     let stacks = before.stacks;
@@ -553,14 +662,14 @@ pub extern "C" fn harness_inner(
         marks,
         script,
     );
-    keep_state(state, wheel_of(end.elapsed, rows, tops));
+    keep_state(state, wheel_of(end.elapsed, rows, tops, links::NOBODY, 0));
     end.sum
 }
 
 // Calls that judge nothing, with their answers. The store is judged once, before the first: whether it is sound.
 #[no_mangle]
 pub extern "C" fn harness_answers(
-    state: &mut [u64; 10],
+    state: &mut [u64; 12],
     heads: &mut [[u16; 64]; 6],
     values: &mut [u64],
     deadlines: &mut [u64],
@@ -588,7 +697,7 @@ pub extern "C" fn harness_answers(
     let mut rows = before.occupied;
     let stacks = before.stacks;
     let mut tops = [stacks.n, stacks.expired, stacks.free];
-    let e = answers_on(
+    let left = answers_on(
         elapsed,
         &mut rows,
         &mut tops,
@@ -599,10 +708,15 @@ pub extern "C" fn harness_answers(
         prevs,
         turns,
         marks,
+        before.hand,
+        before.until,
         script,
         answers,
     );
-    keep_state(state, wheel_of(e, rows, tops));
+    keep_state(
+        state,
+        wheel_of(left.elapsed, rows, tops, left.hand, left.until),
+    );
     true
 }
 
@@ -622,6 +736,9 @@ fn call_of(op: u64, a: u64, b: u64, c: u64) -> Call {
     if op == POLL {
         return Call::Poll(b);
     }
+    if op == POLL_SOME {
+        return Call::PollSome(b, c);
+    }
     if op == LENGTH {
         return Call::Length;
     }
@@ -634,7 +751,7 @@ fn call_of(op: u64, a: u64, b: u64, c: u64) -> Call {
 // One call as users make it, which judges the store first, with its answer.
 #[no_mangle]
 pub extern "C" fn harness_call(
-    state: &mut [u64; 10],
+    state: &mut [u64; 12],
     heads: &mut [[u16; 64]; 6],
     values: &mut [u64],
     deadlines: &mut [u64],
@@ -680,7 +797,7 @@ fn first_of(first: u64, i: u64) -> u64 {
 // The whole script by the calls that users make: every one judges the store first.
 #[no_mangle]
 pub extern "C" fn harness_judged(
-    state: &mut [u64; 10],
+    state: &mut [u64; 12],
     heads: &mut [[u16; 64]; 6],
     values: &mut [u64],
     deadlines: &mut [u64],
@@ -765,7 +882,7 @@ fn ending_words(ending: Ending) -> [u64; 2] {
 // where reading stopped, and the words of why.
 #[no_mangle]
 pub extern "C" fn harness_replay(
-    state: &mut [u64; 10],
+    state: &mut [u64; 12],
     heads: &mut [[u16; 64]; 6],
     values: &mut [u64],
     deadlines: &mut [u64],

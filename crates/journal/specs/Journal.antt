@@ -28,7 +28,7 @@ pub data Acts : Bool → QueueWords → Step → Answer → Bool → QueueWords 
   closed : {s : QueueWords} {a : Answer} → told a ≡ T.ok → Acts true s S.Close a false s
   not-open : {s : QueueWords} {a : Answer} → told a ≡ T.no 13 → Acts false s S.Close a false s
 
--- "save one refused with 1, 2 or 13"
+-- "save one refused with 1, 2 or 13": a poll that answers "not yet" is written, and so is a call refused with 12
 abbrev pub unwritten : Told → Bool
 unwritten T.ok = false
 unwritten (T.key k) = false
@@ -36,6 +36,7 @@ unwritten (T.gone v d) = false
 unwritten (T.out k v d m n) = false
 unwritten (T.last k v d m n) = false
 unwritten (T.none m n) = false
+unwritten (T.yet m n) = false
 unwritten (T.wake t) = false
 unwritten T.never = false
 unwritten (T.len n) = false

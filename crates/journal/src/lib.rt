@@ -41,6 +41,7 @@ fn is_unwritten(answer: Answer) -> bool
         Answer::Out(_k, _v, _d, _m, _n) => false,
         Answer::Last(_k, _v, _d, _m, _n) => false,
         Answer::Nothing(_m, _n) => false,
+        Answer::NotYet(_m, _n) => false,
         Answer::Wake(_t) => false,
         Answer::NoWake => false,
         Answer::Length(_n) => false,

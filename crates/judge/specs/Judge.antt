@@ -1,22 +1,42 @@
--- The parts of soundness as they are judged, record by record.
+-- The parts of soundness as they are judged, record by record, with and without a poll in hand.
 use mathlib.Core.Path.{_≡_}
+use mathlib.Core.Logic.{_≢_}
 use mathlib.Core.List.{List}
-use Prim.Native.Nat.{ℕ, _^_, _<_}
+use Prim.Native.Nat.{ℕ, suc, _%_, _^_, _≤_, _<_}
+use Rattle.times.specs.Times.{width}
 use Rattle.links.specs.Lists.{nobody}
 use Rattle.links.specs.Links.{at}
-use Rattle.stack.specs.Places.{slots, expired}
-use Rattle.wheel.specs.Wheel.{OnWheel}
+use Rattle.stack.specs.Places.{slots, expired, levelAt}
+use Rattle.wheel.specs.Limited.{start}
+use Rattle.wheel.specs.Midway.{Belongs}
 use Rattle.records.specs.Records.{lastTurn}
 
 -- ---- the records
 
--- turn and deadline of a record, by its mark
-pub record RecordAgrees (e w t m : ℕ) : Type 0 where
+-- turn and deadline of a record, by its mark, where the slot h of level low + 1, which starts at c, is drained; with no poll in hand low is 0, h is nobody
+-- and c is elapsed
+pub record RecordAgrees (low h c w t m : ℕ) : Type 0 where
   pub some : 0 < t
   pub last : t < 2 ^ 48
-  pub wheel : m < slots → OnWheel m e w
-  pub stack : m ≡ expired → w ≡ e
+  pub wheel : m < slots → Belongs low h c m w
+  pub stack : m ≡ expired → w ≡ c
   pub retired : m ≡ nobody → t ≡ lastTurn
 
-abbrev pub RecordsAgree : ℕ → ℕ → List ℕ → List ℕ → List ℕ → Type 0
-RecordsAgree e n ds ts ms = (i : ℕ) → i < n → RecordAgrees e (at ds i) (at ts i) (at ms i)
+abbrev pub RecordsAgree : ℕ → ℕ → ℕ → ℕ → List ℕ → List ℕ → List ℕ → Type 0
+RecordsAgree low h c n ds ts ms = (i : ℕ) → i < n → RecordAgrees low h c (at ds i) (at ts i) (at ms i)
+
+-- ---- a poll in hand
+
+-- e is a multiple of the width of the level above, and not of 2^36
+abbrev pub OwnStart : ℕ → ℕ → Type 0
+OwnStart k e = (e % width (suc k) ≡ 0) × (e % 2 ^ 36 ≢ 0)
+
+-- what is asked beside the records of a poll at `until` with the drain of p in hand, by the heads of p and of the expired stack
+pub record CanHold (e until p head first : ℕ) : Type 0 where
+  pub below : p < slots
+  pub high : 0 < levelAt p
+  pub filled : head ≢ nobody
+  pub stack : first ≡ nobody
+  pub late : e ≤ start e p
+  pub due : start e p ≤ until
+  pub own : start e p ≡ e → OwnStart (levelAt p) e

@@ -1,14 +1,17 @@
 // Whether a store is sound: what every call but format judges first.
 use wheel::Wheel;
-ghost use Prim.Native.Nat.{_≤_};
+ghost use Prim.Native.Nat.{_≤_, _<_};
 ghost use lib.ListN.{length};
 ghost use Rattle.contracts.specs.Lent.{old};
 ghost use Rattle.contracts.specs.Tells.{Tells};
 ghost use Rattle.records.specs.Slices.{Room, before as slices};
 ghost use Rattle.records.specs.Words.{Sound};
 ghost use Rattle.records.specs.Store.{before};
-ghost use Rattle.wheel.specs.Wheel.{OnWheel};
-ghost use Rattle.judge.specs.Judge.{RecordAgrees, RecordsAgree};
+ghost use Rattle.stack.specs.Words.{stacksOf};
+ghost use Rattle.stack.specs.Heads.{headOf};
+ghost use Rattle.stack.specs.Places.{expired};
+ghost use Rattle.wheel.specs.Midway.{Belongs};
+ghost use Rattle.judge.specs.Judge.{RecordAgrees, RecordsAgree, OwnStart, CanHold};
 
 // Whether the slices are long enough for n records, of which each has two words of `values`.
 pub fn has_room(
@@ -41,25 +44,35 @@ pub fn has_room(
     k <= marks.len()
 }
 
-// Whether a timer with the deadline belongs in the slot `place`.
-fn is_place(elapsed: u64, when: u64, place: u16) -> bool
-    ensures { λ r. ⌜ Tells (OnWheel place elapsed when) r ⌝ }
+// Whether a timer with the deadline belongs in the slot `place`, where the slot `hand` of level low + 1, which starts at
+// `clock`, is drained. With no poll in hand: 0, nobody and elapsed.
+fn is_place(low: usize, hand: u16, clock: u64, when: u64, place: u16) -> bool
+    requires { ⌜ low < 6 ⌝ }
+    ensures { λ r. ⌜ Tells (Belongs low hand clock place when) r ⌝ }
 {
-    if when < elapsed {
+    if when < clock {
         return false;
     }
-    if !times::same_block(elapsed, when) {
+    if !times::same_block(clock, when) {
         return false;
     }
-    let level = times::level_for(elapsed, when);
-    let slot = times::slot_for(when, level);
-    place == stack::slot_place(level, slot)
+    let level = times::level_for(clock, when);
+    if low < level {
+        let slot = times::slot_for(when, level);
+        return place == stack::slot_place(level, slot);
+    }
+    if place == hand {
+        return true;
+    }
+    let slot = times::slot_for(when, low);
+    place == stack::slot_place(low, slot)
 }
 
 // Whether the turn is in range, and the last one where the mark tells no place, and the deadline obeys the rule of the
 // place.
-fn record_agrees(elapsed: u64, when: u64, turn: u64, mark: u16) -> bool
-    ensures { λ r. ⌜ Tells (RecordAgrees elapsed when turn mark) r ⌝ }
+fn record_agrees(low: usize, hand: u16, clock: u64, when: u64, turn: u64, mark: u16) -> bool
+    requires { ⌜ low < 6 ⌝ }
+    ensures { λ r. ⌜ Tells (RecordAgrees low hand clock when turn mark) r ⌝ }
 {
     if turn == 0 {
         return false;
@@ -68,10 +81,10 @@ fn record_agrees(elapsed: u64, when: u64, turn: u64, mark: u16) -> bool
         return false;
     }
     if stack::is_slot(mark) {
-        return is_place(elapsed, when, mark);
+        return is_place(low, hand, clock, when, mark);
     }
     if mark == stack::EXPIRED {
-        return when == elapsed;
+        return when == clock;
     }
     if mark == links::NOBODY {
         return turn == records::LAST_TURN;
@@ -80,19 +93,73 @@ fn record_agrees(elapsed: u64, when: u64, turn: u64, mark: u16) -> bool
 }
 
 // Whether this holds of all n records.
-fn records_agree(elapsed: u64, n: u16, deadlines: &[u64], turns: &[u64], marks: &[u16]) -> bool
-    requires { ⌜ (n ≤ length (now deadlines)) × (n ≤ length (now turns)) × (n ≤ length (now marks)) ⌝ }
-    ensures { λ r. ⌜ Tells (RecordsAgree elapsed n (old deadlines) (old turns) (old marks)) r ⌝ }
+fn records_agree(
+    low: usize,
+    hand: u16,
+    clock: u64,
+    n: u16,
+    deadlines: &[u64],
+    turns: &[u64],
+    marks: &[u16],
+) -> bool
+    requires { ⌜ (low < 6) × (n ≤ length (now deadlines)) × (n ≤ length (now turns)) × (n ≤ length (now marks)) ⌝ }
+    ensures { λ r. ⌜ Tells (RecordsAgree low hand clock n (old deadlines) (old turns) (old marks)) r ⌝ }
 {
     let mut i = 0u16;
     while i < n {
         let k = i as usize;
-        if !record_agrees(elapsed, deadlines[k], turns[k], marks[k]) {
+        if !record_agrees(low, hand, clock, deadlines[k], turns[k], marks[k]) {
             return false;
         }
         i += 1;
     }
     true
+}
+
+// Whether elapsed is a multiple of the width of the level above, and no block's start: then a drain of elapsed's slot
+// there may have filled elapsed's slot of this level.
+fn is_own(elapsed: u64, level: usize) -> bool
+    requires { ⌜ level < 6 ⌝ }
+    ensures { λ r. ⌜ Tells (OwnStart level elapsed) r ⌝ }
+{
+    if elapsed % (times::MAX_DURATION + 1) == 0 {
+        return false;
+    }
+    let above = level + 1;
+    if above == times::NUM_LEVELS {
+        return false;
+    }
+    elapsed % times::slot_range(above) == 0
+}
+
+// Whether a poll at `until` can have the drain of `hand` in hand, but for the records.
+fn can_hold(elapsed: u64, tops: &[u16; 3], heads: &[[u16; 64]; 6], hand: u16, until: u64) -> bool
+    ensures { λ r. ⌜
+        Tells (CanHold elapsed until hand (headOf (stacksOf (old tops)) (old heads) hand)
+        (headOf (stacksOf (old tops)) (old heads) expired)) r ⌝ }
+{
+    if !stack::is_slot(hand) {
+        return false;
+    }
+    let level = stack::level_of(hand);
+    if level == 0 {
+        return false;
+    }
+    if stack::head_of(tops, heads, hand) == links::NOBODY {
+        return false;
+    }
+    if stack::head_of(tops, heads, stack::EXPIRED) != links::NOBODY {
+        return false;
+    }
+    let slot = stack::slot_of(hand);
+    let start = times::slot_start(elapsed, level, slot);
+    if until < start {
+        return false;
+    }
+    if start == elapsed {
+        return is_own(elapsed, level);
+    }
+    elapsed < start
 }
 
 // Whether the store is sound.
@@ -119,8 +186,23 @@ pub fn is_sound(
     }
     let rows = state.occupied;
     let tops = [n, stacks.expired, stacks.free];
-    if !wheel::is_whole(state.elapsed, &rows, &tops, &heads, nexts, prevs, marks) {
+    let e = state.elapsed;
+    if !wheel::is_whole(e, &rows, &tops, &heads, nexts, prevs, marks) {
         return false;
     }
-    records_agree(state.elapsed, n, deadlines, turns, marks)
+    let hand = state.hand;
+    let until = state.until;
+    if hand == links::NOBODY {
+        if until != 0 {
+            return false;
+        }
+        return records_agree(0, hand, e, n, deadlines, turns, marks);
+    }
+    if !can_hold(e, &tops, &heads, hand, until) {
+        return false;
+    }
+    let level = stack::level_of(hand);
+    let slot = stack::slot_of(hand);
+    let start = times::slot_start(e, level, slot);
+    records_agree(level - 1, hand, start, n, deadlines, turns, marks)
 }

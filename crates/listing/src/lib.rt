@@ -323,8 +323,21 @@ fn opening(out: &mut [u8], pen: Pen, n: u16, elapsed: u64) -> Pen {
     pen::byte(out, q, b'\n')
 }
 
-// The lines of a store, behind the bytes of out that wait: `store none`, or N and elapsed and all that it holds. Where out is
-// full, what waits is written to standard output.
+// The poll in hand, where there is one: its now, and level and slot of the list that its next move is taken from.
+fn hand(out: &mut [u8], pen: Pen, place: u16, until: u64) -> Pen {
+    if place == links::NOBODY {
+        return pen;
+    }
+    let level = stack::level_of(place);
+    let s = stack::slot_of(place);
+    let p = field(out, pen, b"hand ", until);
+    let q = field(out, p, b" ", level as u64);
+    let r = field(out, q, b" ", s as u64);
+    pen::byte(out, r, b'\n')
+}
+
+// The lines of a store, behind the bytes of out that wait: `store none`, or N and elapsed, the poll in hand and all that it
+// holds. Where out is full, what waits is written to standard output.
 pub fn write_store(
     out: &mut [u8],
     pen: Pen,
@@ -345,6 +358,7 @@ pub fn write_store(
         return pen::byte(out, p, b'\n');
     }
     let p = opening(out, pen, n, state.elapsed);
-    let q = lists(out, p, stacks, &heads, nexts, marks);
-    records(out, q, values, deadlines, turns, n)
+    let q = hand(out, p, state.hand, state.until);
+    let r = lists(out, q, stacks, &heads, nexts, marks);
+    records(out, r, values, deadlines, turns, n)
 }

@@ -1,4 +1,4 @@
--- What a line says to a store with a journal: the lines of the bench, and two for patches.
+-- What a line says to a store with a journal: the lines of the bench, that of a poll with a limit, and two for patches.
 use mathlib.Core.Path.{_≡_}
 use mathlib.Core.List.{List, [], _∷_}
 use Prim.Native.Nat.{ℕ}
@@ -10,7 +10,7 @@ use Rattle.entries.specs.declared.Step.the-variants as S
 use Rattle.noting.specs.declared.Said.{Said}
 use Rattle.noting.specs.declared.Said.the-variants as D
 
--- the line l, without its newline, says the step x: `o` opens a patch, `e` ends it, and the others are those of the bench
+-- the line l, without its newline, says the step x: `o` opens a patch, `e` ends it, and each call has its line
 pub data Means (l : List ℕ) : Step → Type 0 where
   opens : l ≡ bytes "o" → Means l S.Open
   ends : l ≡ bytes "e" → Means l S.Close

@@ -1,5 +1,6 @@
 pub mod Alike
 pub mod Bounded
+pub mod Chained
 pub mod Cleared
 pub mod Clock
 pub mod Cut
@@ -18,6 +19,7 @@ pub mod Looking
 pub mod Lost
 pub mod Masked
 pub mod Met
+pub mod Midway
 pub mod Mornings
 pub mod Moves
 pub mod NoStore
@@ -34,6 +36,7 @@ pub mod Repeats
 pub mod Runs
 pub mod Shown
 pub mod OneCall
+pub mod Twelve
 pub mod TakesOut
 pub mod Views
 pub mod Waiting

@@ -25,7 +25,7 @@ unfoldable pub upTo : ℕ → QueueWords → QueueWords
 upTo n s =
     let t = s .wheel .stack in
     queueWords (wheelWords (elapsed s) (s .wheel .occupied) (stackWords (t .stacks) (t .heads) (linksTo n (t .links))))
-    (take (2 * n) (s .values)) (take n (s .deadlines)) (take n (s .turns))
+    (take (2 * n) (s .values)) (take n (s .deadlines)) (take n (s .turns)) (s .hand) (s .until)
 
 abbrev pub cut : QueueWords → QueueWords
 cut s = upTo (count s) s
@@ -43,6 +43,8 @@ pub record AlikeViews (v w : View) : Type 0 where
   pub period : (i : ℕ) → i < v .n → v .period i ≡ w .period i
   pub deadline : (i : ℕ) → i < v .n → v .deadline i ≡ w .deadline i
   pub turn : (i : ℕ) → i < v .n → v .turn i ≡ w .turn i
+  pub hand : v .hand ≡ w .hand
+  pub until : v .until ≡ w .until
 
 -- neither is sound, as it is where no format was accepted, or they are alike
 pub data Matched (s t : QueueWords) : Type 0 where
@@ -68,5 +70,5 @@ abbrev pub more : List ℕ
 more = 0 ∷ 7 ∷ []
 
 abbrev pub longer : QueueWords
-longer = words (record { elapsed = 0; occupied = []; stacks = record { n = 0; expired = 0; free = 0 } }) []
+longer = words (record { elapsed = 0; occupied = []; stacks = record { n = 0; expired = 0; free = 0 }; hand = 0; until = 0 }) []
     (0 ∷ more) more more more more more

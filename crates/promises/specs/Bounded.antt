@@ -15,7 +15,8 @@ use Rattle.queue.specs.Steps.{pending}
 use Rattle.records.specs.Words.{QueueWords, view}
 use Rattle.delay_queue.specs.declared.Call.the-variants as C
 use Rattle.delay_queue.specs.Claims.{CallClaim}
-use Rattle.promises.specs.Runs.{Asked, Runs, accepted, isPlacing, isPoll, All, tally, movesOf, moves, resettings, Each}
+use Rattle.promises.specs.Runs.{Asked, Runs, accepted, isPlacing, isPoll, All, tally, tallyEnded, movesOf, moves, resettings, Each}
+use Rattle.promises.specs.Polls.{PollAt}
 use Rattle.promises.specs.Polling.{Dead, Finished}
 use Rattle.promises.specs.Waiting.{NoneRepeats, Undisturbed}
 
@@ -49,7 +50,7 @@ pub record LosesLevels (v : View) (x : Told) (u : View) : Type 0 where
 
 -- "each poll reports as many moves as the pending timers lost in levels during it": one that is refused reports none
 abbrev pub ReportsLost : QueueWords → Asked → QueueWords → Type 0
-ReportsLost s x t = (now : ℕ) → x .call ≡ C.Poll now → LosesLevels (view s) (told (x .answer)) (view t)
+ReportsLost s x t = (now : ℕ) → PollAt (x .call) now → LosesLevels (view s) (told (x .answer)) (view t)
 
 -- "each poll reports as many moves as the pending timers lost in levels during it, so all moves come to at most five for each accepted insert or reset",
 -- and "a re-placing counts as an insert" (02 [7])
@@ -61,7 +62,7 @@ pub record MovesBounded {s u : QueueWords} {l : List Asked} (R : Runs s l u) : T
 
 -- "every poll's now at or past its deadline": asked of the accepted polls alone
 abbrev pub AtOrPast : ℕ → Asked → Type 0
-AtOrPast deadline x = (now : ℕ) → x .call ≡ C.Poll now → accepted x ≡ true → deadline ≤ now
+AtOrPast deadline x = (now : ℕ) → PollAt (x .call) now → accepted x ≡ true → deadline ≤ now
 
 -- "A timer that is due, with no insert, reset, clear or format after that and every poll's now at or past its deadline": the timer r is pending in s under the
 -- key k, and the calls l are made on s. Refused calls change nothing, so none is excluded. 02 [7]: "claimed for stores with no repeating timers"
@@ -74,19 +75,19 @@ pub record DueAfter (s : QueueWords) (k r p : ℕ) (l : List Asked) (u : QueueWo
 
 -- "is out or removed": a poll hands out the key with the timer's value v and deadline d, or a remove of the key answers them
 pub data OutOrRemoved (k v d : ℕ) (x : Asked) : Type 0 where
-  out : {now m n : ℕ} → x .call ≡ C.Poll now → Hands (told (x .answer)) k v d m n → OutOrRemoved k v d x
+  out : {now m n : ℕ} → PollAt (x .call) now → Hands (told (x .answer)) k v d m n → OutOrRemoved k v d x
   removed : x .call ≡ C.Remove k → told (x .answer) ≡ T.gone v d → OutOrRemoved k v d x
 
--- "within .. accepted polls": a call of the run is such a one, and up to it, itself included, the run has at most n accepted polls
+-- "within .. accepted polls": a call of the run is such a one, and up to it, itself included, the run has at most n polls that ended (02 [10])
 pub record Within (n : ℕ) (P : Asked → Type 0) (l : List Asked) : Type 0 where
   pub before : List Asked
   pub call : Asked
   pub after : List Asked
   pub split : l ≡ before ++ call ∷ after
   pub such : P call
-  pub few : tally isPoll (before ++ call ∷ []) ≤ n
+  pub few : tallyEnded isPoll (before ++ call ∷ []) ≤ n
 
--- it is so within n accepted polls, and pending no more at the end
+-- it is so within n ended polls, and pending no more at the end
 pub record LeavesWithin (n k v d : ℕ) (l : List Asked) (u : QueueWords) : Type 0 where
   pub within : Within n (OutOrRemoved k v d) l
   pub dead : Dead (view u) k
@@ -94,7 +95,7 @@ pub record LeavesWithin (n k v d : ℕ) (l : List Asked) (u : QueueWords) : Type
 -- "A timer that is due, .., is out or removed within as many accepted polls as timers were pending": if there are as many
 abbrev pub WaitsBounded : QueueWords → Type 0
 WaitsBounded s =
-    (k r p : ℕ) (l : List Asked) (u : QueueWords) → DueAfter s k r p l u → pending (view s) ≤ tally isPoll l
+    (k r p : ℕ) (l : List Asked) (u : QueueWords) → DueAfter s k r p l u → pending (view s) ≤ tallyEnded isPoll l
     → LeavesWithin (pending (view s)) k (view s .value r) (view s .deadline r) l u
 
 -- ---- the demand

@@ -8,7 +8,7 @@ use Rattle.stack.specs.Places.{free}
 use Rattle.queue.specs.declared.Answer.{Answer}
 use Rattle.queue.specs.Told.{told}
 use Rattle.queue.specs.Told as T
-use Rattle.records.specs.Words.{QueueWords, elapsed, view, Sound}
+use Rattle.records.specs.Words.{QueueWords, elapsed, view, AtRest, Sound}
 use Rattle.delay_queue.specs.declared.Call.{Call}
 use Rattle.delay_queue.specs.declared.Call.the-variants as C
 use Rattle.delay_queue.specs.Claims.{CallClaim}
@@ -22,6 +22,7 @@ HasTimer (C.Insert value when period) s = view s .lists free ≢ []
 HasTimer (C.Reset key when) s = NoSuchKey (view s) key → ⊥
 HasTimer (C.Remove key) s = ⊥
 HasTimer (C.Poll now) s = ⊥
+HasTimer (C.PollSome now limit) s = ⊥
 HasTimer C.Wake s = ⊥
 HasTimer C.Length s = ⊥
 HasTimer C.Clear s = ⊥
@@ -29,6 +30,7 @@ HasTimer C.Clear s = ⊥
 -- the call asks a sound store for a deadline that is "more than 3,600,000 below elapsed", and nothing before that refuses it
 pub record AsksOld (c : Call) (s : QueueWords) : Type 0 where
   pub sound : Sound s
+  pub at-rest : AtRest s
   pub timer : HasTimer c s
   pub old : whenOf c + 3600000 < elapsed s
 

@@ -8,9 +8,11 @@ use Rattle.queue.specs.Told.{told}
 use Rattle.queue.specs.Told as T
 use Rattle.records.specs.Records.{numberIn}
 use Rattle.records.specs.Words.{QueueWords, elapsed, view, Sound}
+use Rattle.delay_queue.specs.declared.Call.{Call}
 use Rattle.delay_queue.specs.declared.Call.the-variants as C
 use Rattle.delay_queue.specs.Claims.{CallClaim}
 use Rattle.promises.specs.Runs.{Asked, Runs, Each}
+use Rattle.promises.specs.Polls.{PollAt}
 use Rattle.promises.specs.KeysStay.{Out}
 
 -- the call on s, accepted, sets the timer of k for `when`: it inserts it, or resets it, "a reset counting as a new placing"; or it is a poll that hands it out
@@ -19,7 +21,7 @@ abbrev pub Sets : QueueWords → ℕ → ℕ → Asked → Type 0
 Sets s k when x =
     ((value : ℕ) × (period : ℕ) × (x .call ≡ C.Insert value when period) × (told (x .answer) ≡ T.key k))
     ⊎ ((x .call ≡ C.Reset k when) × (told (x .answer) ≡ T.ok))
-    ⊎ ((now v d m n : ℕ) × (x .call ≡ C.Poll now) × (told (x .answer) ≡ T.out k v d m n) × (0 < view s .period (numberIn k))
+    ⊎ ((now v d m n : ℕ) × PollAt (x .call) now × (told (x .answer) ≡ T.out k v d m n) × (0 < view s .period (numberIn k))
     × (when ≡ d + view s .period (numberIn k)))
 
 -- the call does not set it
@@ -53,16 +55,16 @@ pub record SetInTurn (s : QueueWords) (j k : ℕ) (t : QueueWords) : Type 0 wher
 
 -- ---- such runs there are
 
--- two timers set in turn, and a poll that hands out the second
+-- two timers set in turn, and a call that hands out the second
 pub record SecondOut : Type 0 where
   pub start : QueueWords
   pub reached : QueueWords
   pub left : QueueWords
   pub one : ℕ
   pub two : ℕ
-  pub now : ℕ
+  pub call : Call
   pub answer : Answer
   pub sound : Sound start
   pub run : SetInTurn start one two reached
-  pub poll : CallClaim (C.Poll now) reached answer left
+  pub poll : CallClaim call reached answer left
   pub out : Out two (told answer)

@@ -12,6 +12,7 @@ Aims k (C.Insert value when period) = ⊥
 Aims k (C.Reset key when) = key ≡ k
 Aims k (C.Remove key) = key ≡ k
 Aims k (C.Poll now) = ⊥
+Aims k (C.PollSome now limit) = ⊥
 Aims k C.Wake = ⊥
 Aims k C.Length = ⊥
 Aims k C.Clear = Unit {0}

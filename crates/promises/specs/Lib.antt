@@ -1,5 +1,6 @@
 pub mod Alike
 pub mod Bounded
+pub mod Chained
 pub mod Cleared
 pub mod Does
 pub mod Eleven
@@ -11,6 +12,7 @@ pub mod KeysStay
 pub mod Looking
 pub mod Lost
 pub mod Met
+pub mod Midway
 pub mod Mornings
 pub mod NoStore
 pub mod Once
@@ -18,10 +20,12 @@ pub mod Order
 pub mod Outs
 pub mod Past
 pub mod Polling
+pub mod Polls
 pub mod Quiet
 pub mod Refused
 pub mod Repeats
 pub mod Runs
 pub mod Shown
 pub mod OneCall
+pub mod Twelve
 pub mod Waiting

@@ -55,7 +55,7 @@ Before now x = (w : ℕ) → x ≡ T.wake w → now < w
 
 -- the words of s at another elapsed
 abbrev pub atTime : ℕ → QueueWords → QueueWords
-atTime e s = queueWords (wheelWords e (s .wheel .occupied) (s .wheel .stack)) (s .values) (s .deadlines) (s .turns)
+atTime e s = queueWords (wheelWords e (s .wheel .occupied) (s .wheel .stack)) (s .values) (s .deadlines) (s .turns) (s .hand) (s .until)
 
 -- 02 [14]: "hands out nothing, makes no moves and changes only elapsed"
 pub record Idle (s : QueueWords) (now : ℕ) (a : Answer) (t : QueueWords) : Type 0 where

@@ -1,5 +1,4 @@
 -- A timer that is lost: in none of document 01's places.
-use mathlib.Core.Path.{_≡_}
 use mathlib.Core.Logic.{_≢_}
 use Prim.Native.Nat.{ℕ, _<_}
 use Rattle.links.specs.Lists.{Mem}

@@ -8,7 +8,7 @@ use Rattle.queue.specs.declared.Answer.{Answer}
 use Rattle.queue.specs.Told.{told}
 use Rattle.queue.specs.Told as T
 use Rattle.records.specs.Records.{Names}
-use Rattle.records.specs.Words.{QueueWords, elapsed, view, Sound}
+use Rattle.records.specs.Words.{QueueWords, AtRest, elapsed, view, Sound}
 use Rattle.delay_queue.specs.Claims.{InsertClaim, ResetClaim, WakeClaim, PollClaim}
 use Rattle.promises.specs.Quiet.{Quiet}
 
@@ -23,9 +23,9 @@ pub data Morning : Type 0 where
 abbrev pub Holds : Morning → Type 0
 -- "At e=63, 64 is 1."
 Holds (level e w k) = levelOf e w ≡ k
--- "e=0, w=68719476736: number 4.": an insert of w on any sound store with a record free, and a reset to w of any pending timer
+-- "e=0, w=68719476736: number 4.": an insert of w on any sound store with no poll in hand and a record free, and a reset to w of any pending timer
 Holds (refused e w number) =
-    (s t : QueueWords) (a : Answer) → Sound s → elapsed s ≡ e
+    (s t : QueueWords) (a : Answer) → Sound s → AtRest s → elapsed s ≡ e
     → ((value period r : ℕ) (l : List ℕ) → view s .lists free ≡ r ∷ l → InsertClaim s value w period a t → (told a ≡ T.no number) × (t ≡ s))
     × ((key r p : ℕ) → Names (view s) key r p → ResetClaim s key w a t → (told a ≡ T.no number) × (t ≡ s))
 -- "4101 inserted at 0 wakes at 4096"

@@ -4,6 +4,7 @@ use mathlib.Core.Bool.{Bool, true, false}
 use mathlib.Core.List.{List, [], _∷_}
 use Prim.Native.Nat.{ℕ}
 use lib.ListN.{replicate}
+use Rattle.links.specs.Lists.{nobody}
 use Rattle.stack.specs.Places.{free}
 use Rattle.stack.specs.Format.{over, formatted}
 use Rattle.wheel.specs.Words.{wheelWords}
@@ -24,6 +25,7 @@ reach (C.Insert value when period) s = count s
 reach (C.Reset key when) s = count s
 reach (C.Remove key) s = count s
 reach (C.Poll now) s = count s
+reach (C.PollSome now limit) s = count s
 reach C.Wake s = count s
 reach C.Length s = count s
 reach C.Clear s = count s
@@ -36,6 +38,7 @@ isNo (T.gone v d) = false
 isNo (T.out k v d m n) = false
 isNo (T.last k v d m n) = false
 isNo (T.none m n) = false
+isNo (T.yet m n) = false
 isNo (T.wake t) = false
 isNo T.never = false
 isNo (T.len n) = false
@@ -57,9 +60,9 @@ abbrev pub word : List ℕ
 word = 0 ∷ []
 
 abbrev pub blank : QueueWords
-blank = words (record { elapsed = 0; occupied = []; stacks = record { n = 0; expired = 0; free = 0 } }) []
+blank = words (record { elapsed = 0; occupied = []; stacks = record { n = 0; expired = 0; free = 0 }; hand = 0; until = 0 }) []
     (0 ∷ word) word word word word word
 
 abbrev pub one : QueueWords
 one = queueWords (wheelWords 0 (replicate 6 0) (formatted 1 word word word)) (over 2 (λ i. 0) (0 ∷ word)) (over 1 (λ i. 0) word)
-    (over 1 (λ i. 1) word)
+    (over 1 (λ i. 1) word) nobody 0

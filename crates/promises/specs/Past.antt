@@ -10,6 +10,7 @@ sizeOf (C.Insert value when period) = 0
 sizeOf (C.Reset key when) = 0
 sizeOf (C.Remove key) = 0
 sizeOf (C.Poll now) = 0
+sizeOf (C.PollSome now limit) = 0
 sizeOf C.Wake = 0
 sizeOf C.Length = 0
 sizeOf C.Clear = 0

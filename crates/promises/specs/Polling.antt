@@ -115,6 +115,7 @@ drainsOf (T.gone v d) = 0
 drainsOf (T.out k v d m n) = n
 drainsOf (T.last k v d m n) = n
 drainsOf (T.none m n) = n
+drainsOf (T.yet m n) = n
 drainsOf (T.wake t) = 0
 drainsOf T.never = 0
 drainsOf (T.len n) = 0

@@ -9,7 +9,7 @@ use Rattle.queue.specs.declared.Answer.{Answer}
 use Rattle.queue.specs.Told.{told}
 use Rattle.records.specs.View.{View}
 use Rattle.records.specs.Records.{At, TooOld, TooFar, OtherBlock, numberIn, turnIn}
-use Rattle.records.specs.Words.{QueueWords, count, elapsed, view, Sound, slices, PastKept}
+use Rattle.records.specs.Words.{QueueWords, count, elapsed, view, MidPoll, Sound, slices, PastKept}
 use Rattle.queue.specs.Calls.{Refused}
 use Rattle.delay_queue.specs.declared.Call.{Call}
 use Rattle.delay_queue.specs.declared.Call.the-variants as C
@@ -35,18 +35,24 @@ pub data Lines : Type 1 where
 abbrev pub deadlineLines : ℕ → ℕ → Lines
 deadlineLines e w = line 11 (TooOld e w) (line 4 (TooFar e w) (line 5 (OtherBlock e w) end))
 
--- "Order: format 1, 8; insert 2, 3, 4, 5; reset 2, 6, 4, 5; remove 2, 6; poll 2, 7; next wake, length and clear only 2."
+-- 12: "polls with another now"; 7: "now is below elapsed"
+abbrev pub pollLines : QueueWords → ℕ → Lines
+pollLines s now = line 2 (Sound s → ⊥) (line 12 (MidPoll s × (now ≢ s .until)) (line 7 (now < elapsed s) end))
+
+-- "Order: format 1, 8; insert 2, 3, 4, 5; reset 2, 6, 4, 5; remove 2, 6; poll 2, 7; next wake, length and clear only 2." 02 [10]: "insert,
+-- remove, reset, next wake and polls with another now are refused with 12, judged after 2"
 -- 1: "N is 0 or over" 65,535 (02 [5]: "Refusal 1 moves to the new limit"), "or a lent slice is too short for N"; 8: "first turn 0 or 2^48 and above"
--- 2: "slices too short or store not sound"; 3: "no record is free and unretired"; 7: "now is below elapsed"
+-- 2: "slices too short or store not sound"; 3: "no record is free and unretired"
 abbrev pub linesOf : Call → QueueWords → Lines
 linesOf (C.Format n turn) s = line 1 (Fits (slices s) n → ⊥) (line 8 (InRange turn → ⊥) end)
 linesOf (C.Insert value when period) s =
-    line 2 (Sound s → ⊥) (line 3 (view s .lists free ≡ []) (deadlineLines (elapsed s) when))
+    line 2 (Sound s → ⊥) (line 12 (MidPoll s) (line 3 (view s .lists free ≡ []) (deadlineLines (elapsed s) when)))
 linesOf (C.Reset key when) s =
-    line 2 (Sound s → ⊥) (line 6 (NoSuchKey (view s) key) (deadlineLines (elapsed s) when))
-linesOf (C.Remove key) s = line 2 (Sound s → ⊥) (line 6 (NoSuchKey (view s) key) end)
-linesOf (C.Poll now) s = line 2 (Sound s → ⊥) (line 7 (now < elapsed s) end)
-linesOf C.Wake s = line 2 (Sound s → ⊥) end
+    line 2 (Sound s → ⊥) (line 12 (MidPoll s) (line 6 (NoSuchKey (view s) key) (deadlineLines (elapsed s) when)))
+linesOf (C.Remove key) s = line 2 (Sound s → ⊥) (line 12 (MidPoll s) (line 6 (NoSuchKey (view s) key) end))
+linesOf (C.Poll now) s = pollLines s now
+linesOf (C.PollSome now limit) s = pollLines s now
+linesOf C.Wake s = line 2 (Sound s → ⊥) (line 12 (MidPoll s) end)
 linesOf C.Length s = line 2 (Sound s → ⊥) end
 linesOf C.Clear s = line 2 (Sound s → ⊥) end
 
@@ -80,6 +86,7 @@ whenOf (C.Insert value when period) = when
 whenOf (C.Reset key when) = when
 whenOf (C.Remove key) = 0
 whenOf (C.Poll now) = 0
+whenOf (C.PollSome now limit) = 0
 whenOf C.Wake = 0
 whenOf C.Length = 0
 whenOf C.Clear = 0

@@ -34,6 +34,7 @@ isFormat (C.Insert value when period) = false
 isFormat (C.Reset key when) = false
 isFormat (C.Remove key) = false
 isFormat (C.Poll now) = false
+isFormat (C.PollSome now limit) = false
 isFormat C.Wake = false
 isFormat C.Length = false
 isFormat C.Clear = false
@@ -45,6 +46,7 @@ isPlacing (C.Insert value when period) = true
 isPlacing (C.Reset key when) = true
 isPlacing (C.Remove key) = false
 isPlacing (C.Poll now) = false
+isPlacing (C.PollSome now limit) = false
 isPlacing C.Wake = false
 isPlacing C.Length = false
 isPlacing C.Clear = false
@@ -55,6 +57,7 @@ isPoll (C.Insert value when period) = false
 isPoll (C.Reset key when) = false
 isPoll (C.Remove key) = false
 isPoll (C.Poll now) = true
+isPoll (C.PollSome now limit) = true
 isPoll C.Wake = false
 isPoll C.Length = false
 isPoll C.Clear = false
@@ -69,6 +72,25 @@ abbrev pub tally : (Call → Bool) → List Asked → ℕ
 tally f [] = 0
 tally f (x ∷ l) = cond (f (x .call) && accepted x) 1 0 + tally f l
 
+-- 02 [10]: "waiting counts ended polls": neither refused nor answered "not yet"
+abbrev pub ends : Told → Bool
+ends T.ok = true
+ends (T.key k) = true
+ends (T.gone v d) = true
+ends (T.out k v d m n) = true
+ends (T.last k v d m n) = true
+ends (T.none m n) = true
+ends (T.yet m n) = false
+ends (T.wake t) = true
+ends T.never = true
+ends (T.len n) = true
+ends (T.no n) = false
+
+-- how many calls of a run that ended are of a kind
+abbrev pub tallyEnded : (Call → Bool) → List Asked → ℕ
+tallyEnded f [] = 0
+tallyEnded f (x ∷ l) = cond (f (x .call) && ends (told (x .answer))) 1 0 + tallyEnded f l
+
 -- the moves that an answer reports, and those of a run
 abbrev pub movesOf : Told → ℕ
 movesOf T.ok = 0
@@ -77,6 +99,7 @@ movesOf (T.gone v d) = 0
 movesOf (T.out k v d m n) = m
 movesOf (T.last k v d m n) = m
 movesOf (T.none m n) = m
+movesOf (T.yet m n) = m
 movesOf (T.wake t) = 0
 movesOf T.never = 0
 movesOf (T.len n) = 0
@@ -94,6 +117,7 @@ resetting s (T.gone v d) = 0
 resetting s (T.out k v d m n) = cond (ltb 0 (view s .period (numberIn k))) 1 0
 resetting s (T.last k v d m n) = 0
 resetting s (T.none m n) = 0
+resetting s (T.yet m n) = 0
 resetting s (T.wake t) = 0
 resetting s T.never = 0
 resetting s (T.len n) = 0

@@ -8,3 +8,7 @@ use Rattle.promises.specs.Runs.{Asked}
 
 abbrev pub polledAt70 : List Asked
 polledAt70 = record { call = C.Poll 70; answer = A.Out 65536 7 70 1 1 } ∷ []
+
+-- 02 [10]: the same with a pause
+abbrev pub pausedAt70 : List Asked
+pausedAt70 = record { call = C.PollSome 70 0; answer = A.NotYet 0 0 } ∷ polledAt70

@@ -12,7 +12,8 @@ use Rattle.queue.specs.Steps.{pending}
 use Rattle.records.specs.Words.{QueueWords, view, Sound}
 use Rattle.delay_queue.specs.declared.Call.{Call}
 use Rattle.delay_queue.specs.declared.Call.the-variants as C
-use Rattle.promises.specs.Runs.{Asked, Runs, accepted, All, tally}
+use Rattle.promises.specs.Runs.{Asked, Runs, accepted, All, tallyEnded}
+use Rattle.promises.specs.Polls.{PollAt}
 use Rattle.promises.specs.Polling.{IsPending}
 
 -- ---- what is said
@@ -24,6 +25,7 @@ disturbs (C.Insert value when period) = true
 disturbs (C.Reset key when) = true
 disturbs (C.Remove key) = false
 disturbs (C.Poll now) = false
+disturbs (C.PollSome now limit) = false
 disturbs C.Wake = false
 disturbs C.Length = false
 disturbs C.Clear = true
@@ -39,6 +41,7 @@ duePoll w (C.Insert value when period) = false
 duePoll w (C.Reset key when) = false
 duePoll w (C.Remove key) = false
 duePoll w (C.Poll now) = leb w now
+duePoll w (C.PollSome now limit) = leb w now
 duePoll w C.Wake = false
 duePoll w C.Length = false
 duePoll w C.Clear = false
@@ -50,7 +53,7 @@ Some P (x ∷ l) = P x ⊎ Some P l
 
 -- a poll hands out the key k with the value v and the deadline d
 abbrev pub ComesOut : ℕ → ℕ → ℕ → Asked → Type 0
-ComesOut k v d x = (now m n : ℕ) × (x .call ≡ C.Poll now) × (Hands (told (x .answer)) k v d m n)
+ComesOut k v d x = (now m n : ℕ) × PollAt (x .call) now × (Hands (told (x .answer)) k v d m n)
 
 -- no remove of the key k is accepted
 abbrev pub NotRemoved : ℕ → Asked → Type 0
@@ -60,7 +63,7 @@ NotRemoved k x = x .call ≡ C.Remove k → accepted x ≡ false
 abbrev pub NoneRepeats : View → Type 0
 NoneRepeats v = (y : ℕ) → IsPending v y → v .period y ≡ 0
 
--- the timer r, with the key k, is pending, and nothing repeats; the run is undisturbed, and has as many accepted polls at which r is due as timers were
+-- the timer r, with the key k, is pending, and nothing repeats; the run is undisturbed, and has as many ended polls at which r is due as timers were
 -- pending
 pub record Waited (s : QueueWords) (l : List Asked) (u : QueueWords) (k r p : ℕ) : Type 0 where
   pub sound : Sound s
@@ -68,4 +71,4 @@ pub record Waited (s : QueueWords) (l : List Asked) (u : QueueWords) (k r p : �
   pub once : NoneRepeats (view s)
   pub runs : Runs s l u
   pub undisturbed : All Undisturbed l
-  pub enough : pending (view s) ≤ tally (duePoll (view s .deadline r)) l
+  pub enough : pending (view s) ≤ tallyEnded (duePoll (view s .deadline r)) l

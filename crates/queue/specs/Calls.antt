@@ -1,14 +1,16 @@
 -- What each call answers and leaves on a sound store: refusals exactly as the table has them, in its order, with nothing changed; and the accepted case.
 use mathlib.Core.Path.{_≡_}
+use mathlib.Core.Logic.{_≢_}
 use mathlib.Core.List.{List, [], _∷_}
 use Prim.Native.Nat.{ℕ, _≤_, _<_}
+use Rattle.links.specs.Lists.{nobody}
 use Rattle.stack.specs.Places.{free}
 use Rattle.queue.specs.declared.Answer.{Answer}
 use Rattle.queue.specs.Told.{Told, told, ok, key, gone, len, no}
-use Rattle.records.specs.View.{View, withElapsed, withValue, withPeriod, upd}
+use Rattle.records.specs.View.{View, withElapsed, withValue, withPeriod, withHand, upd}
 use Rattle.records.specs.Records.{keyOf, Names, TooOld, TooFar, OtherBlock, Takes, taken, left, placed, freed}
-use Rattle.queue.specs.Steps.{QueuePolls, NextWake, pending, Clears}
-use Rattle.records.specs.Words.{QueueWords, Sound, PastKept, count, view, elapsed}
+use Rattle.queue.specs.Steps.{QueuePolls, PollsSome, PollsRest, NextWake, pending, Clears}
+use Rattle.records.specs.Words.{QueueWords, AtRest, MidPoll, Sound, PastKept, count, view, elapsed}
 
 -- "A refusal answers its number alone; every lent slice stays word for word the same, and the state that went in by value is handed back equal."
 pub record Refused (number : ℕ) (s : QueueWords) (a : Answer) (s′ : QueueWords) : Type 0 where
@@ -50,6 +52,35 @@ pub record PollOn (s : QueueWords) (time : ℕ) (a : Answer) (s′ : QueueWords)
   pub back : time < elapsed s → Refused 7 s a s′
   pub done : elapsed s ≤ time → Sound s′ × QueuePolls (view s) time (told a) (view s′) × PastKept (count s) s s′
 
+-- ---- 02 [10]
+
+-- "Until that poll ends, insert, remove, reset, next wake .. are refused with 12, judged after 2"
+pub record Freely (s : QueueWords) (a : Answer) (s′ : QueueWords) (On : Type 0) : Type 0 where
+  pub held : MidPoll s → Refused 12 s a s′
+  pub free : AtRest s → On
+
+-- ".. and polls with another now": one with the same now goes on with the poll in hand
+pub record Resuming (s : QueueWords) (now : ℕ) (a : Answer) (s′ : QueueWords) (On Rest : Type 0) : Type 0 where
+  pub other : MidPoll s → now ≢ s .until → Refused 12 s a s′
+  pub same : MidPoll s → now ≡ s .until → Rest
+  pub free : AtRest s → On
+
+-- a whole poll goes on
+abbrev pub RestOn : QueueWords → ℕ → Answer → QueueWords → Type 0
+RestOn s now a s′ = Sound s′ × PollsRest (view s) now (told a) (view s′) × PastKept (count s) s s′
+
+-- one with a limit goes on, or begins
+abbrev pub SomeOn : QueueWords → ℕ → ℕ → Answer → QueueWords → Type 0
+SomeOn s now limit a s′ = Sound s′ × PollsSome (view s) now limit (told a) (view s′) × PastKept (count s) s s′
+
+pub record PollSomeOn (s : QueueWords) (now limit : ℕ) (a : Answer) (s′ : QueueWords) : Type 0 where
+  pub back : now < elapsed s → Refused 7 s a s′
+  pub done : elapsed s ≤ now → SomeOn s now limit a s′
+
+-- with a limit: 2, then 12, then 7
+abbrev pub PollsOn : QueueWords → ℕ → ℕ → Answer → QueueWords → Type 0
+PollsOn s now limit a s′ = Resuming s now a s′ (PollSomeOn s now limit a s′) (SomeOn s now limit a s′)
+
 -- "next wake, length and clear only 2"
 pub record WakeOn (s : QueueWords) (a : Answer) : Type 0 where
   pub done : NextWake (view s) (told a)
@@ -57,7 +88,8 @@ pub record WakeOn (s : QueueWords) (a : Answer) : Type 0 where
 pub record LengthOn (s : QueueWords) (a : Answer) : Type 0 where
   pub done : told a ≡ len (pending (view s))
 
+-- 02 [10]: "clear or format ends it", the poll in hand
 pub record ClearOn (s : QueueWords) (a : Answer) (s′ : QueueWords) : Type 0 where
   pub cleared : View
   pub clears : Clears (view s) (view s .n) cleared
-  pub done : Answered s a ok (withElapsed 0 cleared) s′
+  pub done : Answered s a ok (withHand nobody 0 (withElapsed 0 cleared)) s′

@@ -4,11 +4,13 @@ use mathlib.Core.List.{List, [], _∷_}
 use mathlib.Core.Option.{Option, none, some}
 use Prim.Native.Nat.{ℕ, suc, _+_, _<_}
 use Rattle.times.specs.Times.{startAt}
-use Rattle.links.specs.Lists.{change}
+use Rattle.links.specs.Lists.{nobody, change}
 use Rattle.stack.specs.Places.{expired, free}
 use Rattle.wheel.specs.Wheel.{Lists, FirstSlot, EmptyWheel, Polls}
 use Rattle.wheel.specs.Sums.{total}
-use Rattle.records.specs.View.{View, withElapsed, withLists}
+use Rattle.wheel.specs.Limited.{Outcome, ended as stopped, yet, Limited}
+use Rattle.wheel.specs.Turns.{gotten}
+use Rattle.records.specs.View.{View, withElapsed, withLists, withHand}
 use Rattle.records.specs.Records.{keyOf, At, NoMore, left, placed, freed}
 use Rattle.queue.specs.Told.{Told, out, last, wake, never}
 use Rattle.queue.specs.Told as T
@@ -36,6 +38,34 @@ pub data GoesOn (v : View) (r m n : ℕ) (u : View) : Told → View → Type 0 w
 pub data QueuePolls (v : View) (now : ℕ) : Told → View → Type 0 where
   handed : {r m n : ℕ} {u : View} {x : Told} {w : View} → TakesOut v now (some r) m n u → GoesOn v r m n u x w → QueuePolls v now x w
   nothing : {m n : ℕ} {u : View} → TakesOut v now none m n u → QueuePolls v now (T.none m n) u
+
+-- ---- 02 [10]: a poll with a limit on moves
+
+-- "The store remembers the drain in hand and its now", until the poll ends
+abbrev pub remembers : ℕ → Outcome → View → View
+remembers now (stopped got) v = withHand nobody 0 v
+remembers now (yet p) v = withHand p now v
+
+-- as `TakesOut`, with so many moves at most, and from the drain in hand on if there is one: how far it came, its moves and drains, and the view after it
+pub data TakesSome (v : View) (now limit : ℕ) : Outcome → ℕ → ℕ → View → Type 0 where
+  popped-some : {r : ℕ} {l : List ℕ} → v .lists expired ≡ r ∷ l
+      → TakesSome v now limit (stopped (some r)) 0 0 (withLists (change (v .lists) expired l) v)
+  polled-some : {o : Outcome} {m n e : ℕ} {L : Lists} → v .lists expired ≡ []
+      → Limited (v .deadline) now (gotten (v .hand)) limit (v .elapsed) (v .lists) o m n e L
+      → TakesSome v now limit o m n (remembers now o (withElapsed e (withLists L v)))
+
+-- a poll with a limit: who is taken out is handed out, or nobody is, or it answers "not yet"
+pub data PollsSome (v : View) (now limit : ℕ) : Told → View → Type 0 where
+  handed-some : {r m n : ℕ} {u : View} {x : Told} {w : View} → TakesSome v now limit (stopped (some r)) m n u → GoesOn v r m n u x w
+      → PollsSome v now limit x w
+  nothing-some : {m n : ℕ} {u : View} → TakesSome v now limit (stopped none) m n u → PollsSome v now limit (T.none m n) u
+  not-yet : {p m n : ℕ} {u : View} → TakesSome v now limit (yet p) m n u → PollsSome v now limit (T.yet m n) u
+
+-- a whole poll that goes on with the poll in hand: what a limit that lets it end answers
+pub data PollsRest (v : View) (now : ℕ) : Told → View → Type 0 where
+  handed-rest : {limit r m n : ℕ} {u : View} {x : Told} {w : View} → TakesSome v now limit (stopped (some r)) m n u → GoesOn v r m n u x w
+      → PollsRest v now x w
+  nothing-rest : {limit m n : ℕ} {u : View} → TakesSome v now limit (stopped none) m n u → PollsRest v now (T.none m n) u
 
 -- "Next wake is `poll_at`: nothing for an empty wheel, else the start of the first slot as above."
 pub data Wakes (v : View) : Told → Type 0 where

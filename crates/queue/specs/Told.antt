@@ -5,7 +5,7 @@ use Rattle.queue.specs.declared.Answer.{Answer}
 use Rattle.queue.specs.declared.Answer.the-variants as A
 
 -- "Answers: `ok` (f, s, c), `key K`, `gone value deadline`, `out key value deadline moves drains`, `none moves drains`, `wake T` or `wake -`,
--- `len n`, `no number`." 02 [7]: "the answer says it was the last time"
+-- `len n`, `no number`." 02 [7]: "the answer says it was the last time". 02 [10]: "answers "not yet"", with its moves and drains
 pub data Told : Type 0 where
   ok : Told
   key : ℕ → Told
@@ -13,6 +13,7 @@ pub data Told : Type 0 where
   out : ℕ → ℕ → ℕ → ℕ → ℕ → Told
   last : ℕ → ℕ → ℕ → ℕ → ℕ → Told
   none : ℕ → ℕ → Told
+  yet : ℕ → ℕ → Told
   wake : ℕ → Told
   never : Told
   len : ℕ → Told
@@ -25,6 +26,7 @@ told (A.Gone v d) = gone v d
 told (A.Out k v d m n) = out k v d m n
 told (A.Last k v d m n) = last k v d m n
 told (A.Nothing m n) = none m n
+told (A.NotYet m n) = yet m n
 told (A.Wake t) = wake t
 told A.NoWake = never
 told (A.Length n) = len n
@@ -42,6 +44,7 @@ handing (gone v d) = no-timer
 handing (out k v d m n) = timer k v d m n
 handing (last k v d m n) = timer k v d m n
 handing (none m n) = no-timer
+handing (yet m n) = no-timer
 handing (wake t) = no-timer
 handing never = no-timer
 handing (len n) = no-timer

@@ -1,12 +1,12 @@
 // The delay queue on a sound store: records, keys and turns over the wheel.
 ghost use mathlib.Core.Path.{_≡_};
-ghost use Prim.Native.Nat.{_≤_, _<_};
+ghost use Prim.Native.Nat.{ℕ, _≤_, _<_};
 ghost use lib.ListN.{length};
 ghost use Rattle.contracts.specs.Lent.{old};
-ghost use Rattle.records.specs.Words.{lent, before, after, count, Standing, SoundBut, Sound};
-ghost use Rattle.queue.specs.Calls.{InsertOn, ResetOn, RemoveOn, PollOn, ClearOn};
+ghost use Rattle.records.specs.Words.{lent, before, after, holding, count, Standing, SoundBut, Sound};
+ghost use Rattle.queue.specs.Calls.{InsertOn, ResetOn, RemoveOn, PollsOn, ClearOn};
 ghost use Rattle.records.specs.Inner.{LooseAt};
-ghost use Rattle.queue.specs.Inner.{CanPollIdx, PollsIdx, HandsOut, Shows, pendingIn, ClearsOne};
+ghost use Rattle.queue.specs.Inner.{CanPollIdx, PollsIdx, PollNo, HandsOut, Shows, pendingIn, ClearsOne};
 ghost use Rattle.queue.specs.Told.{told};
 ghost use Rattle.records.specs.View.{View};
 ghost use Rattle.queue.specs.Steps.{NextWake};
@@ -28,6 +28,8 @@ pub enum Answer {
     Last(u64, u64, u64, u64, u64),
     // poll: moves, drains
     Nothing(u64, u64),
+    // poll with a limit: moves, drains of this call
+    NotYet(u64, u64),
     // next wake
     Wake(u64),
     NoWake,
@@ -37,10 +39,13 @@ pub enum Answer {
     No(u64),
 }
 
-// The answer of a poll with elapsed after it. Of the other calls clear alone changes elapsed: to 0.
+// The answer of a poll with elapsed after it, the slot whose drain is in hand and the poll's now: nobody and 0 if it has
+// ended. Of the other calls clear alone changes these: to 0, nobody and 0.
 pub struct Out {
     pub answer: Answer,
     pub elapsed: u64,
+    pub hand: u16,
+    pub until: u64,
 }
 
 // A record is taken for the value and the period, and placed at the deadline.
@@ -217,8 +222,8 @@ fn hand_out(
     Answer::Out(key, value, deadline, moves, drains)
 }
 
-// Who is due at `time`, document 01's now, which is not below elapsed: the first of the expired stack, else whom the
-// wheel has, or nobody. It has left its list.
+// Who is due at `time`, document 01's now: the first of the expired stack, else whom the wheel has, or nobody. It has left
+// its list. With `limit` moves at most, from the drain of `hand` on.
 fn poll_idx(
     elapsed: u64,
     rows: &mut [u64; 6],
@@ -228,12 +233,14 @@ fn poll_idx(
     nexts: &mut [u16],
     prevs: &mut [u16],
     marks: &mut [u16],
+    hand: u16,
     time: u64,
+    limit: u64,
 ) -> wheel::Polled
-    requires { ⌜ CanPollIdx (wheelLent elapsed rows tops heads nexts prevs marks) (now deadlines) time ⌝ }
+    requires { ⌜ CanPollIdx (wheelLent elapsed rows tops heads nexts prevs marks) (now deadlines) hand time ⌝ }
     ensures { λ r. ⌜
-        PollsIdx (at (old deadlines)) time (wheelBefore elapsed rows tops heads nexts prevs marks)
-        (r .item) (r .moves) (r .drains) (wheelAfter (r .elapsed) rows tops heads nexts prevs marks) ⌝ }
+        PollsIdx (at (old deadlines)) time limit hand (wheelBefore elapsed rows tops heads nexts prevs marks)
+        (r .item) (r .hand) (r .moves) (r .drains) (wheelAfter (r .elapsed) rows tops heads nexts prevs marks) ⌝ }
 {
     let first = wheel::pop(
         elapsed,
@@ -249,6 +256,7 @@ fn poll_idx(
         return wheel::Polled {
             elapsed,
             item: first,
+            hand: links::NOBODY,
             moves: 0,
             drains: 0,
         };
@@ -262,11 +270,30 @@ fn poll_idx(
         prevs,
         marks,
         deadlines,
+        hand,
         time,
+        limit,
     )
 }
 
-// Hands out a timer that is due at `time`, if there is one.
+// 12 for a poll while one at another now is in hand, 7 for one before elapsed, 0 for one that is taken.
+fn poll_no(elapsed: u64, hand: u16, until: u64, time: u64) -> u64
+    ensures { λ r. ⌜ PollNo elapsed hand until time r ⌝ }
+{
+    if hand != links::NOBODY {
+        if time != until {
+            return 12;
+        }
+        return 0;
+    }
+    if time < elapsed {
+        return 7;
+    }
+    0
+}
+
+// Hands out a timer that is due at `time`, if there is one, with `limit` moves at most. With the drain of `hand` in hand it
+// goes on with the poll at `until`.
 pub fn poll(
     elapsed: u64,
     rows: &mut [u64; 6],
@@ -278,17 +305,24 @@ pub fn poll(
     prevs: &mut [u16],
     turns: &mut [u64],
     marks: &mut [u16],
+    hand: u16,
+    until: u64,
     time: u64,
+    limit: u64,
 ) -> Out
-    requires { ⌜ Sound (lent elapsed rows tops heads values deadlines nexts prevs turns marks) ⌝ }
+    requires { ⌜ Sound (holding hand until (lent elapsed rows tops heads values deadlines nexts prevs turns marks)) ⌝ }
     ensures { λ r. ⌜
-        PollOn (before elapsed rows tops heads values deadlines nexts prevs turns marks)
-        time (r .answer) (after (r .elapsed) rows tops heads values deadlines nexts prevs turns marks) ⌝ }
+        PollsOn (holding hand until (before elapsed rows tops heads values deadlines nexts prevs turns marks))
+        time limit (r .answer) (holding (r .hand) (r .until)
+        (after (r .elapsed) rows tops heads values deadlines nexts prevs turns marks)) ⌝ }
 {
-    if time < elapsed {
+    let no = poll_no(elapsed, hand, until, time);
+    if no != 0 {
         return Out {
-            answer: Answer::No(7),
+            answer: Answer::No(no),
             elapsed,
+            hand,
+            until,
         };
     }
     let due = poll_idx(
@@ -300,16 +334,29 @@ pub fn poll(
         nexts,
         prevs,
         marks,
+        hand,
         time,
+        limit,
     );
     let e = due.elapsed;
     let item = due.item;
+    let place = due.hand;
     let moves = due.moves;
     let drains = due.drains;
+    if place != links::NOBODY {
+        return Out {
+            answer: Answer::NotYet(moves, drains),
+            elapsed: e,
+            hand: place,
+            until: time,
+        };
+    }
     if item == links::NOBODY {
         return Out {
             answer: Answer::Nothing(moves, drains),
             elapsed: e,
+            hand: links::NOBODY,
+            until: 0,
         };
     }
     let answer = hand_out(
@@ -327,7 +374,12 @@ pub fn poll(
         moves,
         drains,
     );
-    Out { answer, elapsed: e }
+    Out {
+        answer,
+        elapsed: e,
+        hand: links::NOBODY,
+        until: 0,
+    }
 }
 
 // When a poll next has something to do: at once if a timer has expired, else when the wheel has. `expired` is the head of
@@ -389,7 +441,7 @@ fn clear_one(
     records::leave(elapsed, rows, tops, heads, nexts, prevs, turns, marks, item);
 }
 
-// Every pending record leaves, in rising number. Elapsed is 0 after it.
+// Every pending record leaves, in rising number. Elapsed is 0 after it, and no poll is in hand.
 pub fn clear(
     elapsed: u64,
     rows: &mut [u64; 6],
@@ -404,8 +456,8 @@ pub fn clear(
 ) -> Answer
     requires { ⌜ Standing (lent elapsed rows tops heads values deadlines nexts prevs turns marks) ⌝ }
     ensures { λ r. ⌜
-        ClearOn (before elapsed rows tops heads values deadlines nexts prevs turns marks)
-        r (after 0 rows tops heads values deadlines nexts prevs turns marks) ⌝ }
+        ((h u : ℕ) → ClearOn (holding h u (before elapsed rows tops heads values deadlines nexts prevs turns marks))
+        r (after 0 rows tops heads values deadlines nexts prevs turns marks)) ⌝ }
 {
     let n = tops[0];
     let mut i = 0u16;

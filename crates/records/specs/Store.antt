@@ -15,5 +15,5 @@ module _ (state : Wheel) (heads : List (List ℕ)) (values deadlines nexts prevs
   after = words state heads (new values) (new deadlines) (new nexts) (new prevs) (new turns) (new marks)
 
 -- the parts put together again
-abbrev pub wheelOf : ℕ → List ℕ → List ℕ → Wheel
-wheelOf e occ tops = record { elapsed = e; occupied = occ; stacks = stacksOf tops }
+abbrev pub wheelOf : ℕ → List ℕ → List ℕ → ℕ → ℕ → Wheel
+wheelOf e occ tops h u = record { elapsed = e; occupied = occ; stacks = stacksOf tops; hand = h; until = u }

@@ -9,4 +9,5 @@ pub mod AnyCut
 pub mod Longest
 pub mod Elsewhere
 pub mod Later
+pub mod Hand
 pub mod Keys

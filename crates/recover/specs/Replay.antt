@@ -22,7 +22,8 @@ use Rattle.journal.specs.Journal.{Acts, unwritten}
 
 -- the state that `no_store` hands back
 abbrev pub noWheel : Wheel
-noWheel = record { elapsed = 0; occupied = replicate 6 0; stacks = record { n = 0; expired = nobody; free = nobody } }
+noWheel =
+    record { elapsed = 0; occupied = replicate 6 0; stacks = record { n = 0; expired = nobody; free = nobody }; hand = nobody; until = 0 }
 
 -- nobody is the head of any slot
 unfoldable pub noHeads : List (List ℕ)

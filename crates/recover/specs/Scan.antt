@@ -44,6 +44,7 @@ liveAfter live (S.Asks (C.Insert value when period)) = live
 liveAfter live (S.Asks (C.Reset key when)) = live
 liveAfter live (S.Asks (C.Remove key)) = live
 liveAfter live (S.Asks (C.Poll now)) = live
+liveAfter live (S.Asks (C.PollSome now limit)) = live
 liveAfter live (S.Asks C.Wake) = live
 liveAfter live (S.Asks C.Length) = live
 liveAfter live (S.Asks C.Clear) = live

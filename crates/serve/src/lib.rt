@@ -1,4 +1,5 @@
-// The replay program: reads standard input to its end and answers each line with one. It can show the lists too.
+// The replay program: reads standard input to its end and answers each line with one. It can show the lists too, or know the
+// lines of a poll with a limit.
 // What is read and written no contract can say: it reads a chunk, has `feed` answer its lines until it is used up, and
 // writes all that was answered after each call, so that nothing waits while it reads. That is a `Serving` of the crate
 // feed, whose law `all-answered` says what is written; of what the loop claims, its law `ran-answers`.
@@ -89,6 +90,7 @@ fn room(lists: bool) -> usize
 // Answers each line that ends in what was read, and writes the answers: which these are is claimed, not that they are
 // written.
 fn answer(
+    limits: bool,
     got: &[u8],
     line: &mut [u8],
     run: Progress,
@@ -104,7 +106,7 @@ fn answer(
     ensures { λ r. ⌜ r .kept ≤ 81 ⌝ }
     ensures { λ r. ⌜
         Passes
-        Answered
+        (Answered limits)
         (length (old line))
         (take (run .kept) (old line))
         (old got)
@@ -122,6 +124,7 @@ fn answer(
     let mut i: usize = 0;
     while i < got.len() {
         let r = feed::answer_lines(
+            limits,
             got,
             i,
             line,
@@ -154,6 +157,7 @@ fn answer(
 // The end: a last line that has no newline is answered, if the input has ended; where it cannot be read any more, a line
 // that has not ended stays unanswered.
 fn finish(
+    limits: bool,
     got: Got,
     line: &[u8],
     run: Progress,
@@ -168,7 +172,7 @@ fn finish(
     requires { ⌜ (run .kept ≤ 81) × (length (now line) ≡ 81) × (length (now out) ≡ 4096) ⌝ }
     ensures { λ r. ⌜
         Closes
-        Answered
+        (Answered limits)
         (take (run .kept) (old line))
         (before (run .state) (run .heads .rows) values deadlines nexts prevs turns marks)
         (got .ended)
@@ -183,6 +187,7 @@ fn finish(
     let state = run.state;
     let heads = run.heads;
     let r = feed::answer_last(
+        limits,
         &line[..n],
         state,
         heads,
@@ -233,6 +238,7 @@ fn comes_to(bytes: usize, last: Got, run: Progress) -> Outcome
 // the last line: that is claimed, and not that it is written. A proved loop has to end, so this one ends at 2^63 bytes; no
 // run comes there.
 fn serve(
+    limits: bool,
     line: &mut [u8],
     start: Progress,
     values: &mut [u64],
@@ -246,7 +252,7 @@ fn serve(
     requires { ⌜ (start .kept ≤ 81) × (length (now line) ≡ 81) × (length (now out) ≡ 4096) ⌝ }
     ensures { λ r. ⌜
         Ran
-        Answered
+        (Answered limits)
         (length (old line))
         (take (start .kept) (old line))
         (before (start .state) (start .heads .rows) values deadlines nexts prevs turns marks)
@@ -262,6 +268,7 @@ fn serve(
         let k = input::count(got);
         if k == 0 {
             let end = finish(
+                limits,
                 got,
                 line,
                 run,
@@ -276,6 +283,7 @@ fn serve(
             return comes_to(bytes, got, end);
         }
         run = answer(
+            limits,
             &buf[..k],
             line,
             run,
@@ -326,16 +334,21 @@ fn no_heads() -> [[u16; 64]; 6] {
 
 // Each line is answered with one.
 pub fn replay() {
-    with_room(false);
+    with_room(false, false);
 }
 
 // The same, and behind each answer stand the contents of the lists, once there is a store.
 pub fn replay_lists() {
-    with_room(true);
+    with_room(false, true);
+}
+
+// As `replay`, and the lines of a poll with a limit are known too.
+pub fn replay_paused() {
+    with_room(true, false);
 }
 
 // Room for 1,024 records, with two words of values each.
-fn with_room(lists: bool) {
+fn with_room(limits: bool, lists: bool) {
     let mut values = pairs();
     let mut deadlines = words();
     let mut nexts = numbers();
@@ -355,6 +368,7 @@ fn with_room(lists: bool) {
         fine: true,
     };
     let end = serve(
+        limits,
         &mut line,
         start,
         &mut values,

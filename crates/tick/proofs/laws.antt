@@ -3,3 +3,4 @@ pub mod Once
 pub mod Promises
 pub mod Reading
 pub mod Shown
+pub mod Until

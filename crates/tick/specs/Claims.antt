@@ -1,11 +1,14 @@
 -- What the front part of a board with a 32-bit tick answers and leaves, for any input at all. What stands between quotation marks is request 4's text.
 use mathlib.Core.Path.{_≡_}
+use mathlib.Core.Bool.{cond}
 use Prim.Native.Nat.{ℕ, _+_, _-_, _%_, _^_, _≤_}
+use lib.Dec.{eqb}
+use Rattle.links.specs.Lists.{nobody}
 use Rattle.queue.specs.declared.Answer.{Answer}
 use Rattle.queue.specs.Told.{told, ok, no}
 use Rattle.queue.specs.Calls.{Refused}
 use Rattle.records.specs.Words.{QueueWords}
-use Rattle.delay_queue.specs.Claims.{PollClaim}
+use Rattle.delay_queue.specs.Claims.{PollClaim, PollSomeClaim}
 
 -- ---- the sum
 
@@ -41,3 +44,14 @@ pub record ReadClaim (time tick : ℕ) (a : Answer) (time′ : ℕ) : Type 0 whe
 pub record TickPollClaim (time : ℕ) (s : QueueWords) (tick : ℕ) (a : Answer) (time′ : ℕ) (s′ : QueueWords) : Type 0 where
   pub past : Passes time tick → Refused 10 s a s′ × (time′ ≡ time)
   pub taken : (Passes time tick → ⊥) → PollClaim s (sum time tick) a s′ × (time′ ≡ sum time tick)
+
+-- ---- 02 [10]: "polls with another now are refused with 12"
+
+-- the now that a board polls with: that of the poll in hand, which the store remembers, and with none in hand its time
+abbrev pub nowOf : ℕ → ℕ → ℕ → ℕ
+nowOf time hand until = cond (eqb hand nobody) time until
+
+-- a poll with a limit through this part: refused and taken as the poll
+pub record TickSomeClaim (time : ℕ) (s : QueueWords) (tick limit : ℕ) (a : Answer) (time′ : ℕ) (s′ : QueueWords) : Type 0 where
+  pub past : Passes time tick → Refused 10 s a s′ × (time′ ≡ time)
+  pub taken : (Passes time tick → ⊥) → PollSomeClaim s (nowOf (sum time tick) (s .hand) (s .until)) limit a s′ × (time′ ≡ sum time tick)

@@ -6,7 +6,7 @@ use queue::Answer;
 use wheel::Wheel;
 ghost use mathlib.Core.Path.{_≡_};
 ghost use Rattle.records.specs.Store.{before, after};
-ghost use Rattle.tick.specs.Claims.{differenceOf, StartClaim, ReadClaim, TickPollClaim};
+ghost use Rattle.tick.specs.Claims.{differenceOf, StartClaim, ReadClaim, TickPollClaim, nowOf, TickSomeClaim};
 
 // The time. A board keeps the last one only.
 pub struct Front {
@@ -100,6 +100,66 @@ pub fn poll(
         _ => {
             let reply = unchanged(answer, state, heads);
             Polled { reply, front }
+        }
+    }
+}
+
+// The now to poll with: that of the poll in hand, if there is one, which no other now goes on with, and else the time.
+fn now_of(time: u64, hand: u16, until: u64) -> u64
+    ensures { λ r. ⌜ r ≡ nowOf time hand until ⌝ }
+{
+    if hand == links::NOBODY {
+        return time;
+    }
+    until
+}
+
+// A poll with a limit at the time that the tick tells, or, while a poll is in hand, at its now: the clock may have moved on
+// since it paused. A reading is refused and taken as by `poll`.
+pub fn poll_some(
+    front: Front,
+    state: Wheel,
+    heads: [[u16; 64]; 6],
+    values: &[u64],
+    deadlines: &mut [u64],
+    nexts: &mut [u16],
+    prevs: &mut [u16],
+    turns: &mut [u64],
+    marks: &mut [u16],
+    tick: u32,
+    limit: u64,
+) -> Polled
+    ensures { λ r. ⌜
+        TickSomeClaim (front .time) (before state heads values deadlines nexts prevs turns marks)
+        tick limit (r .reply .answer) (r .front .time)
+        (after (r .reply .state) (r .reply .heads .rows) values deadlines nexts prevs turns marks) ⌝ }
+{
+    let seen = read(front, tick);
+    let answer = seen.answer;
+    let later = seen.front;
+    match answer {
+        Answer::Done => {
+            let now = now_of(later.time, state.hand, state.until);
+            let reply = delay_queue::poll_some(
+                state,
+                heads,
+                values,
+                deadlines,
+                nexts,
+                prevs,
+                turns,
+                marks,
+                now,
+                limit,
+            );
+            Polled {
+                reply,
+                front: later,
+            }
+        }
+        _ => {
+            let same = unchanged(answer, state, heads);
+            Polled { reply: same, front }
         }
     }
 }

@@ -4,8 +4,14 @@ pub mod Next
 pub mod Drain
 pub mod Poll
 pub mod One
+pub mod Limited
+pub mod Single
+pub mod Midway
+pub mod Going
+pub mod Belongs
 pub mod Rows
 pub mod Words
 pub mod Expiration
 pub mod Turns
+pub mod Passed
 pub mod Judged

@@ -1,6 +1,8 @@
 pub mod Wheel
 pub mod Sums
 pub mod Between
+pub mod Limited
+pub mod Midway
 pub mod Drain
 pub mod Poll
 pub mod Rows

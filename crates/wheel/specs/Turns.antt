@@ -4,7 +4,7 @@ use mathlib.Core.Logic.{_≢_}
 use mathlib.Core.Bool.{cond}
 use mathlib.Core.List.{List, [], _∷_}
 use mathlib.Core.Option.{Option, none, some}
-use Prim.Native.Nat.{ℕ, _≤_, _<_}
+use Prim.Native.Nat.{ℕ, suc, _-_, _≤_, _<_}
 use lib.ListN.{length}
 use lib.Dec.{eqb}
 use Rattle.times.specs.Times.{block}
@@ -12,7 +12,9 @@ use Rattle.links.specs.Lists.{nobody, change}
 use Rattle.links.specs.Links.{at}
 use Rattle.stack.specs.Places.{expired}
 use Rattle.stack.specs.Whole as stack
-use Rattle.wheel.specs.Wheel.{Rule, arrive, Drains, Polls}
+use Rattle.wheel.specs.Wheel.{Lists, arrive}
+use Rattle.wheel.specs.Limited.{Outcome, ended, yet, Limited}
+use Rattle.wheel.specs.Midway.{Obeys}
 use Rattle.wheel.specs.Words.{WheelWords, lists, count, WheelWhole, Becomes, LooseIn, CanPop}
 
 -- ---- insert: the deadline lies in elapsed's block, so that its level is one of the six
@@ -37,29 +39,40 @@ pub record MovesOne (d : ℕ → ℕ) (t : WheelWords) (k p item : ℕ) (t′ : 
 
 -- ---- a drain, move by move
 
--- p is drained with so many moves
-pub record DrainsTo (d : ℕ → ℕ) (t : WheelWords) (k p moves : ℕ) (t′ : WheelWords) : Type 0 where
-  pub drains : Drains d k p (lists t) moves (lists t′)
+-- so many moves out of p, a slot of level k + 1
+pub data Shifts (d : ℕ → ℕ) (k p : ℕ) : Lists → ℕ → Lists → Type 0 where
+  stays : {L : Lists} → Shifts d k p L 0 L
+  shifts : {L M : Lists} {m x : ℕ} {l : List ℕ} → L p ≡ x ∷ l → Shifts d k p (arrive k (d x) x (change L p l)) m M
+      → Shifts d k p L (suc m) M
+
+-- p is drained with `limit` moves at most, and `left` more could have been: p is empty, or the limit is used up
+pub record DrainsTo (d : ℕ → ℕ) (t : WheelWords) (k p limit left : ℕ) (t′ : WheelWords) : Type 0 where
+  pub within : left ≤ limit
+  pub shifted : Shifts d k p (lists t) (limit - left) (lists t′)
   pub becomes : Becomes t (lists t′) t′
-  pub few : moves ≤ nobody
+  pub stopped : left ≢ 0 → lists t′ p ≡ []
 
 -- ---- a poll, look by look
 
-pub record CanPoll (t : WheelWords) (ds : List ℕ) (now : ℕ) : Type 0 where
+pub record CanPoll (t : WheelWords) (ds : List ℕ) (hand now : ℕ) : Type 0 where
   pub whole : WheelWhole t
-  pub rule : Rule (at ds) (t .elapsed) (lists t)
+  pub rule : Obeys (at ds) now hand (t .elapsed) (lists t)
   pub stack : lists t expired ≡ []
-  pub not-back : t .elapsed ≤ now
+  pub not-back : hand ≡ nobody → t .elapsed ≤ now
   pub deadlines : count t ≤ length ds
 
--- a record number as an answer
+-- a record number, or a place, as an answer
 abbrev pub gotten : ℕ → Option ℕ
 gotten i = cond (eqb i nobody) none (some i)
 
--- t was polled, and is t′ now
-pub record PollsTo (d : ℕ → ℕ) (now : ℕ) (t : WheelWords) (item moves drains : ℕ) (t′ : WheelWords) : Type 0 where
-  pub polls : Polls d now (t .elapsed) (lists t) (gotten item) moves drains (t′ .elapsed) (lists t′)
+-- who is handed out, and whose drain is in hand, as an outcome
+abbrev pub outcome : ℕ → ℕ → Outcome
+outcome item hand = cond (eqb hand nobody) (ended (gotten item)) (yet hand)
+
+-- t was polled with `limit` moves at most, from the drain of `hand` on, and is t′ now, with the drain of `to` in hand
+pub record PollsTo (d : ℕ → ℕ) (now limit hand : ℕ) (t : WheelWords) (item to moves drains : ℕ) (t′ : WheelWords) : Type 0 where
+  pub polls : Limited d now (gotten hand) limit (t .elapsed) (lists t) (outcome item to) moves drains (t′ .elapsed) (lists t′)
   pub whole : WheelWhole t′
-  pub rule : Rule d (t′ .elapsed) (lists t′)
+  pub rule : Obeys d now to (t′ .elapsed) (lists t′)
   pub kept : stack.StackKept (t .stack) (t′ .stack)
   pub loose : item ≢ nobody → LooseIn t′ item

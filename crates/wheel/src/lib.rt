@@ -4,25 +4,30 @@
 // `tops`, `heads`, `nexts`, `prevs` and `marks`. What it only reads, or only names in its contract, is shared.
 use stack::Stacks;
 ghost use mathlib.Core.Path.{_≡_};
+ghost use mathlib.Core.Logic.{_≢_};
 ghost use Prim.Native.Nat.{_-_, _≤_, _<_};
 ghost use Rattle.times.specs.Times.{levelOf};
 ghost use Rattle.contracts.specs.Lent.{old};
 ghost use Rattle.contracts.specs.Tells.{Tells};
+ghost use Rattle.links.specs.Lists.{nobody};
 ghost use Rattle.links.specs.Links.{at};
 ghost use Rattle.stack.specs.Places.{slotPlace, slots, places};
 ghost use Rattle.wheel.specs.Wheel.{Lists};
 ghost use Rattle.wheel.specs.Rows.{Rows};
-ghost use Rattle.wheel.specs.Expiration.{NotPassed, NextIs, WakeIs};
+ghost use Rattle.wheel.specs.Expiration.{NotPassed, NextIs, GoesTo, WakeIs};
 ghost use Rattle.wheel.specs.Words.{lent, before, after, WheelWhole, Arrives, Comes, Pops, Leaves};
 ghost use Rattle.wheel.specs.Words.{CanAdd, CanPush, CanPop, CanLeave};
 ghost use Rattle.wheel.specs.Judged.{CanJudge};
 ghost use Rattle.wheel.specs.Turns.{CanInsert, CanMove, MovesOne, DrainsTo, CanPoll, PollsTo};
 
-// Elapsed, the occupied row of each level, and the list layer's state, as the caller keeps them.
+// Elapsed, the occupied row of each level, the list layer's state, and the slot whose drain is in hand with the now of its
+// poll (nobody and 0 if no poll is), as the caller keeps them.
 pub struct Wheel {
     pub elapsed: u64,
     pub occupied: [u64; 6],
     pub stacks: Stacks,
+    pub hand: u16,
+    pub until: u64,
 }
 
 // Indicates when a slot must be processed next.
@@ -267,7 +272,8 @@ fn move_entry(
     item
 }
 
-// A slot above level 0 is drained: each entry, from the head, is moved one level down. How many were.
+// A slot above level 0 is drained: each entry, from the head, is moved one level down, `limit` of them at most. How many more
+// could have been.
 fn poll_expiration(
     elapsed: u64,
     rows: &mut [u64; 6],
@@ -279,14 +285,18 @@ fn poll_expiration(
     deadlines: &[u64],
     level: usize,
     slot: usize,
+    limit: u64,
 ) -> u64
     requires { ⌜ CanMove (lent elapsed rows tops heads nexts prevs marks) (now deadlines) level slot ⌝ }
     ensures { λ r. ⌜
         DrainsTo (at (old deadlines)) (before elapsed rows tops heads nexts prevs marks)
-        (level - 1) (slotPlace level slot) r (after elapsed rows tops heads nexts prevs marks) ⌝ }
+        (level - 1) (slotPlace level slot) limit r (after elapsed rows tops heads nexts prevs marks) ⌝ }
 {
-    let mut moves = 0u64;
+    let mut left = limit;
     loop {
+        if left == 0 {
+            return left;
+        }
         let item = move_entry(
             elapsed,
             rows,
@@ -300,22 +310,42 @@ fn poll_expiration(
             slot,
         );
         if item == links::NOBODY {
-            return moves;
+            return left;
         }
-        moves += 1;
+        left -= 1;
     }
 }
 
-// What a poll hands out, or nobody, its moves and drains, and elapsed after it.
+// What a poll hands out, or nobody, its moves and drains, and elapsed after it. With a drain in hand the poll has not ended:
+// `hand` is its slot, and else nobody.
 pub struct Polled {
     pub elapsed: u64,
     pub item: u16,
+    pub hand: u16,
     pub moves: u64,
     pub drains: u64,
 }
 
-// A poll at `time`, document 01's now, which is not below elapsed, while the expired stack is empty. Looks for the next slot,
-// and drains it unless it is one of level 0.
+// Where a poll goes on: with the slot whose drain is in hand, and if there is none with the first one.
+fn next_slot(elapsed: u64, rows: &[u64; 6], hand: u16) -> Next
+    requires { ⌜ (hand ≡ nobody → NotPassed elapsed (now rows)) × (hand ≢ nobody → hand < slots) ⌝ }
+    ensures { λ r. ⌜ ((L : Lists) → Rows (old rows) L → GoesTo elapsed hand L r) ⌝ }
+{
+    if hand == links::NOBODY {
+        return next_expiration(elapsed, rows);
+    }
+    let level = stack::level_of(hand);
+    let slot = stack::slot_of(hand);
+    let deadline = times::slot_start(elapsed, level, slot);
+    Next::At(Expiration {
+        level,
+        slot,
+        deadline,
+    })
+}
+
+// A poll at `time`, document 01's now, with `limit` moves at most, while the expired stack is empty. Looks for the next slot,
+// which is that of `hand` if a drain is in hand, and drains it unless it is one of level 0.
 pub fn poll(
     elapsed: u64,
     rows: &mut [u64; 6],
@@ -325,18 +355,22 @@ pub fn poll(
     prevs: &mut [u16],
     marks: &mut [u16],
     deadlines: &[u64],
+    hand: u16,
     time: u64,
+    limit: u64,
 ) -> Polled
-    requires { ⌜ CanPoll (lent elapsed rows tops heads nexts prevs marks) (now deadlines) time ⌝ }
+    requires { ⌜ CanPoll (lent elapsed rows tops heads nexts prevs marks) (now deadlines) hand time ⌝ }
     ensures { λ r. ⌜
-        PollsTo (at (old deadlines)) time (before elapsed rows tops heads nexts prevs marks)
-        (r .item) (r .moves) (r .drains) (after (r .elapsed) rows tops heads nexts prevs marks) ⌝ }
+        PollsTo (at (old deadlines)) time limit hand (before elapsed rows tops heads nexts prevs marks)
+        (r .item) (r .hand) (r .moves) (r .drains) (after (r .elapsed) rows tops heads nexts prevs marks) ⌝ }
 {
     let mut e = elapsed;
+    let mut place = hand;
+    let mut left = limit;
     let mut moves = 0u64;
     let mut drains = 0u64;
     let item = loop {
-        let next = next_expiration(e, rows);
+        let next = next_slot(e, rows, place);
         let Next::At(expiration) = next else {
             e = time;
             break links::NOBODY;
@@ -351,7 +385,7 @@ pub fn poll(
         if level == 0 {
             break pop_entry(e, rows, tops, heads, nexts, prevs, marks, level, slot);
         }
-        let moved = poll_expiration(
+        left = poll_expiration(
             e,
             rows,
             tops,
@@ -362,14 +396,21 @@ pub fn poll(
             deadlines,
             level,
             slot,
+            left,
         );
+        moves = limit - left;
+        if heads[level][slot] != links::NOBODY {
+            place = stack::slot_place(level, slot);
+            break links::NOBODY;
+        }
         e = deadline;
-        moves += moved;
+        place = links::NOBODY;
         drains += 1;
     };
     Polled {
         elapsed: e,
         item,
+        hand: place,
         moves,
         drains,
     }

@@ -79,7 +79,7 @@ impl Compared {
         let large = room > BENCH_ROOM;
         Compared {
             how,
-            bench: bench.with_room(room),
+            bench: bench.with_room(room).with_limits(),
             ours: ours::Store::room(room as usize),
             at_once: if large { AT_ONCE_LARGE } else { AT_ONCE },
             most,
@@ -169,10 +169,15 @@ impl Compared {
         match self.contents.compare(store, &self.ours) {
             Ok(timers) => {
                 self.tally.lists += 1;
+                self.tally.lists_in_hand += u64::from(store.in_hand().is_some());
                 self.tally.timers += timers;
             }
             Err(lists) => self.differ(lists),
         }
+    }
+
+    fn in_hand(&self) -> bool {
+        self.bench.store().is_some_and(|store| store.in_hand().is_some())
     }
 
     fn compare_rest(&mut self) {
@@ -208,7 +213,7 @@ impl Taker for Compared {
 
     /// A malformed line is no call.
     fn line(&mut self, line: &[u8]) -> Answer {
-        match parse(line) {
+        match parse(line, true) {
             Some(command) => self.command(command),
             None => {
                 self.lines += 1;
@@ -226,7 +231,9 @@ impl Taker for Compared {
         self.lines += 1;
         self.commands.push(command);
         let elapsed = self.bench.store().map_or(0, Store::elapsed);
+        let in_hand = self.in_hand();
         let answer = self.bench.command(command);
+        self.tally.count_hand(in_hand, self.in_hand(), command);
         let again = matches!(answer, Answer::Out { key, .. } if self.bench.store().is_some_and(|store| store.holds(key)));
         self.tally.count(command, answer, again);
         self.tally.past.count(elapsed, command, answer);
@@ -236,6 +243,10 @@ impl Taker for Compared {
             self.flush();
         }
         answer
+    }
+
+    fn limits(&self) -> bool {
+        true
     }
 }
 
@@ -263,9 +274,10 @@ pub fn call(command: Command) -> ours::Call {
         Command::Reset { key, when } => [2, key, when, 0],
         Command::Remove { key } => [3, key, 0, 0],
         Command::Poll { now } => [4, 0, now, 0],
-        Command::Wake => [5, 0, 0, 0],
-        Command::Length => [6, 0, 0, 0],
-        Command::Clear => [7, 0, 0, 0],
+        Command::PollSome { now, limit } => [5, 0, now, limit],
+        Command::Wake => [6, 0, 0, 0],
+        Command::Length => [7, 0, 0, 0],
+        Command::Clear => [8, 0, 0, 0],
     }
 }
 
@@ -284,10 +296,11 @@ fn words(answer: Answer) -> ours::Answer {
             last,
         } => [3 + u64::from(last), key, value, deadline, moves, drains],
         Answer::Nothing { moves, drains } => [5, moves, drains, 0, 0, 0],
-        Answer::Wake(Some(time)) => [6, time, 0, 0, 0, 0],
-        Answer::Wake(None) => [7, 0, 0, 0, 0, 0],
-        Answer::Length(length) => [8, length, 0, 0, 0, 0],
-        Answer::No(number) => [9, number.into(), 0, 0, 0, 0],
+        Answer::Yet { moves, drains } => [6, moves, drains, 0, 0, 0],
+        Answer::Wake(Some(time)) => [7, time, 0, 0, 0, 0],
+        Answer::Wake(None) => [8, 0, 0, 0, 0, 0],
+        Answer::Length(length) => [9, length, 0, 0, 0, 0],
+        Answer::No(number) => [10, number.into(), 0, 0, 0, 0],
         Answer::Bad => unreachable!("a command is no malformed line"),
     }
 }
@@ -295,7 +308,7 @@ fn words(answer: Answer) -> ours::Answer {
 /// Our words with the name of their kind, all of them, for a part that should be 0 may not be.
 fn show(words: &ours::Answer) -> String {
     let names = [
-        "ok", "key", "gone", "out", "out last", "none", "wake", "wake -", "len", "no",
+        "ok", "key", "gone", "out", "out last", "none", "yet", "wake", "wake -", "len", "no",
     ];
     let name = names.get(words[0] as usize).unwrap_or(&"no answer");
     format!("{name}, in words {words:?}")

@@ -18,7 +18,7 @@ pub struct Contents {
 }
 
 impl Contents {
-    /// Elapsed, the size, and every pending timer: its place, its turn there, key, value, period, deadline.
+    /// Elapsed, the size, the poll in hand, and every pending timer: its place, its turn there, key, value, period, deadline.
     /// Answers how many timers there are, or what is expected and what is there.
     pub fn compare(&mut self, store: &Store, ours: &ours::Store) -> Result<u64, [String; 2]> {
         store.entries(&mut self.original);
@@ -26,16 +26,24 @@ impl Contents {
         let size = store.size() as u64;
         if read.is_ok()
             && (ours.state[0], ours.state[7]) == (store.elapsed(), size)
+            && ours.state[10..] == hand_words(store.in_hand())
             && self.ours == self.original
         {
             return Ok(self.ours.len() as u64);
         }
-        let mut there = show(ours.state[7], ours.state[0], &self.ours);
+        let hand = [ours.state[10], ours.state[11]];
+        let mut there = show(ours.state[7], ours.state[0], hand, &self.ours);
         if let Err(odd) = read {
             write!(there, "; {odd}").expect("memory");
         }
-        Err([show(size, store.elapsed(), &self.original), there])
+        let expected = show(size, store.elapsed(), hand_words(store.in_hand()), &self.original);
+        Err([expected, there])
     }
+}
+
+/// The place whose drain is in hand and the poll's now; nobody and 0 if none is.
+fn hand_words(hand: Option<(u64, usize)>) -> [u64; 2] {
+    hand.map_or([NOBODY, 0], |(now, place)| [place as u64, now])
 }
 
 /// All turns, values and periods, also of records that have left, and the free list, the next to be taken first.
@@ -86,9 +94,15 @@ pub fn parts(ours: &ours::Store) -> Result<Parts, String> {
             return Err(format!("{record} is in two places"));
         }
     }
+    let hand = match [ours.state[10], ours.state[11]] {
+        [NOBODY, 0] => None,
+        [NOBODY, now] => return Err(format!("nobody in hand at {now}")),
+        [place, now] => Some((now, place as usize)),
+    };
     let record = |i: usize| [ours.turns[i], ours.values[2 * i], ours.deadlines[i], ours.values[2 * i + 1]];
     Ok(Parts {
         elapsed: ours.state[0],
+        hand,
         free,
         retired: (0..size).filter(|&i| !placed[i]).collect(),
         pending: entries.iter().map(|entry| [entry.place, entry.record]).collect(),
@@ -143,9 +157,12 @@ fn walk(ours: &ours::Store, place: usize, head: u64, into: &mut Vec<Entry>) -> R
     Ok(())
 }
 
-/// Size and elapsed, and each timer as LEVEL.SLOT:RECORD/TURN=VALUE@DEADLINE+PERIOD, x for the expired stack.
-fn show(size: u64, elapsed: u64, entries: &[Entry]) -> String {
+/// Size, elapsed and the poll in hand, if one is, and each timer as LEVEL.SLOT:RECORD/TURN=VALUE@DEADLINE+PERIOD, x for the expired stack.
+fn show(size: u64, elapsed: u64, [place, now]: [u64; 2], entries: &[Entry]) -> String {
     let mut text = format!("n={size} e={elapsed}");
+    if [place, now] != [NOBODY, 0] {
+        write!(text, " hand={place}@{now}").expect("memory");
+    }
     for entry in entries {
         let place = match entry.place {
             EXPIRED => "x".to_string(),

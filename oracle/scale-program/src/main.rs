@@ -10,6 +10,7 @@ mod journal;
 #[path = "../../../speed/src/ours.rs"]
 mod ours;
 mod recovery;
+mod states;
 mod tally;
 mod wrong;
 
@@ -34,13 +35,15 @@ use wrong::{Wrong, WORDS};
 const USAGE: &str = "usage: scale [--keep FOLDER] \
     [ judged FROM TO LINES | inner FROM TO LINES | checked FROM TO LINES \
     | large judged|inner|checked FROM TO LINES | short DEPTH | wrong [WORD] | gauge FROM TO \
-    | journal FROM TO EVERY TIMES | journal wrong [WORD] | recovery ENTRIES ]";
+    | journal FROM TO EVERY TIMES | journal wrong [WORD] | recovery ENTRIES | states TIMERS ]";
 /// Where a script with a difference is kept below the oracle's folder, unless --keep names another.
 const KEEP: &str = "target/differences";
 /// So many short sequences are one piece of work.
 const CHUNK: u64 = 10_000;
 /// Deeper ones would be billions of commands.
-const DEEPEST: u32 = 5;
+const DEEPEST: u32 = 4;
+/// Stores with more timers would be billions.
+const MOST_TIMERS: usize = 3;
 
 fn main() -> ExitCode {
     let words: Vec<String> = env::args().skip(1).collect();
@@ -79,6 +82,10 @@ fn run(words: &[&str]) -> Result<bool, String> {
             return if from <= to { Ok(gauge::compare(from, to)) } else { Err(USAGE.into()) };
         }
         ["recovery", entries] => return Ok(recovery::measure(number(entries)? as usize)),
+        ["states", timers] => {
+            let timers = number(timers)? as usize;
+            return if (1..=MOST_TIMERS).contains(&timers) { Ok(states::compare(timers)) } else { Err(USAGE.into()) };
+        }
         ["wrong"] => return all_wrong(),
         ["wrong", word] => {
             let wrong = Wrong::new(number(word)? as usize).ok_or(USAGE)?;
@@ -215,7 +222,7 @@ impl Part {
     fn pieces(&self) -> u64 {
         match self {
             Part::Seeds(_, seeds, ..) => seeds.end() - seeds.start() + 1,
-            Part::Short(depth) => short::count(*depth).div_ceil(CHUNK),
+            Part::Short(depth) => short::count(*depth, true).div_ceil(CHUNK),
         }
     }
 
@@ -232,8 +239,8 @@ impl Part {
                 let mut compared = Compared::new(How::Judged, usize::MAX, BENCH_ROOM, wrong);
                 let first = number * CHUNK;
                 let mut at = first;
-                let range = first..short::count(*depth).min(first + CHUNK);
-                short::give(*depth, range, |commands| {
+                let range = first..short::count(*depth, true).min(first + CHUNK);
+                short::give(*depth, true, range, |commands| {
                     if compared.full() {
                         return;
                     }

@@ -5,14 +5,15 @@ use std::collections::BTreeMap;
 use std::fmt;
 use std::ops::AddAssign;
 
-const COMMANDS: [&str; 8] = [
-    "format", "insert", "reset", "remove", "poll", "wake", "length", "clear",
+const COMMANDS: [&str; 9] = [
+    "format", "insert", "reset", "remove", "poll", "poll with a limit", "wake", "length", "clear",
 ];
-const ANSWERS: [&str; 18] = [
+const ANSWERS: [&str; 20] = [
     "ok", "key", "gone", "out", "out last", "none", "wake", "wake -", "len", "no 1", "no 2",
-    "no 3", "no 4", "no 5", "no 6", "no 7", "no 8", "no 11",
+    "no 3", "no 4", "no 5", "no 6", "no 7", "no 8", "no 11", "no 12", "yet",
 ];
 const DRAINS: usize = 6;
+const ENDS: [&str; 4] = ["by a poll with a limit", "by a whole poll", "by clear", "by format"];
 /// So many sizes are shown.
 const LARGEST: usize = 3;
 
@@ -35,6 +36,12 @@ pub struct Tally {
     /// How often the lists were compared, and the timers that were then in them.
     pub lists: u64,
     pub timers: u64,
+    /// How often while a poll was in hand.
+    pub lists_in_hand: u64,
+    /// Polls that came to be in hand, how they ended (by a poll with a limit, a whole one, a clear, a format), and the commands asked meanwhile.
+    begun: u64,
+    ended: [u64; ENDS.len()],
+    in_hand: u64,
 }
 
 impl Tally {
@@ -46,9 +53,10 @@ impl Tally {
             Command::Reset { .. } => 2,
             Command::Remove { .. } => 3,
             Command::Poll { .. } => 4,
-            Command::Wake => 5,
-            Command::Length => 6,
-            Command::Clear => 7,
+            Command::PollSome { .. } => 5,
+            Command::Wake => 6,
+            Command::Length => 7,
+            Command::Clear => 8,
         }] += 1;
         self.answers[match answer {
             Answer::Ok => 0,
@@ -60,11 +68,12 @@ impl Tally {
             Answer::Wake(None) => 7,
             Answer::Length(_) => 8,
             // 9 is the gauge's and 10 the tick's.
-            Answer::No(11) => 17,
+            Answer::No(number @ (11 | 12)) => 6 + usize::from(number),
+            Answer::Yet { .. } => 19,
             Answer::No(number) => 8 + usize::from(number),
             Answer::Bad => unreachable!("a command is no malformed line"),
         }] += 1;
-        if let Answer::Out { moves, drains, .. } | Answer::Nothing { moves, drains } = answer {
+        if let Answer::Out { moves, drains, .. } | Answer::Nothing { moves, drains } | Answer::Yet { moves, drains } = answer {
             self.moves += moves;
             self.drains += drains;
             self.polls_by_drains[drains as usize] += 1;
@@ -75,6 +84,20 @@ impl Tally {
         }
         if let (Command::Format { records, .. }, Answer::Ok) = (command, answer) {
             *self.sizes.entry(records).or_default() += 1;
+        }
+    }
+
+    /// Whether a poll was in hand before the command, and whether one is after it.
+    pub fn count_hand(&mut self, before: bool, after: bool, command: Command) {
+        self.in_hand += u64::from(before);
+        self.begun += u64::from(!before && after);
+        if before && !after {
+            self.ended[match command {
+                Command::PollSome { .. } => 0,
+                Command::Poll { .. } => 1,
+                Command::Clear => 2,
+                _ => 3,
+            }] += 1;
         }
     }
 
@@ -103,6 +126,10 @@ impl AddAssign<&Tally> for Tally {
         self.past += &other.past;
         self.lists += other.lists;
         self.timers += other.timers;
+        self.lists_in_hand += other.lists_in_hand;
+        self.begun += other.begun;
+        self.in_hand += other.in_hand;
+        add(&mut self.ended, &other.ended);
         add(&mut self.commands, &other.commands);
         add(&mut self.answers, &other.answers);
         add(&mut self.polls_by_drains, &other.polls_by_drains);
@@ -140,6 +167,14 @@ impl fmt::Display for Tally {
             f,
             "  repeating timers: {}, placed again {} times",
             self.repeating, self.again
+        )?;
+        writeln!(
+            f,
+            "  polls in hand: {}, ended {}; commands meanwhile: {}; lists compared meanwhile: {} times",
+            self.begun,
+            named(&ENDS, &self.ended),
+            self.in_hand,
+            self.lists_in_hand
         )?;
         writeln!(f, "  {}", self.past)?;
         writeln!(f, "  sizes of stores: {} different ones, the largest {}", self.sizes.len(), self.largest())?;

@@ -3,8 +3,10 @@ use crate::ours::{Answer, Store};
 
 /// The six words of an answer, and those of a store.
 pub const WORDS: usize = 6 + STORE_WORDS;
-/// The ten words of the state, a head, and seven of a record.
-pub const STORE_WORDS: usize = 18;
+/// The twelve words of the state, a head, and seven of a record.
+pub const STORE_WORDS: usize = 20;
+const STATE_WORDS: usize = 12;
+const NOBODY: u64 = 65535;
 const NAMES: [&str; 8] = ["head", "value", "period", "deadline", "next", "prev", "turn", "mark"];
 /// Not before so many commands.
 const FROM: usize = 300;
@@ -29,8 +31,10 @@ impl Wrong {
         self.0 == 15
     }
 
+    /// The words of a poll in hand are made wrong while one is.
     pub fn is_due(self, commands: usize, store: &Store) -> bool {
-        commands >= FROM && is_due(store)
+        let in_hand = store.state[10] != NOBODY;
+        commands >= FROM && is_due(store) && (in_hand || !matches!(self.0, 16 | 17))
     }
 
     pub fn make(self, answers: &mut [Answer], store: &mut Store) {
@@ -44,8 +48,8 @@ impl Wrong {
 /// The name of a word of a store.
 pub fn name(word: usize) -> String {
     match word {
-        0..10 => format!("word {word} of the state"),
-        word => format!("the {} of a timer in a slot", NAMES[word - 10]),
+        0..STATE_WORDS => format!("word {word} of the state"),
+        word => format!("the {} of a timer in a slot", NAMES[word - STATE_WORDS]),
     }
 }
 
@@ -59,14 +63,14 @@ pub fn make(word: usize, store: &mut Store) {
     let (level, slot) = slot(store).expect("is due");
     let record = usize::from(store.heads[level][slot]);
     match word {
-        0..10 => store.state[word] ^= 1,
-        10 => store.heads[level][slot] ^= 1,
-        11 => store.values[2 * record] ^= 1,
-        12 => store.values[2 * record + 1] ^= 1,
-        13 => store.deadlines[record] ^= 1,
-        14 => store.nexts[record] ^= 1,
-        15 => store.prevs[record] ^= 1,
-        16 => store.turns[record] ^= 1,
+        0..STATE_WORDS => store.state[word] ^= 1,
+        12 => store.heads[level][slot] ^= 1,
+        13 => store.values[2 * record] ^= 1,
+        14 => store.values[2 * record + 1] ^= 1,
+        15 => store.deadlines[record] ^= 1,
+        16 => store.nexts[record] ^= 1,
+        17 => store.prevs[record] ^= 1,
+        18 => store.turns[record] ^= 1,
         _ => store.marks[record] ^= 1,
     }
 }

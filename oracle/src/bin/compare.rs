@@ -1,7 +1,7 @@
 //! compare: the oracle's answers against those of another program.
 use oracle::compare::compare;
 use oracle::exit::exit;
-use oracle::generator::generate;
+use oracle::generator::{generate, generate_limited};
 use oracle::script::Script;
 use oracle::short;
 use std::env;
@@ -14,7 +14,7 @@ use std::process::ExitCode;
 use std::str::FromStr;
 
 const USAGE: &str =
-    "usage: compare [--lists] [--keep FOLDER] [ [--from SEED] [--to SEED] [--lines N] \
+    "usage: compare [--lists] [--limits] [--keep FOLDER] [ [--from SEED] [--to SEED] [--lines N] \
     | --short DEPTH | --files FILE.. -- ] PROGRAM [ARGS..]";
 /// Where a script with a difference is kept, unless --keep names another folder.
 const KEEP: &str = concat!(env!("CARGO_MANIFEST_DIR"), "/target/differences");
@@ -25,6 +25,8 @@ const DEEPEST: u32 = 5;
 
 struct Options {
     lists: bool,
+    /// The program knows the line of a poll with a limit.
+    limits: bool,
     from: u64,
     to: u64,
     lines: usize,
@@ -44,6 +46,7 @@ fn main() -> ExitCode {
 fn options(mut args: impl Iterator<Item = OsString>) -> Result<Options, String> {
     let mut options = Options {
         lists: false,
+        limits: false,
         from: 1,
         to: 200,
         lines: 5000,
@@ -56,6 +59,7 @@ fn options(mut args: impl Iterator<Item = OsString>) -> Result<Options, String> 
         let arg = args.next().ok_or(USAGE)?;
         match arg.to_str() {
             Some("--lists") => options.lists = true,
+            Some("--limits") => options.limits = true,
             Some("--from") => options.from = number(args.next())?,
             Some("--to") => options.to = number(args.next())?,
             Some("--lines") => options.lines = number(args.next())?,
@@ -109,23 +113,30 @@ fn run(options: &Options) -> Result<bool, String> {
 }
 
 fn scripts(options: &Options) -> (String, Scripts<'_>) {
-    let lists = options.lists;
+    let (lists, limits) = (options.lists, options.limits);
     if !options.files.is_empty() {
         let files = options.files.iter();
-        let each = files.map(move |file| (file.display().to_string(), from_file(file, lists)));
+        let each = files.map(move |file| (file.display().to_string(), from_file(file, empty(lists, limits))));
         (format!("{} files", options.files.len()), Box::new(each))
     } else if let Some(depth) = options.short {
         let title = format!("every sequence of {depth} commands");
-        (title, short_sequences(depth, lists))
+        (title, short_sequences(depth, lists, limits))
     } else {
         let title = format!("seeds {}..{}", options.from, options.to);
         (title, seeds(options))
     }
 }
 
-fn from_file(file: &OsStr, lists: bool) -> io::Result<Script> {
+fn empty(lists: bool, limits: bool) -> Script {
+    if limits {
+        Script::limited(lists)
+    } else {
+        Script::new(lists)
+    }
+}
+
+fn from_file(file: &OsStr, mut script: Script) -> io::Result<Script> {
     let text = fs::read(file)?;
-    let mut script = Script::new(lists);
     script.add_all(&text);
     if !text.ends_with(b"\n") {
         script.drop_last_newline();
@@ -133,10 +144,10 @@ fn from_file(file: &OsStr, lists: bool) -> io::Result<Script> {
     Ok(script)
 }
 
-fn short_sequences(depth: u32, lists: bool) -> Scripts<'static> {
-    let count = short::count(depth);
+fn short_sequences(depth: u32, lists: bool, limits: bool) -> Scripts<'static> {
+    let count = short::count(depth, limits);
     let chunk = move |start: u64| {
-        let mut script = Script::new(lists);
+        let mut script = empty(lists, limits);
         short::add(depth, start..count.min(start + CHUNK), &mut script);
         (format!("sequences from {start} on"), Ok(script))
     };
@@ -145,8 +156,10 @@ fn short_sequences(depth: u32, lists: bool) -> Scripts<'static> {
 
 /// Empty input, then each seed; every second one ends without a newline.
 fn seeds(options: &Options) -> Scripts<'_> {
-    let empty = ("empty input".to_string(), Ok(Script::new(options.lists)));
+    let nothing = empty(options.lists, options.limits);
+    let empty = ("empty input".to_string(), Ok(nothing));
     let each = |seed: u64| {
+        let generate = if options.limits { generate_limited } else { generate };
         let mut script = generate(seed, options.lines, options.lists);
         if seed.is_multiple_of(2) {
             script.drop_last_newline();

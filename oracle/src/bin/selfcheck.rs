@@ -1,7 +1,7 @@
 //! selfcheck [FROM TO LINES]: generated lines and all short sequences through the original, with
 //! its debug assertions live and every check of ours.
 use oracle::exit::exit;
-use oracle::generator::generate;
+use oracle::generator::{generate, generate_limited};
 use oracle::script::Script;
 use oracle::short;
 use oracle::tally::Tally;
@@ -29,17 +29,21 @@ fn run(args: Vec<String>) -> Result<(), String> {
     let mut tally = Tally::default();
     let mut count = 0;
     for seed in from..=to {
-        let script = generate(seed, lines as usize, false);
-        tally.add(&script);
-        count += script.len();
+        for script in [generate(seed, lines as usize, false), generate_limited(seed, lines as usize, false)] {
+            tally.add(&script);
+            count += script.len();
+        }
     }
     println!("{tally}");
     println!("seeds {from}..{to}: {count} lines run, every check held");
 
-    let mut script = Script::new(false);
-    short::add(DEPTH, 0..short::count(DEPTH), &mut script);
-    let short = script.len();
-    println!("every sequence of {DEPTH} commands: {short} lines run, every check held");
-    println!("{} lines run in all", count + short);
+    for mut script in [Script::new(false), Script::limited(false)] {
+        let limits = script.bench().limits();
+        short::add(DEPTH, 0..short::count(DEPTH, limits), &mut script);
+        let with = if limits { ", with limits" } else { "" };
+        println!("every sequence of {DEPTH} commands{with}: {} lines run, every check held", script.len());
+        count += script.len();
+    }
+    println!("{count} lines run in all");
     Ok(())
 }

@@ -41,12 +41,19 @@ const PUMP: &str =
 /// After `f 2 5`.
 const TWO: &str = "store 2 0\nfree 0..1\nretired\nrec 0..1 turn 5 value 0 deadline 0 period 0\n";
 
+/// With a poll at 70 in hand, before its only move.
+const HELD: &str =
+    "store 1 0\nhand 70 1 1\nfree\nretired\nslot 1 1 0\nrec 0..0 turn 1 value 7 deadline 70 period 0\n";
+/// After `f 1 1`, `i 7 70 0` and a clear.
+const CLEARED: &str = "store 1 0\nfree 0..0\nretired\nrec 0..0 turn 2 value 7 deadline 70 period 0\n";
+
 const FORMAT: (u16, u64, u64) = (0x1000, 1, 1);
 const INSERT: (u16, u64, u64) = (0x2000, 7, 70);
 const OPEN: (u16, u64, u64) = (0x7000, 0, 0);
 const CLOSE: (u16, u64, u64) = (0x8000, 0, 0);
 const NINE: (u16, u64, u64) = (0x9000, 7, 70);
 const TEN: (u16, u64, u64) = (0xA000, 40, 0);
+const ELEVEN: (u16, u64, u64) = (0xB000, 70, 0);
 
 const fn case(
     entries: &'static [(u16, u64, u64)],
@@ -64,7 +71,7 @@ const fn case(
     }
 }
 
-pub const CASES: [Case; 49] = [
+pub const CASES: [Case; 61] = [
     case(&[], 0, 0, "-", NONE),
     case(&[FORMAT], 0, 18, "-", ONE),
     case(
@@ -135,7 +142,7 @@ pub const CASES: [Case; 49] = [
     case(&[FORMAT, NINE, TEN], 0, 54, "-", PUMP),
     // Bad kinds.
     case(&[(0, 0, 0)], 0, 0, "kind", NONE),
-    case(&[FORMAT, (0xB000, 0, 0), INSERT], 0, 18, "kind", ONE),
+    case(&[FORMAT, (0xC000, 0, 0), INSERT], 0, 18, "kind", ONE),
     case(&[FORMAT, (0xFFFF, 1, 1)], 0, 18, "kind", ONE),
     case(&[FORMAT, NINE, (0, 40, 0)], 0, 18, "kind", ONE),
     // Zeros.
@@ -170,4 +177,38 @@ pub const CASES: [Case; 49] = [
     case(&[FORMAT, INSERT, OPEN, (0x1000, 2, 5)], 0, 36, "-", SET),
     case(&[FORMAT, INSERT, OPEN, (0x1000, 2, 5), (0x4000, 0, 1)], 0, 36, "zero", SET),
     case(&[FORMAT, INSERT, (0x1000, 2, 0), (0x1000, 2, 1 << 48)], 0, 72, "-", SET),
+    // Polls with a limit: in hand, also behind calls that get 12 and a format that gets 8; ended by the last move, by clear, by format.
+    case(&[FORMAT, INSERT, ELEVEN], 0, 54, "-", HELD),
+    case(&[FORMAT, INSERT, ELEVEN, (0x1000, 1, 0), ELEVEN, (0x5000, 71, 0), INSERT], 0, 126, "-", HELD),
+    case(&[FORMAT, INSERT, ELEVEN, OPEN, (0x6000, 0, 0)], 0, 54, "-", HELD),
+    case(&[FORMAT, INSERT, ELEVEN, (0x6000, 0, 0)], 0, 72, "-", CLEARED),
+    case(&[FORMAT, INSERT, ELEVEN, (0x1000, 2, 5)], 0, 72, "-", TWO),
+    case(
+        &[FORMAT, INSERT, ELEVEN, (0xB000, 70, 1)],
+        0,
+        72,
+        "-",
+        "store 1 64\nfree 0..0\nretired\nrec 0..0 turn 2 value 7 deadline 70 period 0\n",
+    ),
+    // Inside a drain, and between two: elapsed stays inside.
+    case(
+        &[(0x1000, 2, 1), (0x2000, 1, 4101), (0x2000, 2, 4101), (0xB000, 4101, 1)],
+        0,
+        72,
+        "-",
+        "store 2 0\nhand 4101 2 1\nfree\nretired\nslot 1 0 0\nslot 2 1 1\n\
+         rec 0..0 turn 1 value 1 deadline 4101 period 0\nrec 1..1 turn 1 value 2 deadline 4101 period 0\n",
+    ),
+    case(
+        &[(0x1000, 2, 1), (0x2000, 1, 4101), (0x2000, 2, 4101), (0xB000, 4101, 2)],
+        0,
+        72,
+        "-",
+        "store 2 4096\nhand 4101 1 0\nfree\nretired\nslot 1 0 0 1\n\
+         rec 0..0 turn 1 value 1 deadline 4101 period 0\nrec 1..1 turn 1 value 2 deadline 4101 period 0\n",
+    ),
+    case(&[FORMAT, INSERT, (0xB001, 70, 0)], 0, 36, "zero", SET),
+    case(&[FORMAT, NINE, ELEVEN], 0, 18, "pair", ONE),
+    case(&[ELEVEN], 0, 0, "refused-2", NONE),
+    case(&[FORMAT, INSERT, ELEVEN], 1, 36, "-", SET),
 ];

@@ -121,4 +121,8 @@ impl Taker for Asking {
         self.between();
         self.ask(command.to_string().into_bytes(), Some(Step::Asks(command)))
     }
+
+    fn limits(&self) -> bool {
+        true
+    }
 }

@@ -2,7 +2,7 @@
 //! of an open patch apart, and asks no store what a call gets. Without a fault it must agree.
 use super::recovered::{show, Parts};
 use super::{Damage, Patched, Step, ENTRY};
-use crate::line::Command;
+use crate::line::{Answer, Command};
 use crate::rules::{LAST_TURN, MOST_RECORDS};
 
 #[derive(Clone, Copy, PartialEq, Eq, Debug)]
@@ -22,7 +22,10 @@ pub enum Fault {
     NineUnjudged,
     TakesPeriod0,
     TenIsKind,
-    KnowsEleven,
+    KnowsTwelve,
+    ElevenIsWhole,
+    ElevenSwapped,
+    TwelveIsLeftOut,
     RefusedFormatEmpties,
     EightIsDamage,
     NoRoom,
@@ -33,7 +36,7 @@ pub enum Fault {
 
 use Fault::*;
 
-pub const FAULTS: [Fault; 22] = [
+pub const FAULTS: [Fault; 25] = [
     KeepsUnclosed,
     KeepsUpToDamage,
     DropsClosed,
@@ -49,7 +52,10 @@ pub const FAULTS: [Fault; 22] = [
     NineUnjudged,
     TakesPeriod0,
     TenIsKind,
-    KnowsEleven,
+    KnowsTwelve,
+    ElevenIsWhole,
+    ElevenSwapped,
+    TwelveIsLeftOut,
     RefusedFormatEmpties,
     EightIsDamage,
     NoRoom,
@@ -102,14 +108,14 @@ impl Naive {
     fn entry(&mut self, entry: &[u8]) -> Result<(), Damage> {
         let kind = bits(entry, 0, 4);
         if entry.len() < ENTRY {
-            let judged = self.has(JudgesParts) && !(1..=10).contains(&kind);
+            let judged = self.has(JudgesParts) && !(1..=11).contains(&kind);
             return if judged { Err(Damage::Kind) } else { Ok(()) };
         }
         let [zero, first, second] =
             [(4, 12), (16, 64), (80, 64)].map(|(at, count)| bits(entry, at, count));
         let pair = Err(Damage::Pair);
         let broken = self.nine.is_some() && (kind != 10 || first == 0 && !self.has(TakesPeriod0));
-        let most = if self.has(KnowsEleven) { 11 } else { 10 };
+        let most = if self.has(KnowsTwelve) { 12 } else { 11 };
         if kind == 0 || kind > most || self.has(TenIsKind) && kind == 10 && self.nine.is_none() {
             return Err(Damage::Kind);
         }
@@ -147,6 +153,15 @@ impl Naive {
             },
             (4, _) => Command::Remove { key: first },
             (5, _) => Command::Poll { now: first },
+            (11, None) if self.has(ElevenIsWhole) => Command::Poll { now: first },
+            (11, None) if self.has(ElevenSwapped) => Command::PollSome {
+                now: second,
+                limit: first,
+            },
+            (11, None) => Command::PollSome {
+                now: first,
+                limit: second,
+            },
             (6, _) => Command::Clear,
             (7, _) => return self.open(),
             (8, _) => return self.close(),
@@ -154,7 +169,7 @@ impl Naive {
                 self.nine = Some((first, second));
                 return Ok(());
             }
-            (10 | 11, Some((value, when))) => Command::Insert {
+            (10, Some((value, when))) => Command::Insert {
                 value,
                 when,
                 period: first,
@@ -231,6 +246,9 @@ impl Naive {
         if self.has(NoDamage) {
             damage = None;
         }
+        if self.has(TwelveIsLeftOut) {
+            self.kept -= ENTRY * refused_last(&self.steps);
+        }
         let left = Patched::after(MOST_RECORDS, &self.steps);
         let mut parts = left.store().map(Parts::of);
         if let (true, Some(parts)) = (self.has(LeastFirst), &mut parts) {
@@ -238,6 +256,14 @@ impl Naive {
         }
         show(self.kept, damage, parts.as_ref())
     }
+}
+
+/// How many calls at the end are refused with 12.
+fn refused_last(steps: &[Step]) -> usize {
+    let mut patched = Patched::new(MOST_RECORDS);
+    let answers: Vec<Answer> = steps.iter().map(|&step| patched.ask(step)).collect();
+    let last = answers.iter().rev();
+    last.take_while(|&&answer| answer == Answer::No(12)).count()
 }
 
 /// So many bits from this one on, most significant first.

@@ -10,6 +10,8 @@ const EXPIRED: usize = SLOTS * WIDTHS.len();
 /// All that there is to a store, whoever holds it.
 pub struct Parts {
     pub elapsed: u64,
+    /// The now of the poll in hand, and the slot that its next move is taken from (02 [10]).
+    pub hand: Option<(u64, usize)>,
     /// The next to be taken first.
     pub free: Vec<usize>,
     /// In rising number.
@@ -29,6 +31,7 @@ impl Parts {
         };
         Parts {
             elapsed: store.elapsed(),
+            hand: store.in_hand(),
             free: store.free().collect(),
             retired: store.retired().collect(),
             pending: entries.iter().map(|e| [e.place, e.record]).collect(),
@@ -54,6 +57,9 @@ pub fn show(kept: usize, damage: Option<Damage>, store: Option<&Parts>) -> Strin
 
 fn show_store(text: &mut String, store: &Parts) -> std::fmt::Result {
     writeln!(text, "store {} {}", store.records.len(), store.elapsed)?;
+    if let Some((now, place)) = store.hand {
+        writeln!(text, "hand {now} {} {}", place / SLOTS, place % SLOTS)?;
+    }
     writeln!(text, "free{}", runs(&store.free))?;
     writeln!(text, "retired{}", runs(&store.retired))?;
     // The expired stack comes before the slots.

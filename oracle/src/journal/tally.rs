@@ -9,7 +9,7 @@ use std::ops::AddAssign;
 
 /// Journals by what was done to them; calls that were written, by kind and, of the refused, by number; numbers that are not
 /// written; what readings came to: `left out` is a patch that was not closed, `a nine` one that ends without its ten.
-const NAMES: [&str; 41] = [
+const NAMES: [&str; 45] = [
     "whole",
     "cut",
     "one bit",
@@ -21,6 +21,8 @@ const NAMES: [&str; 41] = [
     "reset",
     "remove",
     "poll",
+    "poll with a limit",
+    "yet",
     "clear",
     "open",
     "close",
@@ -33,6 +35,7 @@ const NAMES: [&str; 41] = [
     "no 7",
     "no 8",
     "no 11",
+    "no 12",
     "no 1",
     "no 2",
     "no 13",
@@ -50,6 +53,7 @@ const NAMES: [&str; 41] = [
     "a part",
     "a nine",
     "no store",
+    "a poll in hand",
     "retired",
 ];
 
@@ -90,6 +94,7 @@ impl Tally {
                 continue;
             };
             self.count(kind(step));
+            self.count_if(matches!(asked.answer, Answer::Yet { .. }), "yet");
             if let Step::Asks(Command::Format { .. }) = step {
                 self.count_if(asked.open, "format in a patch");
                 self.count_if(stores > 0, "format anew");
@@ -120,6 +125,7 @@ impl Tally {
         self.count_if(!damaged && rest.len() >= ENTRY, "a nine");
         let store = reading.left.store();
         self.count_if(store.is_none(), "no store");
+        self.count_if(store.is_some_and(|store| store.in_hand().is_some()), "a poll in hand");
         self.count_if(
             store.is_some_and(|store| store.retired().next().is_some()),
             "retired",
@@ -140,6 +146,7 @@ fn kind(step: Step) -> &'static str {
         Command::Reset { .. } => "reset",
         Command::Remove { .. } => "remove",
         Command::Poll { .. } => "poll",
+        Command::PollSome { .. } => "poll with a limit",
         Command::Clear => "clear",
         Command::Wake | Command::Length => unreachable!("never written"),
     }

@@ -17,8 +17,8 @@ pub struct Notes {
 pub struct Counts {
     pub pushes: u64,
     pub pops: u64,
-    /// The lists that a pop left empty, in order.
-    pub emptied: Vec<usize>,
+    /// The lists that a pop left empty, in order, each with the pops so far.
+    pub emptied: Vec<(usize, u64)>,
 }
 
 thread_local! {
@@ -85,7 +85,7 @@ impl wheel::Stack for Watch {
         self.note(|counts| {
             counts.pops += 1;
             if self.stack.head.is_none() {
-                counts.emptied.push(self.list);
+                counts.emptied.push((self.list, counts.pops));
             }
         });
         Some(popped)

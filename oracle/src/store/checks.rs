@@ -1,7 +1,7 @@
 //! What must hold of the original's answers and lists. A check that fails is a panic.
 use super::model::{Polled, EXPIRED};
-use super::{Place, Record, Store};
-use crate::rules::{block, level, slot, LAST_TURN, SLOTS, WIDTHS};
+use super::{Hand, Lists, Place, Record, Store};
+use crate::rules::{block, level, slot, FARTHEST, LAST_TURN, SLOTS, WIDTHS};
 use std::collections::BTreeSet;
 
 /// What a poll at `now` is made on.
@@ -67,8 +67,14 @@ impl Store {
     /// 0, which is no drain.
     pub fn counted(&self) -> (u64, u64) {
         let counts = self.original.watched().counts();
-        let drains = counts.emptied.iter().filter(|&&list| list >= SLOTS);
-        (counts.pushes, drains.count() as u64)
+        (counts.pushes, self.drained().len() as u64)
+    }
+
+    /// The slots that the original's poll drained, each with the moves made once it was empty.
+    pub(super) fn drained(&self) -> Vec<(usize, u64)> {
+        let mut emptied = self.original.watched().counts().emptied;
+        emptied.retain(|&(list, _)| list >= SLOTS);
+        emptied
     }
 
     /// Every pop is a move, but the one that hands out.
@@ -76,7 +82,7 @@ impl Store {
         let counts = self.original.watched().counts();
         let handed = out.is_some() && !before.from_expired;
         assert_eq!(counts.pops, counts.pushes + handed as u64);
-        let level_0 = counts.emptied.iter().filter(|&&list| list < SLOTS);
+        let level_0 = counts.emptied.iter().filter(|&&(list, _)| list < SLOTS);
         assert!(level_0.count() <= handed as usize);
     }
 
@@ -139,6 +145,9 @@ impl Store {
         let Some(model) = &self.model else {
             return;
         };
+        if let Some(hand) = &self.hand {
+            return self.check_hand(hand);
+        }
         let lists = self.lists();
         self.check_places(&lists);
         self.check_slots(&lists);
@@ -152,6 +161,43 @@ impl Store {
         assert_eq!(self.original.len(), self.pending.len());
         let periods = self.records.iter().map(|record| &record.period);
         assert!(periods.eq(&model.periods), "periods by the rules");
+    }
+
+    /// The lists of a poll that was in hand, now that it ends, are those that the original's whole poll left, with what it handed out.
+    pub(super) fn check_lists(&self, mut lists: Lists, out: Option<usize>, now: u64) {
+        if let Some(out) = out {
+            let place = lists.next_place();
+            let list = lists.places.get_mut(&place).expect("not empty");
+            assert_eq!((place / SLOTS, list.pop_front()), (0, Some(out)), "the head of a slot of level 0");
+            lists.places.retain(|_, list| !list.is_empty());
+        }
+        let elapsed = if out.is_some() { lists.elapsed } else { now };
+        assert_eq!((self.elapsed(), self.filled()), (elapsed, lists.places), "lists by the rules");
+    }
+
+    /// While a poll is in hand: every pending record is in one list, and those obey the rule of a drain in hand, its next move at `place`. "The
+    /// states that the rules of the poll in hand pass through, before, inside or between drains" (02 [10]).
+    fn check_hand(&self, hand: &Hand) {
+        let (lists, place) = (hand.lists(), hand.place());
+        let (drained, start) = (place / SLOTS, lists.start(place));
+        let mut found: Vec<usize> = lists.places.values().flatten().copied().collect();
+        found.sort_unstable();
+        assert_eq!(found, self.pending, "all are in the lists");
+        assert!(drained > 0 && lists.elapsed <= start && start <= hand.now);
+        // The slot of elapsed itself is filled by a drain of the slot above alone, which starts there; nothing drains into a block's first.
+        let own = lists.elapsed.is_multiple_of(SLOTS as u64 * WIDTHS[drained]) && lists.elapsed % (FARTHEST + 1) != 0;
+        assert!(lists.elapsed < start || own, "elapsed's own slot");
+        for (&at, list) in &lists.places {
+            let (k, mut of) = (at / SLOTS, list.iter().map(|&record| self.records[record].deadline));
+            let begins = |deadline: u64| deadline / WIDTHS[k] * WIDTHS[k];
+            assert!(k + 1 >= drained, "the levels below are empty");
+            assert!(of.all(|deadline| {
+                at == SLOTS * k + slot(k, deadline)
+                    && deadline / (SLOTS as u64 * WIDTHS[k]) == start / (SLOTS as u64 * WIDTHS[k])
+                    && (if at == place { begins(deadline) == start } else { begins(deadline) >= start })
+                    && (at == place || k < drained || begins(deadline) > start)
+            }));
+        }
     }
 
     /// Every record is in exactly one place, and the marks tell which.

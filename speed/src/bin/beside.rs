@@ -13,7 +13,11 @@ mod before {
 }
 
 use clock::{in_turns, timed_alone, Side, Times};
-use speed::script::{Mix, COMMANDS, MIXES, SIZES};
+use speed::script::{Mix, COMMANDS, INSERT, MIXES, POLL, SIZES};
+
+/// The longest poll that there is: the largest store, all timers in one slot of the highest level.
+const RECORDS: usize = 65_535;
+const DEADLINE: u64 = (1 << 30) + (1 << 24) + (1 << 18) + (1 << 12) + (1 << 6) + 1;
 
 fn main() {
     let words: Vec<String> = std::env::args().collect();
@@ -45,4 +49,33 @@ fn main() {
         let ratio = format!("{:.2} ({:.2})", two.least / one.least, two.median / one.median);
         println!("{:12}{:>20}{:>20}{ratio:>20}", format!("{records} {name}"), ns(&one), ns(&two));
     }
+    longest(rounds);
+}
+
+/// One whole poll of that store, with the judging before its script.
+fn longest(rounds: usize) {
+    let inserts = vec![[INSERT << 60, DEADLINE]; RECORDS];
+    let poll = [[POLL << 60, DEADLINE]];
+    let (first, second) = (&inserts, &inserts);
+    let one: Side = (
+        "before",
+        Box::new(move || {
+            let mut store = before::Store::new(RECORDS);
+            store.inner(first);
+            timed_alone(1000, || store.inner(&poll))
+        }),
+    );
+    let two: Side = (
+        "now",
+        Box::new(move || {
+            let mut store = ours::Store::new(RECORDS);
+            store.inner(second);
+            timed_alone(1000, || store.inner(&poll))
+        }),
+    );
+    let ([one, two], _) = in_turns("longest", rounds, [one, two]);
+    let us = |t: &Times| format!("{:.1} ({:.1})", t.least, t.median);
+    let ratio = format!("{:.2} ({:.2})", two.least / one.least, two.median / one.median);
+    println!("microseconds, one whole poll of {RECORDS} timers in one slot of level 5, {} moves", 5 * RECORDS);
+    println!("{:12}{:>20}{:>20}{ratio:>20}", "longest", us(&one), us(&two));
 }

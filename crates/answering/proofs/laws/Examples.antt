@@ -27,5 +27,9 @@ nothing-due : Written (word (A.Nothing 0 0)) (shown (A.Nothing 0 0)) [] (bytes "
 unfolding worth every
 nothing-due = written (A.Nothing 0 0) (bytes "0" ∷ bytes "0" ∷ []) refl (omega arith)
 
+not-yet : Written (word (A.NotYet 1 0)) (shown (A.NotYet 1 0)) [] (bytes "yet 1 0\n")
+unfolding worth every
+not-yet = written (A.NotYet 1 0) (bytes "1" ∷ bytes "0" ∷ []) refl (omega arith)
+
 no-wake : Written (word A.NoWake) (shown A.NoWake) [] (bytes "wake -\n")
 no-wake = written A.NoWake [] refl tt

@@ -38,18 +38,23 @@ to-a6 c =
     let a = c .before .before .before .before in
     a .before .before .before
 
-abbrev to-enum-told2 : tie.After-slice-known9 → tie.After-enum-told2
-to-enum-told2 c =
-    let a = c .before .before .before .before in
-    a .before .before
-
-abbrev to-a7 : tie.After-slice-known10 → tie.After-a7
+abbrev to-a7 : tie.After-slice-known9 → tie.After-a7
 to-a7 c =
     let a = c .before .before .before .before in
     a .before .before .before
 
+abbrev to-enum-told2 : tie.After-slice-known10 → tie.After-enum-told2
+to-enum-told2 c =
+    let a = c .before .before .before .before in
+    a .before .before
+
 abbrev to-a8 : tie.After-slice-known11 → tie.After-a8
 to-a8 c =
+    let a = c .before .before .before .before in
+    a .before .before .before
+
+abbrev to-a9 : tie.After-slice-known12 → tie.After-a9
+to-a9 c =
     let a = c .before .before .before .before in
     a .before .before .before
 
@@ -140,8 +145,8 @@ slice-aggregate-write-line-12 c = search needs
 write-line-requires-6 : tie.Need-write-line-requires-6
 write-line-requires-6 c κs = search needs
 
-enum-told-2 : tie.Need-enum-told-2
-enum-told-2 c = search needs
+enum-known-a-7 : tie.Need-enum-known-a-7
+enum-known-a-7 c = search needs
 
 slice-aggregate-write-line-13 : tie.Need-slice-aggregate-write-line-13
 slice-aggregate-write-line-13 c = search needs
@@ -152,8 +157,8 @@ slice-aggregate-write-line-14 c = search needs
 write-line-requires-7 : tie.Need-write-line-requires-7
 write-line-requires-7 c κs = search needs
 
-enum-known-a-7 : tie.Need-enum-known-a-7
-enum-known-a-7 c = search needs
+enum-told-2 : tie.Need-enum-told-2
+enum-told-2 c = search needs
 
 slice-aggregate-write-line-15 : tie.Need-slice-aggregate-write-line-15
 slice-aggregate-write-line-15 c = search needs
@@ -175,6 +180,18 @@ slice-aggregate-write-line-18 c = search needs
 
 write-line-requires-9 : tie.Need-write-line-requires-9
 write-line-requires-9 c κs = search needs
+
+enum-known-a-9 : tie.Need-enum-known-a-9
+enum-known-a-9 c = search needs
+
+slice-aggregate-write-line-19 : tie.Need-slice-aggregate-write-line-19
+slice-aggregate-write-line-19 c = search needs
+
+slice-aggregate-write-line-20 : tie.Need-slice-aggregate-write-line-20
+slice-aggregate-write-line-20 c = search needs
+
+write-line-requires-10 : tie.Need-write-line-requires-10
+write-line-requires-10 c κs = search needs
 
 same-length : tie.Need-same-length
 same-length c = search needs
@@ -222,19 +239,25 @@ same-length-8 : tie.Need-same-length-8
 same-length-8 c = search needs
 
 returns-8 : tie.Need-returns-8
-returns-8 c = rw (to-enum-told2 c .enum-told2 .given .1) (c .before .before .write-line7 .ensures)
+returns-8 c = rw (to-a7 c .a7 .given .1) (c .before .before .write-line7 .ensures)
 
 same-length-9 : tie.Need-same-length-9
 same-length-9 c = search needs
 
 returns-9 : tie.Need-returns-9
-returns-9 c = rw (to-a7 c .a7 .given .1) (c .before .before .write-line8 .ensures)
+returns-9 c = rw (to-enum-told2 c .enum-told2 .given .1) (c .before .before .write-line8 .ensures)
 
 same-length-10 : tie.Need-same-length-10
 same-length-10 c = search needs
 
 returns-10 : tie.Need-returns-10
 returns-10 c = rw (to-a8 c .a8 .given .1) (c .before .before .write-line9 .ensures)
+
+same-length-11 : tie.Need-same-length-11
+same-length-11 c = search needs
+
+returns-11 : tie.Need-returns-11
+returns-11 c = rw (to-a9 c .a9 .given .1) (c .before .before .write-line10 .ensures)
 
 pub write-answer-spec : {M : Type 1} → statement M
 write-answer-spec =
@@ -269,11 +292,11 @@ write-answer-spec =
     slice-aggregate-write-line-11
     slice-aggregate-write-line-12
     write-line-requires-6
-    enum-told-2
+    enum-known-a-7
     slice-aggregate-write-line-13
     slice-aggregate-write-line-14
     write-line-requires-7
-    enum-known-a-7
+    enum-told-2
     slice-aggregate-write-line-15
     slice-aggregate-write-line-16
     write-line-requires-8
@@ -281,6 +304,10 @@ write-answer-spec =
     slice-aggregate-write-line-17
     slice-aggregate-write-line-18
     write-line-requires-9
+    enum-known-a-9
+    slice-aggregate-write-line-19
+    slice-aggregate-write-line-20
+    write-line-requires-10
     same-length
     returns
     same-length-2
@@ -300,4 +327,6 @@ write-answer-spec =
     same-length-9
     returns-9
     same-length-10
-    returns-10)
+    returns-10
+    same-length-11
+    returns-11)

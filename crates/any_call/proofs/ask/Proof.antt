@@ -58,6 +58,17 @@ to-call5 c =
     let a = c .before .before .before .before in
     a .before .before .before .before
 
+abbrev to-poll-some : tie.After-slice-known35 → tie.After-poll-some
+to-poll-some c =
+    let a = c .before .before .before .before in
+    let b = a .before .before .before .before in
+    b .before .before
+
+abbrev to-call6 : tie.After-poll-some → tie.After-call6
+to-call6 c =
+    let a = c .before .before .before .before in
+    a .before .before .before .before
+
 abbrev to-enum-told : tie.After-unchanged → tie.After-enum-told
 to-enum-told c =
     let a = c .before .before .before .before in
@@ -68,7 +79,7 @@ to-enum-told2 c =
     let a = c .before .before .before .before in
     a .before .before .before .before
 
-abbrev to-clear : tie.After-slice-known34 → tie.After-clear
+abbrev to-clear : tie.After-slice-known39 → tie.After-clear
 to-clear c =
     let a = c .before .before .before .before in
     a .before .before .before .before
@@ -107,6 +118,12 @@ enum-known-call-5 c = search needs
 
 poll-requires : tie.Need-poll-requires
 poll-requires c κs = search needs
+
+enum-known-call-6 : tie.Need-enum-known-call-6
+enum-known-call-6 c = search needs
+
+poll-some-requires : tie.Need-poll-some-requires
+poll-some-requires c κs = search needs
 
 enum-told : tie.Need-enum-told
 enum-told c = search needs
@@ -267,7 +284,8 @@ same-length-36 c = search needs
 
 returns-6 : tie.Need-returns-6
 returns-6 c =
-    by-call _ _ _ (to-enum-told c .enum-told .given .1) (back-same _ _ _ _ _ _ (c .unchanged .ensures) (WakeClaim _) (c .before .next-wake .ensures))
+    let at-poll-some = to-poll-some c in
+    by-call _ _ _ (to-call6 at-poll-some .call6 .given .1) (at-poll-some .poll-some .ensures)
 
 same-length-37 : tie.Need-same-length-37
 same-length-37 c = search needs
@@ -289,8 +307,7 @@ same-length-42 c = search needs
 
 returns-7 : tie.Need-returns-7
 returns-7 c =
-    by-call _ _ _ (to-enum-told2 c .enum-told2 .given .1)
-    (back-same _ _ _ _ _ _ (c .unchanged2 .ensures) (LengthClaim _) (c .before .length .ensures))
+    by-call _ _ _ (to-enum-told c .enum-told .given .1) (back-same _ _ _ _ _ _ (c .unchanged .ensures) (WakeClaim _) (c .before .next-wake .ensures))
 
 same-length-43 : tie.Need-same-length-43
 same-length-43 c = search needs
@@ -312,6 +329,29 @@ same-length-48 c = search needs
 
 returns-8 : tie.Need-returns-8
 returns-8 c =
+    by-call _ _ _ (to-enum-told2 c .enum-told2 .given .1)
+    (back-same _ _ _ _ _ _ (c .unchanged2 .ensures) (LengthClaim _) (c .before .length .ensures))
+
+same-length-49 : tie.Need-same-length-49
+same-length-49 c = search needs
+
+same-length-50 : tie.Need-same-length-50
+same-length-50 c = search needs
+
+same-length-51 : tie.Need-same-length-51
+same-length-51 c = search needs
+
+same-length-52 : tie.Need-same-length-52
+same-length-52 c = search needs
+
+same-length-53 : tie.Need-same-length-53
+same-length-53 c = search needs
+
+same-length-54 : tie.Need-same-length-54
+same-length-54 c = search needs
+
+returns-9 : tie.Need-returns-9
+returns-9 c =
     let at-clear = to-clear c in
     by-call _ _ _ (to-enum-told3 at-clear .enum-told3 .given .1) (at-clear .clear .ensures)
 
@@ -329,6 +369,8 @@ ask-spec =
     remove-requires
     enum-known-call-5
     poll-requires
+    enum-known-call-6
+    poll-some-requires
     enum-told
     next-wake-requires
     unchanged-requires
@@ -392,4 +434,11 @@ ask-spec =
     same-length-46
     same-length-47
     same-length-48
-    returns-8)
+    returns-8
+    same-length-49
+    same-length-50
+    same-length-51
+    same-length-52
+    same-length-53
+    same-length-54
+    returns-9)

@@ -48,16 +48,19 @@ returns-9 : tie.Need-returns-9
 returns-9 c = here (C.Reset _ _) (c .match4 .keys2) (c .before .before .numbers2 .given .1)
 
 returns-10 : tie.Need-returns-10
-returns-10 c = nowhere _ (c .before .before .numbers2 .given .1) (c .match4 .rest .0 .1, (c .match4 .rest .1, tt))
+returns-10 c = here (C.PollSome _ _) (c .match4 .keys3) (c .before .before .numbers2 .given .1)
 
 returns-11 : tie.Need-returns-11
-returns-11 c = here (C.Insert _ _ _) (c .match5 .keys1) (c .before .before .numbers3 .given .1)
+returns-11 c = nowhere _ (c .before .before .numbers2 .given .1) (c .match4 .rest .0 .0 .1, (c .match4 .rest .0 .1, (c .match4 .rest .1, tt)))
 
 returns-12 : tie.Need-returns-12
-returns-12 c = nowhere _ (c .before .before .numbers3 .given .1) (c .match5 .rest .1, tt)
+returns-12 c = here (C.Insert _ _ _) (c .match5 .keys1) (c .before .before .numbers3 .given .1)
 
 returns-13 : tie.Need-returns-13
-returns-13 c = nowhere _ (c .enum-told2 .given .1) tt
+returns-13 c = nowhere _ (c .before .before .numbers3 .given .1) (c .match5 .rest .1, tt)
+
+returns-14 : tie.Need-returns-14
+returns-14 c = nowhere _ (c .enum-told2 .given .1) tt
 
 pub call-of-spec : {M : Type 1} → statement M
 call-of-spec =
@@ -80,4 +83,5 @@ call-of-spec =
     returns-10
     returns-11
     returns-12
-    returns-13)
+    returns-13
+    returns-14)

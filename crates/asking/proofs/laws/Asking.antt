@@ -27,6 +27,7 @@ own (C.Insert value when period) = refl
 own (C.Reset key when) = refl
 own (C.Remove key) = refl
 own (C.Poll now) = refl
+own (C.PollSome now limit) = refl
 own C.Wake = refl
 own C.Length = refl
 own C.Clear = refl

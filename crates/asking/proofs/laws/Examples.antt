@@ -34,6 +34,10 @@ insert : Says (bytes "i 7 70 0") (C.Insert 7 70 0)
 unfolding worth every
 insert = says (C.Insert 7 70 0) (bytes "7" ∷ bytes "70" ∷ bytes "0" ∷ []) refl (omega arith) (omega arith)
 
+some : Says (bytes "q 70 1") (C.PollSome 70 1)
+unfolding worth every
+some = says (C.PollSome 70 1) (bytes "70" ∷ bytes "1" ∷ []) refl (omega arith) (omega arith)
+
 wake : Says (bytes "w") C.Wake
 wake = says C.Wake [] refl tt (omega arith)
 
@@ -97,6 +101,10 @@ two-spaces =
     no-first =
         first-bad (bytes " 70 0") 0 (record { within = omega arith; before = λ k h. absurd (omega arith); space = λ h. refl })
         (λ n d. omega (arith, d .some))
+
+no-limit : (c : Call) → Says (bytes "q 70") c → ⊥
+unfolding worth every callOf
+no-limit = line (code "q") (bytes " 70") (F.One 70) L.Bad (omega arith) (spaced (bytes "70" ∷ []) (omega arith)) refl .bad .0 refl
 
 -- 02 [7]: "the `i` line always has a third field"
 two-fields : (c : Call) → Says (bytes "i 7 70") c → ⊥

@@ -86,7 +86,7 @@ long-line l h = nothing l (λ c s. omega arith)
 held : (l : List ℕ) (f : Fields) → Holds 3 l f → All (λ c. Spaced l (numbers c)) (calls f)
 held l F.None h = (h, (h, (h, tt)))
 held l (F.One x) h = (h, (h, tt))
-held l (F.Two x y) h = (h, (h, tt))
+held l (F.Two x y) h = (h, (h, (h, tt)))
 held l (F.Three x y z) h = (h, tt)
 held l F.Bad h = tt
 

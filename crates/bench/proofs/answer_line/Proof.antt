@@ -1,4 +1,4 @@
--- `answer_line` meets its claim: read, done and written, or `bad` written and nothing else touched.
+-- `answer_line` meets its claim: heard, done and written, or `bad` written and nothing else touched.
 use borrow.Author.Needs.{needs}
 use Rattle.bench.proofs.laws.Line.{line-asks, line-bad}
 use Rattle.bench.proofs.answer_line.Statement.{statement}
@@ -22,8 +22,8 @@ to-enum-told c =
     let a = c .before .before .before .before in
     a .before
 
-read-line-requires : tie.Need-read-line-requires
-read-line-requires c κs = search needs
+hear-requires : tie.Need-hear-requires
+hear-requires c κs = search needs
 
 enum-known-asked : tie.Need-enum-known-asked
 enum-known-asked c = search needs
@@ -68,7 +68,7 @@ returns : tie.Need-returns
 returns c =
     let at-ask = to-ask c in
     let at-asked = to-asked at-ask in
-    line-asks _ (at-asked .before .before .read-line .ensures) (at-asked .asked .given .1) _ (at-ask .ask .ensures)
+    line-asks _ (at-asked .before .before .hear .ensures) (at-asked .asked .given .1) _ (at-ask .ask .ensures)
     (c .before .before .write-answer .ensures)
 
 same-length-8 : tie.Need-same-length-8
@@ -77,14 +77,14 @@ same-length-8 c = search needs
 returns-2 : tie.Need-returns-2
 returns-2 c =
     let at-enum-told = to-enum-told c in
-    line-bad _ _ _ _ _ _ _ (at-enum-told .before .before .read-line .ensures) (at-enum-told .enum-told .given .1) (c .heads-of .ensures)
+    line-bad _ _ _ _ _ _ _ (at-enum-told .before .before .hear .ensures) (at-enum-told .enum-told .given .1) (c .heads-of .ensures)
     (c .before .before .before .write-bad .ensures)
 
 pub answer-line-spec : {M : Type 1} → statement M
 answer-line-spec =
     tie.close
     (tie.spec
-    read-line-requires
+    hear-requires
     enum-known-asked
     ask-requires
     write-answer-requires

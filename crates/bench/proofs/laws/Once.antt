@@ -1,5 +1,6 @@
 -- The claim of a line leaves no choice.
 use mathlib.Core.Path.{_≡_, refl, sym, ap, _∙_, subst}
+use mathlib.Core.Bool.{Bool}
 use mathlib.Core.List.{List, List-discrete}
 use Prim.Native.Nat.{ℕ}
 use native.Mathlib.Decide.{ℕ-discrete}
@@ -10,27 +11,26 @@ use Rattle.queue.specs.declared.Answer.{Answer}
 use Rattle.records.specs.Words.{QueueWords, queueWords}
 use Rattle.promises.proofs.laws.OneCall.{call-once}
 use Rattle.asking.specs.declared.Line.{Line}
-use Rattle.asking.specs.declared.Line.the-variants as L
-use Rattle.asking.specs.Text.{ReadClaim}
-use Rattle.asking.proofs.laws.Finding.{as-read}
 use Rattle.answering.specs.Text.{WriteClaim}
 use Rattle.answering.proofs.laws.Answering.{write-once}
 use Rattle.bench.specs.Line.{LineClaim}
+use Rattle.bench.specs.Parts.{Heard, asks, bad}
+use Rattle.bench.proofs.laws.Hearing.{as-heard}
 
--- r is what the line says
-read-once : {l o o′ o″ : List ℕ} {s s′ s″ : QueueWords} {at end end″ : ℕ} (r : Line) → ReadClaim l r → LineClaim l s o at s′ o′ end
-    → LineClaim l s o at s″ o″ end″
+-- r is what the line asks
+heard-once : {limits : Bool} {l o o′ o″ : List ℕ} {s s′ s″ : QueueWords} {at end end″ : ℕ} (r : Line) → Heard limits l r
+    → LineClaim limits l s o at s′ o′ end → LineClaim limits l s o at s″ o″ end″
     → (s′ ≡ s″) × (end ≡ end″) × (o′ ≡ o″)
-read-once {l} {o} {o′} {o″} {s} {s′} {s″} {at} {end} {end″} (L.Asks c) R A B =
-    let x = A .asks c (R .asks c .0 refl) in
-    let y = B .asks c (R .asks c .0 refl) in
+heard-once {o = o} {o′ = o′} {s = s} {s′ = s′} {s″ = s″} {at = at} {end = end} r (asks {c = c} h) A B =
+    let x = A .asks c h in
+    let y = B .asks c h in
     let e = call-once c s (x .answer) (y .answer) s′ s″ (x .done) (y .done) in
     let w : WriteClaim (y .answer) o at end o′ = subst (λ (a : Answer). WriteClaim a o at end o′) (e .0) (x .written) in
     let f = write-once w (y .written) in
     (e .1, f .0, f .1)
-read-once L.Bad R A B =
-    let x = A .bad (R .bad .0 refl) in
-    let y = B .bad (R .bad .0 refl) in
+heard-once r (bad n) A B =
+    let x = A .bad n in
+    let y = B .bad n in
     let f = write-once (x .1) (y .1) in
     (x .0 ∙ sym (y .0), f .0, f .1)
 
@@ -54,6 +54,8 @@ same-store s t f =
     let values = list (λ x. x .values) in
     let deadlines = list (λ x. x .deadlines) in
     let turns = list (λ x. x .turns) in
+    let hand = number (λ x. x .hand) in
+    let until = number (λ x. x .until) in
     λ i.
     queueWords
     (wheelWords (elapsed i) (occupied i)
@@ -61,12 +63,15 @@ same-store s t f =
     (values i)
     (deadlines i)
     (turns i)
+    (hand i)
+    (until i)
 
 -- two results for one line that both keep the claim are the same: what is left of the store, what is written, and where it ends
-pub line-once : {l o o′ o″ : List ℕ} {s s′ s″ : QueueWords} {at end end″ : ℕ} → LineClaim l s o at s′ o′ end → LineClaim l s o at s″ o″ end″
+pub line-once : {limits : Bool} {l o o′ o″ : List ℕ} {s s′ s″ : QueueWords} {at end end″ : ℕ} → LineClaim limits l s o at s′ o′ end
+    → LineClaim limits l s o at s″ o″ end″
     → (s′ ≡ s″) × (end ≡ end″) × (o′ ≡ o″)
-line-once {l} {o} {o′} {o″} {s} {s′} {s″} {at} {end} {end″} A B = (
-  same-store s′ s″ (λ P d f. as-read l d (λ r R. f (read-once r R A B .0))),
-  as-read l (ℕ-discrete end end″) (λ r R. read-once r R A B .1),
-  as-read l (List-discrete ℕ-discrete o′ o″) (λ r R. read-once r R A B .2),
+line-once {limits} {l} {o} {o′} {o″} {s} {s′} {s″} {at} {end} {end″} A B = (
+  same-store s′ s″ (λ P d f. as-heard limits l d (λ r H. f (heard-once r H A B .0))),
+  as-heard limits l (ℕ-discrete end end″) (λ r H. heard-once r H A B .1),
+  as-heard limits l (List-discrete ℕ-discrete o′ o″) (λ r H. heard-once r H A B .2),
 )

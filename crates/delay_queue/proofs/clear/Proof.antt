@@ -1,6 +1,7 @@
 -- `clear` meets its claim: the judge's answer decides, and on a sound store it is what `queue::clear` does.
 use borrow.Author.Needs.{needs}
 use Rattle.queue.specs.Calls.{ClearOn}
+use Rattle.records.proofs.laws.Inner.{standing-hold}
 use Rattle.delay_queue.proofs.laws.Back.{back, turned-down, is-sound, taken-up}
 use Rattle.delay_queue.proofs.clear.Statement.{statement}
 use Rattle.delay_queue.proofs.clear.Tie as tie
@@ -42,7 +43,7 @@ returns c =
 clear-requires : tie.Need-clear-requires
 clear-requires c κs =
     let else1 = to-else1 c in
-    is-sound (else1 .before .is-sound .ensures) (else1 .if1 .left) .standing
+    standing-hold (is-sound (else1 .before .is-sound .ensures) (else1 .if1 .left) .standing) _ _
 
 packed-requires : tie.Need-packed-requires
 packed-requires c κs = search needs
@@ -64,7 +65,7 @@ returns-2 c =
     let at-clear = to-clear c in
     let else1 = to-else1 (at-clear .before) in
     taken-up (is-sound (else1 .before .is-sound .ensures) (else1 .if1 .left))
-    (back _ _ _ _ _ _ (c .packed .ensures) (ClearOn _) (at-clear .clear .ensures))
+    (back _ _ _ _ _ _ (c .packed .ensures) (ClearOn _) (at-clear .clear .ensures _ _))
 
 pub clear-spec : {M : Type 1} → statement M
 clear-spec =

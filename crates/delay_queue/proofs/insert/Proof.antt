@@ -1,7 +1,7 @@
 -- `insert` meets its claim: the judge's answer decides, and on a sound store it is what `queue::insert` does.
 use borrow.Author.Needs.{needs}
 use Rattle.queue.specs.Calls.{InsertOn}
-use Rattle.delay_queue.proofs.laws.Back.{back, turned-down, is-sound, taken-up}
+use Rattle.delay_queue.proofs.laws.Back.{back, turned-away, parted, taken-insert}
 use Rattle.delay_queue.proofs.insert.Statement.{statement}
 use Rattle.delay_queue.proofs.insert.Tie as tie
 
@@ -17,8 +17,8 @@ to-insert c =
     let b = a .before .before .before .before in
     b .before .before .before
 
-is-sound-requires : tie.Need-is-sound-requires
-is-sound-requires c κs = search needs
+free-no-requires : tie.Need-free-no-requires
+free-no-requires c κs = search needs
 
 refused-requires : tie.Need-refused-requires
 refused-requires c κs = search needs
@@ -40,12 +40,12 @@ same-length-5 c = search needs
 
 returns : tie.Need-returns
 returns c =
-    turned-down _ _ _ _ _ _ (c .before .before .is-sound .ensures) (c .before .if1 .taken) (c .refused .ensures)
+    turned-away _ _ _ _ _ _ (c .before .before .free-no .ensures) (c .before .if1 .taken) (c .refused .ensures)
 
 insert-requires : tie.Need-insert-requires
 insert-requires c κs =
     let else1 = to-else1 c in
-    is-sound (else1 .before .is-sound .ensures) (else1 .if1 .left)
+    parted (else1 .before .free-no .ensures .taken (else1 .if1 .left))
 
 packed-requires : tie.Need-packed-requires
 packed-requires c κs = search needs
@@ -69,14 +69,14 @@ returns-2 : tie.Need-returns-2
 returns-2 c =
     let at-insert = to-insert c in
     let else1 = to-else1 (at-insert .before) in
-    taken-up (is-sound (else1 .before .is-sound .ensures) (else1 .if1 .left))
+    taken-insert (else1 .before .free-no .ensures .taken (else1 .if1 .left))
     (back _ _ _ _ _ _ (c .packed .ensures) (InsertOn _ _ _ _) (at-insert .insert .ensures))
 
 pub insert-spec : {M : Type 1} → statement M
 insert-spec =
     tie.close
     (tie.spec
-    is-sound-requires
+    free-no-requires
     refused-requires
     same-length
     same-length-2

@@ -1,10 +1,13 @@
 -- What the proofs of the calls cite: the judge's answer decides which half of a claim is owed, and what is handed back is what was made.
 use mathlib.Core.Path.{_≡_, refl, sym, ap, _∙_, subst}
+use mathlib.Core.Logic.{_≢_}
 use mathlib.Core.Bool.{Bool, true, false, not}
 use mathlib.Core.List.{List}
-use Prim.Native.Nat.{ℕ, _≤_}
+use Prim.Native.Nat.{ℕ, _-_, _^_, _≤_}
+use native.Mathlib.Omega.{arith}
 use lib.ListN.{length}
 use borrow.Author.Tests.{not-true, not-false}
+use Rattle.links.specs.Lists.{nobody}
 use Rattle.stack.specs.Places.{expired}
 use Rattle.stack.specs.Words.{headAt}
 use Rattle.stack.proofs.laws.Heads.{head-expired}
@@ -16,15 +19,18 @@ use Rattle.wheel.specs.declared.Wheel.{Wheel}
 use Rattle.queue.specs.declared.Answer.{Answer}
 use Rattle.queue.specs.declared.Answer.the-variants as A
 use Rattle.queue.specs.Told.{told, len}
+use Rattle.queue.specs.Told as T
 use Rattle.records.specs.View.{View}
 use Rattle.queue.specs.Steps.{NextWake}
-use Rattle.queue.specs.Calls.{WakeOn, LengthOn}
+use Rattle.queue.specs.Calls.{InsertOn, ResetOn, RemoveOn, Freely, WakeOn, LengthOn}
+use Rattle.queue.proofs.laws.Resumed.{polls-whole}
 use Rattle.queue.specs.Inner.{Shows, pendingIn}
 use Rattle.queue.proofs.laws.Polls.{pending-is}
-use Rattle.records.specs.Words.{QueueWords, words, Sound, count, elapsed, markOf, view}
+use Rattle.records.specs.Words.{QueueWords, words, holding, AtRest, MidPoll, Sound, count, elapsed, markOf, view}
 use Rattle.contracts.specs.Tells.{Tells}
 use Rattle.delay_queue.specs.declared.Call.{Call}
-use Rattle.delay_queue.specs.Claims.{Judging, CallClaim}
+use Rattle.delay_queue.specs.Claims.{Judging, InsertClaim, ResetClaim, RemoveClaim, PollClaim, PollSomeClaim, CallClaim}
+use Rattle.delay_queue.specs.Free.{FreeNo}
 
 -- what goes out is a with w and hh
 abbrev pub Goes : Answer → Wheel → List (List ℕ) → Answer → Wheel → List (List ℕ) → Type 0
@@ -62,10 +68,79 @@ is-sound {s} {b} T e = T .yes (not-false b e)
 pub taken-up : {s s′ : QueueWords} {a : Answer} {On : Type 0} → Sound s → On → Judging s a s′ On
 taken-up S x = record { bad = λ f. absurd (f S); good = λ _. x }
 
+-- ---- 02 [10]: a call that is refused while a poll is in hand
+
+pub free-bad : {s : QueueWords} {b : Bool} → Tells (Sound s) b → not b ≡ true → FreeNo s 2
+free-bad {s} {b} T e =
+    let f : Sound s → ⊥ = T .no (not-true b e) in
+    record { bad = λ _. refl; held = λ S. absurd (f S); near = λ S. absurd (f S); taken = λ z. absurd (omega arith) }
+
+pub free-held : {s : QueueWords} {b : Bool} → Tells (Sound s) b → not b ≡ false → MidPoll s → FreeNo s 12
+free-held {s} {b} T e d =
+    let S = is-sound T e in
+    record { bad = λ f. absurd (f S); held = λ _ _. refl; near = λ _ z. absurd (d z); taken = λ z. absurd (omega arith) }
+
+pub free-none : {s : QueueWords} {b : Bool} → Tells (Sound s) b → not b ≡ false → AtRest s → FreeNo s 0
+free-none {s} {b} T e z =
+    let S = is-sound T e in
+    record { bad = λ f. absurd (f S); held = λ _ d. absurd (d z); near = λ _ _. refl; taken = λ _. (S, z) }
+
+away : {s s′ : QueueWords} {a : Answer} {On : Type 0} {r : ℕ} → FreeNo s r → r ≢ 0 → told a ≡ told (A.No r) → s′ ≡ s → Judging s a s′ (Freely s a s′ On)
+away F d e q =
+    record {
+      bad = λ f. record { told = e ∙ ap T.no (F .bad f); same = q };
+      good = λ S. record {
+        held = λ m. record { told = e ∙ ap T.no (F .held S m); same = q };
+        free = λ z. absurd (d (F .near S z));
+      };
+    }
+
+pub turned-away : (vs ds ns ps ts ms : List ℕ) {a : Answer} {w w′ : Wheel} {hh hh′ : List (List ℕ)} {r : ℕ} {On : Type 0}
+    → FreeNo (words w hh vs ds ns ps ts ms) r → r ≢ 0 → Goes a w′ hh′ (A.No r) w hh
+    → Judging (words w hh vs ds ns ps ts ms) a (words w′ hh′ vs ds ns ps ts ms)
+    (Freely (words w hh vs ds ns ps ts ms) a (words w′ hh′ vs ds ns ps ts ms) On)
+turned-away vs ds ns ps ts ms F d G = away F d (ap told (G .0)) (λ i. words (G .1 i) (G .2 i) vs ds ns ps ts ms)
+
+pub no-free : {s : QueueWords} {r : ℕ} {On : Type 0} → FreeNo s r → r ≢ 0 → Judging s (A.No r) s (Freely s (A.No r) s On)
+no-free F d = away F d refl refl
+
+-- no poll is in hand: the words are those of the parts
+settled : {s : QueueWords} → Sound s × AtRest s → holding nobody 0 s ≡ s
+settled {s} F = λ i. holding (sym (F .1) i) (sym (F .0 .no-now (F .1)) i) s
+
+pub parted : {s : QueueWords} → Sound s × AtRest s → Sound (holding nobody 0 s)
+parted F = subst Sound (sym (settled F)) (F .0)
+
+taken-free : {s s′ : QueueWords} {a : Answer} (On : QueueWords → Type 0) → Sound s × AtRest s → On (holding nobody 0 s)
+    → Judging s a s′ (Freely s a s′ (On s))
+taken-free On F x =
+    record {
+      bad = λ f. absurd (f (F .0));
+      good = λ S. record { held = λ d. absurd (d (F .1)); free = λ _. subst On (settled F) x };
+    }
+
+pub taken-insert : {s s′ : QueueWords} {a : Answer} {value when period : ℕ} → Sound s × AtRest s
+    → InsertOn (holding nobody 0 s) value when period a s′ → InsertClaim s value when period a s′
+taken-insert {s′ = s′} {a} {value} {when} {period} F x = taken-free (λ s. InsertOn s value when period a s′) F x
+
+pub taken-reset : {s s′ : QueueWords} {a : Answer} {key when : ℕ} → Sound s × AtRest s → ResetOn (holding nobody 0 s) key when a s′
+    → ResetClaim s key when a s′
+taken-reset {s′ = s′} {a} {key} {when} F x = taken-free (λ s. ResetOn s key when a s′) F x
+
+pub taken-remove : {s s′ : QueueWords} {a : Answer} {key : ℕ} → Sound s × AtRest s → RemoveOn (holding nobody 0 s) key a s′ → RemoveClaim s key a s′
+taken-remove {s′ = s′} {a} {key} F x = taken-free (λ s. RemoveOn s key a s′) F x
+
+pub taken-alone : {s : QueueWords} {a : Answer} {On : Type 0} → Sound s × AtRest s → On → Judging s a s (Freely s a s On)
+taken-alone F x = record { bad = λ f. absurd (f (F .0)); good = λ S. record { held = λ d. absurd (d (F .1)); free = λ _. x } }
+
+-- a whole poll is one with a limit past all heights
+pub whole-claim : {s s′ : QueueWords} {now : ℕ} {a : Answer} → PollSomeClaim s now (2 ^ 64 - 1) a s′ → PollClaim s now a s′
+whole-claim P = record { bad = P .bad; good = λ S. polls-whole S (omega arith) (P .good S) }
+
 -- ---- next wake and length
 
-pub not-passed : {s : QueueWords} → Sound s → NotPassed (elapsed s) (s .wheel .occupied)
-not-passed S = between-passed (rule-between (S .rule)) (S .standing .whole .rows)
+pub not-passed : {s : QueueWords} → Sound s × AtRest s → NotPassed (elapsed s) (s .wheel .occupied)
+not-passed F = between-passed (rule-between (F .0 .rule .free (F .1))) (F .0 .standing .whole .rows)
 
 -- the words of a sound store are those of its view
 shows : {s : QueueWords} → Sound s → Shows (elapsed s) (s .wheel .occupied) (s .wheel .stack .stacks .expired) (view s)

@@ -100,7 +100,7 @@ module _ (s : QueueWords) {n turn : ℕ} (F : Fits (slices s) n) (T : InRange tu
 
   abbrev new : QueueWords
   new = queueWords (wheelWords 0 (replicate 6 0) made) (over (2 * n) (λ i. 0) (s .values)) (over n (λ i. 0) (s .deadlines))
-      (over n (λ i. turn) (s .turns))
+      (over n (λ i. turn) (s .turns)) nobody 0
 
   small : n ≤ nobody
   small = omega arith
@@ -154,14 +154,18 @@ module _ (s : QueueWords) {n turn : ℕ} (F : Fits (slices s) n) (T : InRange tu
           retired = λ i h d z. absurd (omega (arith, all-free i (omega (arith, sized))));
         };
         rule = record {
-          wheel = λ p x h m. absurd (nobody-in p x (omega arith) m);
-          stack = λ x m. absurd (nobody-in expired x (omega arith) m);
+          free = λ _. record {
+            wheel = λ p x h m. absurd (nobody-in p x (omega arith) m);
+            stack = λ x m. absurd (nobody-in expired x (omega arith) m);
+          };
+          inside = λ d. absurd (d refl);
         };
+        no-now = λ _. refl;
       }
 
   pub formats : {s′ : QueueWords} → Makes n turn (slices s) s′ → {a : Answer} → a ≡ A.Done → Formatted s n turn a s′
   formats {s′} M {a} e =
-      let q : s′ ≡ new = λ i. queueWords (M .wheel i) (M .values i) (M .deadlines i) (M .turns i) in
+      let q : s′ ≡ new = λ i. queueWords (M .wheel i) (M .values i) (M .deadlines i) (M .turns i) (M .hand i) (M .until i) in
       rw q (record {
         told = ap told e;
         sound = new-sound;

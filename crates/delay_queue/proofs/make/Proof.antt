@@ -1,6 +1,6 @@
 -- `make` meets its contract: the lists by `stack::format`, the rest word by word.
 use borrow.Author.Needs.{needs}
-use mathlib.Core.Path.{ap}
+use mathlib.Core.Path.{refl, ap}
 use lib.ListN.{replicate}
 use Rattle.wheel.specs.Words.{wheelWords}
 use Rattle.delay_queue.proofs.make.Statement.{statement}
@@ -61,6 +61,8 @@ returns c =
       values = at-fill .fill .ensures;
       deadlines = at-fill2 .fill2 .ensures;
       turns = c .before .before .fill3 .ensures;
+      hand = refl;
+      until = refl;
     }
 
 pub make-spec : {M : Type 1} → statement M

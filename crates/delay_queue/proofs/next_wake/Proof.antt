@@ -1,28 +1,28 @@
 -- `next_wake` meets its claim: the judge's answer decides, and on a sound store it is what `queue::next_wake` answers.
 use borrow.Author.Needs.{needs}
-use Rattle.delay_queue.proofs.laws.Back.{no-answer, is-sound, taken-up, not-passed, wake-done}
+use Rattle.delay_queue.proofs.laws.Back.{no-free, taken-alone, not-passed, wake-done}
 use Rattle.delay_queue.proofs.next_wake.Statement.{statement}
 use Rattle.delay_queue.proofs.next_wake.Tie as tie
 
 abbrev to-else1 : tie.After-rows2 → tie.Else1
 to-else1 c = c .before .before .before
 
-is-sound-requires : tie.Need-is-sound-requires
-is-sound-requires c κs = search needs
+free-no-requires : tie.Need-free-no-requires
+free-no-requires c κs = search needs
 
 returns : tie.Need-returns
-returns c = no-answer (c .before .is-sound .ensures) (c .if1 .taken)
+returns c = no-free (c .before .free-no .ensures) (c .if1 .taken)
 
 next-wake-requires : tie.Need-next-wake-requires
 next-wake-requires c κs =
     let else1 = to-else1 c in
-    not-passed (is-sound (else1 .before .is-sound .ensures) (else1 .if1 .left))
+    not-passed (else1 .before .free-no .ensures .taken (else1 .if1 .left))
 
 returns-2 : tie.Need-returns-2
 returns-2 c =
     let else1 = to-else1 (c .before) in
-    let S = is-sound (else1 .before .is-sound .ensures) (else1 .if1 .left) in
-    taken-up S (wake-done S (c .next-wake .ensures))
+    let F = else1 .before .free-no .ensures .taken (else1 .if1 .left) in
+    taken-alone F (wake-done (F .0) (c .next-wake .ensures))
 
 pub next-wake-spec : {M : Type 1} → statement M
-next-wake-spec = tie.close (tie.spec is-sound-requires returns next-wake-requires returns-2)
+next-wake-spec = tie.close (tie.spec free-no-requires returns next-wake-requires returns-2)

@@ -1,7 +1,7 @@
 -- `remove` meets its claim: the judge's answer decides, and on a sound store it is what `queue::remove` does.
 use borrow.Author.Needs.{needs}
 use Rattle.queue.specs.Calls.{RemoveOn}
-use Rattle.delay_queue.proofs.laws.Back.{back, turned-down, is-sound, taken-up}
+use Rattle.delay_queue.proofs.laws.Back.{back, turned-away, parted, taken-remove}
 use Rattle.delay_queue.proofs.remove.Statement.{statement}
 use Rattle.delay_queue.proofs.remove.Tie as tie
 
@@ -17,8 +17,8 @@ to-remove c =
     let b = a .before .before .before .before in
     b .before
 
-is-sound-requires : tie.Need-is-sound-requires
-is-sound-requires c κs = search needs
+free-no-requires : tie.Need-free-no-requires
+free-no-requires c κs = search needs
 
 refused-requires : tie.Need-refused-requires
 refused-requires c κs = search needs
@@ -37,12 +37,12 @@ same-length-4 c = search needs
 
 returns : tie.Need-returns
 returns c =
-    turned-down _ _ _ _ _ _ (c .before .before .is-sound .ensures) (c .before .if1 .taken) (c .refused .ensures)
+    turned-away _ _ _ _ _ _ (c .before .before .free-no .ensures) (c .before .if1 .taken) (c .refused .ensures)
 
 remove-requires : tie.Need-remove-requires
 remove-requires c κs =
     let else1 = to-else1 c in
-    is-sound (else1 .before .is-sound .ensures) (else1 .if1 .left)
+    parted (else1 .before .free-no .ensures .taken (else1 .if1 .left))
 
 packed-requires : tie.Need-packed-requires
 packed-requires c κs = search needs
@@ -63,14 +63,14 @@ returns-2 : tie.Need-returns-2
 returns-2 c =
     let at-remove = to-remove c in
     let else1 = to-else1 (at-remove .before) in
-    taken-up (is-sound (else1 .before .is-sound .ensures) (else1 .if1 .left))
+    taken-remove (else1 .before .free-no .ensures .taken (else1 .if1 .left))
     (back _ _ _ _ _ _ (c .packed .ensures) (RemoveOn _ _) (at-remove .remove .ensures))
 
 pub remove-spec : {M : Type 1} → statement M
 remove-spec =
     tie.close
     (tie.spec
-    is-sound-requires
+    free-no-requires
     refused-requires
     same-length
     same-length-2

@@ -1,7 +1,7 @@
 -- `reset` meets its claim: the judge's answer decides, and on a sound store it is what `queue::reset` does.
 use borrow.Author.Needs.{needs}
 use Rattle.queue.specs.Calls.{ResetOn}
-use Rattle.delay_queue.proofs.laws.Back.{back, turned-down, is-sound, taken-up}
+use Rattle.delay_queue.proofs.laws.Back.{back, turned-away, parted, taken-reset}
 use Rattle.delay_queue.proofs.reset.Statement.{statement}
 use Rattle.delay_queue.proofs.reset.Tie as tie
 
@@ -17,8 +17,8 @@ to-reset c =
     let b = a .before .before .before .before in
     b .before
 
-is-sound-requires : tie.Need-is-sound-requires
-is-sound-requires c κs = search needs
+free-no-requires : tie.Need-free-no-requires
+free-no-requires c κs = search needs
 
 refused-requires : tie.Need-refused-requires
 refused-requires c κs = search needs
@@ -37,12 +37,12 @@ same-length-4 c = search needs
 
 returns : tie.Need-returns
 returns c =
-    turned-down _ _ _ _ _ _ (c .before .before .is-sound .ensures) (c .before .if1 .taken) (c .refused .ensures)
+    turned-away _ _ _ _ _ _ (c .before .before .free-no .ensures) (c .before .if1 .taken) (c .refused .ensures)
 
 reset-requires : tie.Need-reset-requires
 reset-requires c κs =
     let else1 = to-else1 c in
-    is-sound (else1 .before .is-sound .ensures) (else1 .if1 .left)
+    parted (else1 .before .free-no .ensures .taken (else1 .if1 .left))
 
 packed-requires : tie.Need-packed-requires
 packed-requires c κs = search needs
@@ -63,14 +63,14 @@ returns-2 : tie.Need-returns-2
 returns-2 c =
     let at-reset = to-reset c in
     let else1 = to-else1 (at-reset .before) in
-    taken-up (is-sound (else1 .before .is-sound .ensures) (else1 .if1 .left))
+    taken-reset (else1 .before .free-no .ensures .taken (else1 .if1 .left))
     (back _ _ _ _ _ _ (c .packed .ensures) (ResetOn _ _ _) (at-reset .reset .ensures))
 
 pub reset-spec : {M : Type 1} → statement M
 reset-spec =
     tie.close
     (tie.spec
-    is-sound-requires
+    free-no-requires
     refused-requires
     same-length
     same-length-2

@@ -56,6 +56,7 @@ pub data StepIs (e : Entry) (l : List ℕ) : Next → Type 0 where
   reset : e .kind ≡ 3 → StepIs e l (X.One (S.Asks (C.Reset (e .a) (e .b))))
   remove : e .kind ≡ 4 → StepIs e l (X.One (S.Asks (C.Remove (e .a))))
   poll : e .kind ≡ 5 → StepIs e l (X.One (S.Asks (C.Poll (e .a))))
+  poll-some : e .kind ≡ 11 → StepIs e l (X.One (S.Asks (C.PollSome (e .a) (e .b))))
   clear : e .kind ≡ 6 → StepIs e l (X.One (S.Asks C.Clear))
   opens : e .kind ≡ 7 → StepIs e l (X.One S.Open)
   closes : e .kind ≡ 8 → StepIs e l (X.One S.Close)
@@ -109,7 +110,9 @@ module _ (e : Entry) (l : List ℕ) where
       by-cases (ℕ-discrete (e .kind) 8) (λ k. this (step-kind e l 8 k) (closes k))
       (λ k₈.
       by-cases (ℕ-discrete (e .kind) 9) nine
-      (λ k₉. this (no-step e l k₁ k₂ k₃ k₄ k₅ k₆ k₇ k₈ k₉) (broken pair-damage))))))))))
+      (λ k₉.
+      by-cases (ℕ-discrete (e .kind) 11) (λ k. this (step-kind e l 11 k) (poll-some k))
+      (λ k₁₁. this (no-step e l k₁ k₂ k₃ k₄ k₅ k₆ k₇ k₈ k₉ k₁₁) (broken pair-damage)))))))))))
 
 -- ---- what bytes begin with
 
@@ -144,6 +147,7 @@ step-size e l (insert k) = inl (λ g. omega arith, entry-length 2 (e .a) (e .b))
 step-size e l (reset k) = inl (λ g. omega arith, entry-length 3 (e .a) (e .b))
 step-size e l (remove k) = inl (λ g. omega arith, entry-length 4 (e .a) 0)
 step-size e l (poll k) = inl (λ g. omega arith, entry-length 5 (e .a) 0)
+step-size e l (poll-some k) = inl (λ g. omega arith, entry-length 11 (e .a) (e .b))
 step-size e l (clear k) = inl (λ g. omega arith, entry-length 6 0 0)
 step-size e l (opens k) = inl (λ g. omega arith, entry-length 7 0 0)
 step-size e l (closes k) = inl (λ g. omega arith, entry-length 8 0 0)

@@ -16,7 +16,7 @@ use Rattle.entries.specs.declared.Entry.{Entry}
 use Rattle.entries.specs.Entries.{bytesOf, entry, insertBytes, stepBytes, Fits64, Fit}
 use Rattle.entries.specs.Reading.{Bytes, worth, wordAt, entryIn, bare, fieldZeros, zeros, next}
 use Rattle.entries.proofs.laws.Writing.{entry-length}
-use Rattle.entries.proofs.laws.Inverse.{StepIs, format, insert, reset, remove, poll, clear, opens, closes, pair, NextIs, whole, next-is}
+use Rattle.entries.proofs.laws.Inverse.{StepIs, format, insert, reset, remove, poll, poll-some, clear, opens, closes, pair, NextIs, whole, next-is}
 use Rattle.entries.proofs.laws.Bytes.{bytes-forth, bytes-small, bytes-take, bytes-drop}
 
 -- ---- an entry
@@ -110,6 +110,7 @@ module _ (l : List ℕ) (h : Bytes l) where
       by (reset k) = (single l 3 (e .a) (e .b) t k refl refl, f)
       by (remove k) = (single l 4 (e .a) 0 t k refl (eqb-true (e .b) 0 (of-kind e 4 k (v .1))), f .0)
       by (poll k) = (single l 5 (e .a) 0 t k refl (eqb-true (e .b) 0 (of-kind e 5 k (v .1))), f .0)
+      by (poll-some k) = (single l 11 (e .a) (e .b) t k refl refl, f)
       by (clear k) = let b = bare-inv (e .a) (e .b) (of-kind e 6 k (v .1)) in (single l 6 0 0 t k (b .0) (b .1), tt)
       by (opens k) = let b = bare-inv (e .a) (e .b) (of-kind e 7 k (v .1)) in (single l 7 0 0 t k (b .0) (b .1), tt)
       by (closes k) = let b = bare-inv (e .a) (e .b) (of-kind e 8 k (v .1)) in (single l 8 0 0 t k (b .0) (b .1), tt)

@@ -94,18 +94,18 @@ module _ (e : Entry) (x : Next) where
   unfolding checked
   kind-low h = simp (le-ltb 0 (e .kind) (omega arith))
 
-  pub kind-high : 10 < e .kind → X.Ends E.Kind ≡ checked e x
+  pub kind-high : 11 < e .kind → X.Ends E.Kind ≡ checked e x
   unfolding checked
-  kind-high h = simp (lt-ltb 0 (e .kind) (omega arith), le-ltb (e .kind) 11 (omega arith))
+  kind-high h = simp (lt-ltb 0 (e .kind) (omega arith), le-ltb (e .kind) 12 (omega arith))
 
-  module _ (h : (e .kind ≡ 0 → ⊥)) (g : e .kind ≤ 10) where
+  module _ (h : (e .kind ≡ 0 → ⊥)) (g : e .kind ≤ 11) where
     pub zero-missed : zeros e ≡ false → X.Ends E.Zero ≡ checked e x
     unfolding checked
-    zero-missed z = simp (lt-ltb 0 (e .kind) (omega arith), lt-ltb (e .kind) 11 (omega arith), z)
+    zero-missed z = simp (lt-ltb 0 (e .kind) (omega arith), lt-ltb (e .kind) 12 (omega arith), z)
 
     pub no-damage : zeros e ≡ true → x ≡ checked e x
     unfolding checked
-    no-damage z = simp (lt-ltb 0 (e .kind) (omega arith), lt-ltb (e .kind) 11 (omega arith), z)
+    no-damage z = simp (lt-ltb 0 (e .kind) (omega arith), lt-ltb (e .kind) 12 (omega arith), z)
 
 -- ---- a pair
 
@@ -136,11 +136,22 @@ module _ (e : Entry) (l : List ℕ) (at : ℕ) where
 -- ---- a step
 
 pub no-step : (e : Entry) (l : List ℕ) → let k = e .kind in (k ≡ 1 → ⊥) → (k ≡ 2 → ⊥) → (k ≡ 3 → ⊥) → (k ≡ 4 → ⊥) → (k ≡ 5 → ⊥) → (k ≡ 6 → ⊥)
-    → (k ≡ 7 → ⊥) → (k ≡ 8 → ⊥) → (k ≡ 9 → ⊥) → X.Ends E.Pair ≡ stepOf e l
+    → (k ≡ 7 → ⊥) → (k ≡ 8 → ⊥) → (k ≡ 9 → ⊥) → (k ≡ 11 → ⊥) → X.Ends E.Pair ≡ stepOf e l
 unfolding stepOf
-no-step e l h₁ h₂ h₃ h₄ h₅ h₆ h₇ h₈ h₉ =
+no-step e l h₁ h₂ h₃ h₄ h₅ h₆ h₇ h₈ h₉ h₁₁ =
     let k = e .kind in
-    simp (ne-eqb k 1 h₁, ne-eqb k 2 h₂, ne-eqb k 3 h₃, ne-eqb k 4 h₄, ne-eqb k 5 h₅, ne-eqb k 6 h₆, ne-eqb k 7 h₇, ne-eqb k 8 h₈, ne-eqb k 9 h₉)
+    simp (
+      ne-eqb k 1 h₁,
+      ne-eqb k 2 h₂,
+      ne-eqb k 3 h₃,
+      ne-eqb k 4 h₄,
+      ne-eqb k 5 h₅,
+      ne-eqb k 6 h₆,
+      ne-eqb k 7 h₇,
+      ne-eqb k 8 h₈,
+      ne-eqb k 9 h₉,
+      ne-eqb k 11 h₁₁,
+    )
 
 -- by its kind
 pub step-kind : (e : Entry) (l : List ℕ) (k : ℕ) → e .kind ≡ k

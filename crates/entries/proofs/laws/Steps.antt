@@ -27,7 +27,7 @@ use Rattle.entries.proofs.laws.Bytes.{bytes-back}
 abbrev parts : ℕ → ℕ → ℕ → Entry
 parts k a b = record { kind = k; spare = 0; a = a; b = b }
 
-module _ (k a b : ℕ) (kind : (0 < k) × (k ≤ 10)) (fa : Fits64 a) (fb : Fits64 b) (l : List ℕ) where
+module _ (k a b : ℕ) (kind : (0 < k) × (k ≤ 11)) (fa : Fits64 a) (fb : Fits64 b) (l : List ℕ) where
   head-back : wordAt 2 0 (entry k a b ++ l) ≡ k * 4096
   unfolding wordAt entry digitsOf
   head-back = bytes-back 2 (k * 4096) (omega arith)
@@ -97,6 +97,7 @@ step-back (S.Asks (C.Insert value when (suc p))) l f h =
 step-back (S.Asks (C.Reset key when)) l f h = entry-next 3 key when (omega arith) (f .0) (f .1) l refl refl
 step-back (S.Asks (C.Remove key)) l f h = entry-next 4 key 0 (omega arith) f (omega arith) l refl refl
 step-back (S.Asks (C.Poll now)) l f h = entry-next 5 now 0 (omega arith) f (omega arith) l refl refl
+step-back (S.Asks (C.PollSome now limit)) l f h = entry-next 11 now limit (omega arith) (f .0) (f .1) l refl refl
 step-back (S.Asks C.Wake) l f h = absurd (omega arith)
 step-back (S.Asks C.Length) l f h = absurd (omega arith)
 step-back (S.Asks C.Clear) l f h = entry-next 6 0 0 (omega arith) (omega arith) (omega arith) l refl refl
@@ -138,6 +139,7 @@ step-cut (S.Asks (C.Insert value when (suc p))) k f h =
 step-cut (S.Asks (C.Reset key when)) k f h = single-cut _ k (entry-length 3 key when) h
 step-cut (S.Asks (C.Remove key)) k f h = single-cut _ k (entry-length 4 key 0) h
 step-cut (S.Asks (C.Poll now)) k f h = single-cut _ k (entry-length 5 now 0) h
+step-cut (S.Asks (C.PollSome now limit)) k f h = single-cut _ k (entry-length 11 now limit) h
 step-cut (S.Asks C.Wake) k f h = absurd (omega arith)
 step-cut (S.Asks C.Length) k f h = absurd (omega arith)
 step-cut (S.Asks C.Clear) k f h = single-cut _ k (entry-length 6 0 0) h

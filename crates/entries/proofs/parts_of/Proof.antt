@@ -26,6 +26,9 @@ enum-known-call-4 c = search needs
 enum-known-call-5 : tie.Need-enum-known-call-5
 enum-known-call-5 c = search needs
 
+enum-known-call-6 : tie.Need-enum-known-call-6
+enum-known-call-6 c = search needs
+
 enum-told : tie.Need-enum-told
 enum-told c = search needs
 
@@ -57,7 +60,7 @@ returns-5 : tie.Need-returns-5
 returns-5 c = asked-bytes (c .before .before .before .before .step .given .1) (c .before .call5 .given .1)
 
 returns-6 : tie.Need-returns-6
-returns-6 c = search needs
+returns-6 c = asked-bytes (c .before .before .before .before .step .given .1) (c .before .call6 .given .1)
 
 returns-7 : tie.Need-returns-7
 returns-7 c = search needs
@@ -71,6 +74,9 @@ returns-9 c = search needs
 returns-10 : tie.Need-returns-10
 returns-10 c = search needs
 
+returns-11 : tie.Need-returns-11
+returns-11 c = search needs
+
 pub parts-of-spec : {M : Type 1} → statement M
 parts-of-spec =
     tie.close
@@ -82,6 +88,7 @@ parts-of-spec =
     enum-known-call-3
     enum-known-call-4
     enum-known-call-5
+    enum-known-call-6
     enum-told
     enum-told-2
     enum-told-3
@@ -96,4 +103,5 @@ parts-of-spec =
     returns-7
     returns-8
     returns-9
-    returns-10)
+    returns-10
+    returns-11)

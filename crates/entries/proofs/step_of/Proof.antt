@@ -45,10 +45,15 @@ returns-9 : tie.Need-returns-9
 returns-9 c = c .repeats .ensures ∙ step-nine _ _ (c .before .match .keys9)
 
 returns-10 : tie.Need-returns-10
-returns-10 c =
-    let h = c .match .rest in
+unfolding stepOf
+returns-10 c = step-kind _ _ 11 (c .match .keys10)
+
+returns-11 : tie.Need-returns-11
+returns-11 c =
+    let m = c .match .rest in
+    let h = m .0 in
     let g = h .0 .0 .0 .0 in
-    no-step _ _ (g .0 .0 .0 .0 .1) (g .0 .0 .0 .1) (g .0 .0 .1) (g .0 .1) (g .1) (h .0 .0 .0 .1) (h .0 .0 .1) (h .0 .1) (h .1)
+    no-step _ _ (g .0 .0 .0 .0 .1) (g .0 .0 .0 .1) (g .0 .0 .1) (g .0 .1) (g .1) (h .0 .0 .0 .1) (h .0 .0 .1) (h .0 .1) (h .1) (m .1)
 
 pub step-of-spec : {M : Type 1} → statement M
 step-of-spec =
@@ -64,4 +69,5 @@ step-of-spec =
     returns-7
     returns-8
     returns-9
-    returns-10)
+    returns-10
+    returns-11)

@@ -12,9 +12,9 @@ use Rattle.feed.proofs.answer_lines.Statement.{statement}
 use Rattle.feed.proofs.answer_lines.Tie as tie
 
 abbrev Inv-loop : tie.InvT-loop
-Inv-loop got from line₀ n values₀ deadlines₀ nexts₀ prevs₀ turns₀ marks₀ out₀ i₀ k₀ end₀ after₀ left₀ line values deadlines nexts prevs turns
+Inv-loop limits got from line₀ n values₀ deadlines₀ nexts₀ prevs₀ turns₀ marks₀ out₀ i₀ k₀ end₀ after₀ left₀ line values deadlines nexts prevs turns
     marks out i k end after left =
-    Reaches got (stand from line₀ n (words after₀ (left₀ .rows) values₀ deadlines₀ nexts₀ prevs₀ turns₀ marks₀) out₀ 0)
+    Reaches limits got (stand from line₀ n (words after₀ (left₀ .rows) values₀ deadlines₀ nexts₀ prevs₀ turns₀ marks₀) out₀ 0)
     (stand i line k (words after (left .rows) values deadlines nexts prevs turns marks) out end)
     × (length line ≡ length line₀)
     × (length values ≡ length values₀)
@@ -26,7 +26,7 @@ Inv-loop got from line₀ n values₀ deadlines₀ nexts₀ prevs₀ turns₀ ma
     × (length out ≡ length out₀)
 
 abbrev μ-loop : tie.MeasureT-loop
-μ-loop got from line₀ n values₀ deadlines₀ nexts₀ prevs₀ turns₀ marks₀ out₀ i₀ k₀ end₀ after₀ left₀ line values deadlines nexts prevs turns
+μ-loop limits got from line₀ n values₀ deadlines₀ nexts₀ prevs₀ turns₀ marks₀ out₀ i₀ k₀ end₀ after₀ left₀ line values deadlines nexts prevs turns
     marks out i k end after left =
     length got - i
 
@@ -66,7 +66,7 @@ loop-again c =
     let at-then = to-then at-turn in
     let I = at-then .before .before .loop .inv in
     let g = at-then .before .goes .ensures .yes (at-then .if1 .taken) in
-    let lengths = at-turn .turn .kept in
+    let lengths = at-turn .turn .kept .1 in
     let six = lengths .1 .1 .1 .1 .1 .1 in (
       reaches-more (I .0) g (at-turn .turn .ensures),
       lengths .1 .1 .0 ∙ I .1,

@@ -11,12 +11,11 @@ use Rattle.queue.specs.declared.Answer.{Answer}
 use Rattle.records.specs.Words.{QueueWords}
 use Rattle.promises.proofs.laws.OneCall.{call-once}
 use Rattle.asking.specs.declared.Line.{Line}
-use Rattle.asking.specs.declared.Line.the-variants as L
-use Rattle.asking.specs.Text.{Says, ReadClaim}
-use Rattle.asking.proofs.laws.Finding.{as-read}
 use Rattle.answering.specs.Text.{Written, word, shown, ending}
 use Rattle.answering.proofs.laws.Answering.{one-written}
 use Rattle.bench.specs.Line.{LineClaim}
+use Rattle.bench.specs.Parts.{Heard, asks, bad}
+use Rattle.bench.proofs.laws.Hearing.{as-heard}
 use Rattle.bench.proofs.laws.Once.{same-store, line-once}
 use Rattle.lines.proofs.laws.Once.{take-once}
 use Rattle.lines.specs.Taking.{TakeClaim}
@@ -29,11 +28,11 @@ same-stand : {i j k l : ℕ} {p q : List ℕ} {w x : QueueWords} {o r : List ℕ
     → stand i p k w o d ≡ stand j q l x r e
 same-stand a b c d e f = λ i. stand (a i) (b i) (c i) (d i) (e i) (f i)
 
-turn-once : {got : List ℕ} {a b c : Stand} → Turn got a b → Turn got a c → b ≡ c
-turn-once {a = a} (answered {i = i} {k = k} {l = l} {w = w} {o = o} {e = e} T C) (answered {k = k′} {l = l′} U D) =
+turn-once : {limits : Bool} {got : List ℕ} {a b c : Stand} → Turn limits got a b → Turn limits got a c → b ≡ c
+turn-once {limits = limits} {a = a} (answered {i = i} {k = k} {l = l} {w = w} {o = o} {e = e} T C) (answered {k = k′} {l = l′} U D) =
     let t = take-once true true T U in
-    let E : LineClaim (take k′ l′) (a .store) (a .out) (a .at) w o e =
-    subst (λ (x : List ℕ). LineClaim x (a .store) (a .out) (a .at) w o e) (ap₂ (λ (x : ℕ) (y : List ℕ). take x y) (t .1) (t .3)) C
+    let E : LineClaim limits (take k′ l′) (a .store) (a .out) (a .at) w o e =
+    subst (λ (x : List ℕ). LineClaim limits x (a .store) (a .out) (a .at) w o e) (ap₂ (λ (x : ℕ) (y : List ℕ). take x y) (t .1) (t .3)) C
     in
     let r = line-once E D in
     same-stand (t .0) (t .3) refl (r .0) (r .2) (r .1)
@@ -42,18 +41,19 @@ turn-once (goes-on T) (answered U C) = absurd (false≢true (take-once false tru
 turn-once (goes-on T) (goes-on U) = let t = take-once false false T U in same-stand (t .0) (t .3) (t .1) refl refl refl
 
 -- two outcomes that both keep the claim are the same
-pub feed-once : {got : List ℕ} {a b c : Stand} → FeedClaim got a b → FeedClaim got a c → b ≡ c
+pub feed-once : {limits : Bool} {got : List ℕ} {a b c : Stand} → FeedClaim limits got a b → FeedClaim limits got a c → b ≡ c
 feed-once (stops h) (stops k) = refl
 feed-once (stops h) (turns g t f) = absurd (h g)
 feed-once (turns g t f) (stops h) = absurd (h g)
-feed-once {got} {c = c} (turns g t f) (turns {b = b} k u e) =
-    feed-once f (subst (λ (x : Stand). FeedClaim got x c) (sym (turn-once t u)) e)
+feed-once {limits} {got} {c = c} (turns g t f) (turns {b = b} k u e) =
+    feed-once f (subst (λ (x : Stand). FeedClaim limits got x c) (sym (turn-once t u)) e)
 
 -- ---- `answer_last`
 
-pub last-once : {l o o′ o″ : List ℕ} {w w′ w″ : QueueWords} {end end″ : ℕ} → LastClaim l w o w′ o′ end → LastClaim l w o w″ o″ end″
+pub last-once : {limits : Bool} {l o o′ o″ : List ℕ} {w w′ w″ : QueueWords} {end end″ : ℕ} → LastClaim limits l w o w′ o′ end
+    → LastClaim limits l w o w″ o″ end″
     → (w′ ≡ w″) × (end ≡ end″) × (o′ ≡ o″)
-last-once {l} a b =
+last-once {l = l} a b =
     by-cases (decLt 0 (length l)) (λ h. line-once (a .some h) (b .some h))
     (λ h.
     let x = a .none (omega arith) in
@@ -62,31 +62,31 @@ last-once {l} a b =
 
 -- ---- answers to lines
 
-read-reply : {l : List ℕ} {w w′ w″ : QueueWords} {t u : List ℕ} (r : Line) → ReadClaim l r → Reply l w t w′ → Reply l w u w″
+heard-reply : {limits : Bool} {l : List ℕ} {w w′ w″ : QueueWords} {t u : List ℕ} (r : Line) → Heard limits l r → Reply limits l w t w′
+    → Reply limits l w u w″
     → (t ≡ u) × (w′ ≡ w″)
-read-reply {l} {w} {w′} {w″} {t} {u} (L.Asks c) R a b =
-    let s : Says l c = R .asks c .0 refl in
-    let x = a .asks c s in
-    let y = b .asks c s in
+heard-reply {w = w} {w′ = w′} {w″ = w″} {t = t} r (asks {c = c} h) a b =
+    let x = a .asks c h in
+    let y = b .asks c h in
     let e = call-once c w (x .answer) (y .answer) w′ w″ (x .done) (y .done) in
     let z : Written (word (y .answer)) (shown (y .answer)) (ending (y .answer)) t =
     subst (λ (q : Answer). Written (word q) (shown q) (ending q) t) (e .0) (x .written)
     in
     (one-written z (y .written), e .1)
-read-reply L.Bad R a b =
-    let n = R .bad .0 refl in
-    (one-written (a .bad n .1) (b .bad n .1), a .bad n .0 ∙ sym (b .bad n .0))
+heard-reply r (bad n) a b = (one-written (a .bad n .1) (b .bad n .1), a .bad n .0 ∙ sym (b .bad n .0))
 
-reply-once : {l : List ℕ} {w w′ w″ : QueueWords} {t u : List ℕ} → Reply l w t w′ → Reply l w u w″ → (t ≡ u) × (w′ ≡ w″)
-reply-once {l} {w′ = w′} {w″ = w″} {t = t} {u = u} a b = (
-  as-read l (List-discrete ℕ-discrete t u) (λ r R. read-reply r R a b .0),
-  same-store w′ w″ (λ P d f. as-read l d (λ r R. f (read-reply r R a b .1))),
+reply-once : {limits : Bool} {l : List ℕ} {w w′ w″ : QueueWords} {t u : List ℕ} → Reply limits l w t w′ → Reply limits l w u w″
+    → (t ≡ u) × (w′ ≡ w″)
+reply-once {limits} {l} {w′ = w′} {w″ = w″} {t = t} {u = u} a b = (
+  as-heard limits l (List-discrete ℕ-discrete t u) (λ r H. heard-reply r H a b .0),
+  same-store w′ w″ (λ P d f. as-heard limits l d (λ r H. f (heard-reply r H a b .1))),
 )
 
 -- what is written to an input's lines, and what is left of the store
-pub replies-once : {ls : List (List ℕ)} {w w′ w″ : QueueWords} {t u : List ℕ} → Replies ls w t w′ → Replies ls w u w″ → (t ≡ u) × (w′ ≡ w″)
+pub replies-once : {limits : Bool} {ls : List (List ℕ)} {w w′ w″ : QueueWords} {t u : List ℕ} → Replies limits ls w t w′ → Replies limits ls w u w″
+    → (t ≡ u) × (w′ ≡ w″)
 replies-once none none = (refl, refl)
-replies-once {w″ = w″} (reply {ls = ls} x a) (reply {u = v} y b) =
+replies-once {limits = limits} {w″ = w″} (reply {ls = ls} x a) (reply {u = v} y b) =
     let e = reply-once x y in
-    let f = replies-once a (subst (λ (q : QueueWords). Replies ls q v w″) (sym (e .1)) b) in
+    let f = replies-once a (subst (λ (q : QueueWords). Replies limits ls q v w″) (sym (e .1)) b) in
     (ap₂ (λ (p q : List ℕ). p ++ q) (e .0) (f .0), f .1)

@@ -8,7 +8,7 @@ use native.Mathlib.Omega.{arith}
 use lib.ListN.{length, take, drop, drop-of-length-le}
 use lib.Seq.{take-all}
 use Rattle.records.specs.Words.{QueueWords}
-use Rattle.asking.specs.Text.{Says}
+use Rattle.bench.specs.Line.{Asks}
 use Rattle.lines.specs.Lines.{linesFrom, linesOf, firsts, last, joined}
 use Rattle.lines.specs.Running.{Along, none as no-line, more, Passes, Closes, Ran}
 use Rattle.lines.proofs.laws.Lines.{whole-line, input-ends}
@@ -21,39 +21,40 @@ use Rattle.feed.proofs.laws.Wrote.{between, replied, reply-whole, reply
 
 -- ---- step behind step
 
-pub replies-more : {ls ms : List (List ℕ)} {s s₁ s′ : QueueWords} {t u : List ℕ} → Replies ls s t s₁ → Replies ms s₁ u s′
-    → Replies (ls ++ ms) s (t ++ u) s′
+pub replies-more : {limits : Bool} {ls ms : List (List ℕ)} {s s₁ s′ : QueueWords} {t u : List ℕ} → Replies limits ls s t s₁ → Replies limits ms s₁ u s′
+    → Replies limits (ls ++ ms) s (t ++ u) s′
 replies-more none b = b
-replies-more {ms = ms} {s = s} {s′ = s′} {u = u} (reply {l = l} {ls = ls} {t = t} {u = v} x a) b =
-    subst (λ (y : List ℕ). Replies (l ∷ ls ++ ms) s y s′) (sym (append-assoc t v u)) (reply x (replies-more a b))
+replies-more {limits = limits} {ms = ms} {s = s} {s′ = s′} {u = u} (reply {l = l} {ls = ls} {t = t} {u = v} x a) b =
+    subst (λ (y : List ℕ). Replies limits (l ∷ ls ++ ms) s y s′) (sym (append-assoc t v u)) (reply x (replies-more a b))
 
-one-reply : {l : List ℕ} {s s′ : QueueWords} {t : List ℕ} → Reply l s t s′ → Replies (l ∷ []) s t s′
-one-reply {l} {s} {s′} {t} x = subst (λ (y : List ℕ). Replies (l ∷ []) s y s′) (append-nil t) (reply x none)
+one-reply : {limits : Bool} {l : List ℕ} {s s′ : QueueWords} {t : List ℕ} → Reply limits l s t s′ → Replies limits (l ∷ []) s t s′
+one-reply {limits} {l} {s} {s′} {t} x = subst (λ (y : List ℕ). Replies limits (l ∷ []) s y s′) (append-nil t) (reply x none)
 
-feeds-none : {m : ℕ} {k s : List ℕ} {w : QueueWords} → Feeds m k s w [] k s w
+feeds-none : {limits : Bool} {m : ℕ} {k s : List ℕ} {w : QueueWords} → Feeds limits m k s w [] k s w
 feeds-none = record { lines = []; passed = passed-none; replies = none }
 
-feeds-more : {m : ℕ} {k s k₁ s₁ k₂ s₂ : List ℕ} {w w₁ w₂ : QueueWords} {t u : List ℕ} → Feeds m k s w t k₁ s₁ w₁ → Feeds m k₁ s₁ w₁ u k₂ s₂ w₂
-    → Feeds m k s w (t ++ u) k₂ s₂ w₂
+feeds-more : {limits : Bool} {m : ℕ} {k s k₁ s₁ k₂ s₂ : List ℕ} {w w₁ w₂ : QueueWords} {t u : List ℕ} → Feeds limits m k s w t k₁ s₁ w₁
+    → Feeds limits m k₁ s₁ w₁ u k₂ s₂ w₂
+    → Feeds limits m k s w (t ++ u) k₂ s₂ w₂
 feeds-more a b =
     record { lines = a .lines ++ b .lines; passed = passed-more (a .passed) (b .passed); replies = replies-more (a .replies) (b .replies) }
 
 -- ---- a call of `answer_lines`
 
 -- from a to b the lines that ended were answered with text, which stands in the output behind what stood there
-pub record Answers (m : ℕ) (got : List ℕ) (a b : Stand) : Type 0 where
+pub record Answers (limits : Bool) (m : ℕ) (got : List ℕ) (a b : Stand) : Type 0 where
   pub text : List ℕ
-  pub feeds : Feeds m (take (a .kept) (a .line)) (drop (a .next) got) (a .store) text (take (b .kept) (b .line)) (drop (b .next) got) (b .store)
+  pub feeds : Feeds limits m (take (a .kept) (a .line)) (drop (a .next) got) (a .store) text (take (b .kept) (b .line)) (drop (b .next) got) (b .store)
   pub written : take (b .at) (b .out) ≡ take (a .at) (a .out) ++ text
 
 -- one turn answers one line at most
-record TurnTells (got : List ℕ) (a b : Stand) : Type 0 where
-  answers : Answers (length (a .line)) got a b
+record TurnTells (limits : Bool) (got : List ℕ) (a b : Stand) : Type 0 where
+  answers : Answers limits (length (a .line)) got a b
   size : length (b .line) ≡ length (a .line)
   one : length (answers .feeds .lines) ≤ 1
 
-module _ {got : List ℕ} where
-  turn-tells : {a b : Stand} → 0 < length (a .line) → a .at + answerRoom ≤ length (a .out) → Turn got a b → TurnTells got a b
+module _ {limits : Bool} {got : List ℕ} where
+  turn-tells : {a b : Stand} → 0 < length (a .line) → a .at + answerRoom ≤ length (a .out) → Turn limits got a b → TurnTells limits got a b
   turn-tells {a} some h (answered {k = k} {l = l} {o = o} {e = e} T C) =
       record {
         answers = record {
@@ -75,7 +76,7 @@ module _ {got : List ℕ} where
         one = omega arith;
       }
 
-  answers-more : {m : ℕ} {a b c : Stand} → Answers m got a b → Answers m got b c → Answers m got a c
+  answers-more : {m : ℕ} {a b c : Stand} → Answers limits m got a b → Answers limits m got b c → Answers limits m got a c
   answers-more {a = a} x y =
       record {
         text = x .text ++ y .text;
@@ -86,20 +87,20 @@ module _ {got : List ℕ} where
       }
 
   -- no line is passed over, and none is answered twice
-  pub feed-answers : {a b : Stand} → 0 < length (a .line) → FeedClaim got a b → Answers (length (a .line)) got a b
+  pub feed-answers : {a b : Stand} → 0 < length (a .line) → FeedClaim limits got a b → Answers limits (length (a .line)) got a b
   feed-answers {a} some (stops h) =
       record { text = []; feeds = feeds-none; written = sym (append-nil (take (a .at) (a .out))) }
   feed-answers {a} some (turns {b = b} {c = c} g t f) =
       let x = turn-tells some (g .1) t in
-      answers-more (x .answers) (subst (λ (m : ℕ). Answers m got b c) (x .size) (feed-answers (omega (arith, x .size)) f))
+      answers-more (x .answers) (subst (λ (m : ℕ). Answers limits m got b c) (x .size) (feed-answers (omega (arith, x .size)) f))
 
-  no-second : {a b : Stand} → a .at ≡ 0 → length (a .out) ≡ answerRoom → Goes got a → Turn got a b → Goes got b → ⊥
+  no-second : {a b : Stand} → a .at ≡ 0 → length (a .out) ≡ answerRoom → Goes got a → Turn limits got a b → Goes got b → ⊥
   no-second z r g (answered T C) k = omega (arith, reply-forth (g .1) C, reply-size (g .1) C, k .1)
   no-second z r g (goes-on T) k = omega (arith, T .unfinished refl .0, k .0)
 
   -- with room for one answer alone, no more than one line is answered
-  pub one-answer : {a b : Stand} → 0 < length (a .line) → a .at ≡ 0 → length (a .out) ≡ answerRoom → FeedClaim got a b
-      → (x : Answers (length (a .line)) got a b) × (length (x .feeds .lines) ≤ 1)
+  pub one-answer : {a b : Stand} → 0 < length (a .line) → a .at ≡ 0 → length (a .out) ≡ answerRoom → FeedClaim limits got a b
+      → (x : Answers limits (length (a .line)) got a b) × (length (x .feeds .lines) ≤ 1)
   one-answer {a} some z r (stops h) = (
     record {
       text = [];
@@ -113,56 +114,56 @@ module _ {got : List ℕ} where
 
 -- ---- calls, each of whose answers are written before the next
 
-replies-along : {ls : List (List ℕ)} {w w′ : QueueWords} {t : List ℕ} → Replies ls w t w′ → Along Answered ls w w′
+replies-along : {limits : Bool} {ls : List (List ℕ)} {w w′ : QueueWords} {t : List ℕ} → Replies limits ls w t w′ → Along (Answered limits) ls w w′
 replies-along none = no-line
 replies-along (reply {t = t} x a) = more (record { text = t; reply = x }) (replies-along a)
 
 -- a call more, from where the calls before it came to
-pub calls-more : {m : ℕ} {k s : List ℕ} {w : QueueWords} {got : List ℕ} {a b : Stand} → 0 < m → length (a .line) ≡ m
-    → Passes Answered m k s w (take (a .kept) (a .line)) (drop (a .next) got) (a .store) → FeedClaim got a b
-    → Passes Answered m k s w (take (b .kept) (b .line)) (drop (b .next) got) (b .store)
-calls-more {got = got} {a = a} {b = b} h e P F =
-    let x = subst (λ (m : ℕ). Answers m got a b) e (feed-answers (omega arith) F) in
+pub calls-more : {limits : Bool} {m : ℕ} {k s : List ℕ} {w : QueueWords} {got : List ℕ} {a b : Stand} → 0 < m → length (a .line) ≡ m
+    → Passes (Answered limits) m k s w (take (a .kept) (a .line)) (drop (a .next) got) (a .store) → FeedClaim limits got a b
+    → Passes (Answered limits) m k s w (take (b .kept) (b .line)) (drop (b .next) got) (b .store)
+calls-more {limits = limits} {got = got} {a = a} {b = b} h e P F =
+    let x = subst (λ (m : ℕ). Answers limits m got a b) e (feed-answers (omega arith) F) in
     passes-more P (record { lines = x .feeds .lines; passed = x .feeds .passed; along = replies-along (x .feeds .replies) })
 
 -- the chunk is used up
-pub calls-used : {m : ℕ} {k s k′ : List ℕ} {w w′ : QueueWords} (got : List ℕ) {i : ℕ} → length got ≤ i
-    → Passes Answered m k s w k′ (drop i got) w′
-    → Passes Answered m k s w k′ [] w′
-calls-used {m} {k} {s} {k′} {w} {w′} got h P =
-    subst (λ (x : List ℕ). Passes Answered m k s w k′ x w′) (drop-of-length-le got h) P
+pub calls-used : {limits : Bool} {m : ℕ} {k s k′ : List ℕ} {w w′ : QueueWords} (got : List ℕ) {i : ℕ} → length got ≤ i
+    → Passes (Answered limits) m k s w k′ (drop i got) w′
+    → Passes (Answered limits) m k s w k′ [] w′
+calls-used {limits} {m} {k} {s} {k′} {w} {w′} got h P =
+    subst (λ (x : List ℕ). Passes (Answered limits) m k s w k′ x w′) (drop-of-length-le got h) P
 
 -- a call at the front of the output: what stands there from its front to where the answers end is what the lines were answered with
-pub call-feeds : {got : List ℕ} {a b : Stand} → 0 < length (a .line) → a .at ≡ 0 → FeedClaim got a b
-    → Feeds (length (a .line)) (take (a .kept) (a .line)) (drop (a .next) got) (a .store) (take (b .at) (b .out)) (take (b .kept) (b .line))
+pub call-feeds : {limits : Bool} {got : List ℕ} {a b : Stand} → 0 < length (a .line) → a .at ≡ 0 → FeedClaim limits got a b
+    → Feeds limits (length (a .line)) (take (a .kept) (a .line)) (drop (a .next) got) (a .store) (take (b .at) (b .out)) (take (b .kept) (b .line))
     (drop (b .next) got)
     (b .store)
-call-feeds {got} {a} {b} some z F =
+call-feeds {limits} {got} {a} {b} some z F =
     let x = feed-answers some F in
     let e : x .text ≡ take (b .at) (b .out) = sym (x .written ∙ ap (λ (i : ℕ). take i (a .out) ++ x .text) z) in
     subst (λ (t : List ℕ).
-    Feeds (length (a .line)) (take (a .kept) (a .line)) (drop (a .next) got) (a .store) t (take (b .kept) (b .line)) (drop (b .next) got) (b .store))
+    Feeds limits (length (a .line)) (take (a .kept) (a .line)) (drop (a .next) got) (a .store) t (take (b .kept) (b .line)) (drop (b .next) got) (b .store))
     e
     (x .feeds)
 
 -- and the end of the input
-pub last-replies : (l : List ℕ) {o o′ : List ℕ} {w w′ : QueueWords} {e : ℕ} → answerRoom ≤ length o → LastClaim l w o w′ o′ e
-    → Replies (last l) w (take e o′) w′
-last-replies [] {o′ = o′} {w = w} {w′ = w′} h C =
+pub last-replies : {limits : Bool} (l : List ℕ) {o o′ : List ℕ} {w w′ : QueueWords} {e : ℕ} → answerRoom ≤ length o → LastClaim limits l w o w′ o′ e
+    → Replies limits (last l) w (take e o′) w′
+last-replies {limits = limits} [] {o′ = o′} {w = w} {w′ = w′} h C =
     let x = C .none (omega arith) in
-    subst (λ (i : ℕ). Replies [] w (take i o′) w′) (sym (x .2)) (subst (λ (y : QueueWords). Replies [] w [] y) (sym (x .0)) none)
-last-replies (b ∷ l) {o′ = o′} {w = w} {w′ = w′} h C =
+    subst (λ (i : ℕ). Replies limits [] w (take i o′) w′) (sym (x .2)) (subst (λ (y : QueueWords). Replies limits [] w [] y) (sym (x .0)) none)
+last-replies {limits = limits} (b ∷ l) {o′ = o′} {w = w} {w′ = w′} h C =
     let c = C .some (omega arith) in
-    subst (λ (t : List ℕ). Replies ((b ∷ l) ∷ []) w t w′) (sym (reply-whole h c)) (one-reply (replied h c))
+    subst (λ (t : List ℕ). Replies limits ((b ∷ l) ∷ []) w t w′) (sym (reply-whole h c)) (one-reply (replied h c))
 
 -- ---- the run: what was read so far is answered, of which no more than an unfinished line is kept
 
-pub so-far : {m : ℕ} {k k′ : List ℕ} {cs : List (List ℕ)} {w w′ : QueueWords} {v : List ℕ} → Fed m k cs w v k′ w′
-    → Feeds m k (joined cs) w v k′ [] w′
-so-far {m} (call {s = s} {s₁ = s₁} {cs = cs} f r) = feeds-more (behind (joined cs) f) (so-far r)
+pub so-far : {limits : Bool} {m : ℕ} {k k′ : List ℕ} {cs : List (List ℕ)} {w w′ : QueueWords} {v : List ℕ} → Fed limits m k cs w v k′ w′
+    → Feeds limits m k (joined cs) w v k′ [] w′
+so-far {limits} {m} (call {s = s} {s₁ = s₁} {cs = cs} f r) = feeds-more (behind (joined cs) f) (so-far r)
   where
-    behind : {k k₁ s s₁ : List ℕ} {w w₁ : QueueWords} {u : List ℕ} (t : List ℕ) → Feeds m k s w u k₁ s₁ w₁
-        → Feeds m k (s ++ t) w u k₁ (s₁ ++ t) w₁
+    behind : {k k₁ s s₁ : List ℕ} {w w₁ : QueueWords} {u : List ℕ} (t : List ℕ) → Feeds limits m k s w u k₁ s₁ w₁
+        → Feeds limits m k (s ++ t) w u k₁ (s₁ ++ t) w₁
     behind {k} {k₁} {s} {s₁} t f =
         record {
           lines = f .lines;
@@ -180,26 +181,28 @@ so-far nothing = feeds-none
 -- ---- 81 bytes are enough to see of a line
 
 -- a line over 80 bytes says no call, and neither does its front
-first-81 : {l : List ℕ} {w w′ : QueueWords} {t : List ℕ} → Reply (take 81 l) w t w′ → Reply l w t w′
-first-81 {l} R =
+first-81 : {limits : Bool} {l : List ℕ} {w w′ : QueueWords} {t : List ℕ} → Reply limits (take 81 l) w t w′ → Reply limits l w t w′
+first-81 {limits} {l} R =
     record {
-      asks = λ c x. R .asks c (subst (λ (y : List ℕ). Says y c) (sym (take-all 81 l (omega (arith, x .short)))) x);
-      bad = λ f. R .bad (λ c y. f c (subst (λ (z : List ℕ). Says z c) (whole-line 81 l (omega (arith, y .short))) y));
+      asks = λ c x. R .asks c (subst (λ (y : List ℕ). Asks limits y c) (sym (take-all 81 l (omega (arith, x .says .short)))) x);
+      bad = λ f. R .bad (λ c y. f c (subst (λ (z : List ℕ). Asks limits z c) (whole-line 81 l (omega (arith, y .says .short))) y));
     }
 
-all-81 : (ls : List (List ℕ)) {w w′ : QueueWords} {t : List ℕ} → Replies (firsts 81 ls) w t w′ → Replies ls w t w′
+all-81 : {limits : Bool} (ls : List (List ℕ)) {w w′ : QueueWords} {t : List ℕ} → Replies limits (firsts 81 ls) w t w′ → Replies limits ls w t w′
 all-81 [] none = none
 all-81 (l ∷ ls) (reply x a) = reply (first-81 x) (all-81 ls a)
 
 -- what `finish` of a program does: the last line is answered where there is room
-pub closes-last : (l : List ℕ) {o o′ : List ℕ} {w w′ : QueueWords} {e : ℕ} {t : Bool} → t ≡ true → answerRoom ≤ length o → LastClaim l w o w′ o′ e
-    → Closes Answered l w t w′
+pub closes-last : {limits : Bool} (l : List ℕ) {o o′ : List ℕ} {w w′ : QueueWords} {e : ℕ} {t : Bool} → t ≡ true → answerRoom ≤ length o
+    → LastClaim limits l w o w′ o′ e
+    → Closes (Answered limits) l w t w′
 closes-last l i h C =
     record { closed = λ f. replies-along (last-replies l h C); broken = λ f. absurd (true≢false (sym i ∙ f)) }
 
 -- "A program reads lines and answers each with one": with 81 bytes of room for a line, what is written is the answers to the lines of the input
-pub all-answered : {cs : List (List ℕ)} {w w′ : QueueWords} {v : List ℕ} → Serving 81 cs w v w′ → Replies (linesOf (joined cs)) w v w′
-all-answered {cs} {w} {w′} {v} S =
+pub all-answered : {limits : Bool} {cs : List (List ℕ)} {w w′ : QueueWords} {v : List ℕ} → Serving limits 81 cs w v w′
+    → Replies limits (linesOf (joined cs)) w v w′
+all-answered {limits} {cs} {w} {w′} {v} S =
     let f = so-far (S .fed) in
     let e : firsts 81 (linesOf (joined cs)) ≡ f .lines ++ last (S .kept) =
     ap (λ (x : List ℕ). firsts 81 (linesOf x)) (sym (append-nil (joined cs)))
@@ -208,16 +211,16 @@ all-answered {cs} {w} {w′} {v} S =
     in
     let r = replies-more (f .replies) (S .ended) in
     all-81 (linesOf (joined cs))
-    (subst (λ (t : List ℕ). Replies (firsts 81 (linesOf (joined cs))) w t w′) (sym (S .all))
-    (subst (λ (ls : List (List ℕ)). Replies ls w (S .first ++ S .then) w′) (sym e) r))
+    (subst (λ (t : List ℕ). Replies limits (firsts 81 (linesOf (joined cs))) w t w′) (sym (S .all))
+    (subst (λ (ls : List (List ℕ)). Replies limits ls w (S .first ++ S .then) w′) (sym e) r))
 
-along-replies : {ls : List (List ℕ)} {w w′ : QueueWords} → Along Answered ls w w′ → (v : List ℕ) × Replies ls w v w′
+along-replies : {limits : Bool} {ls : List (List ℕ)} {w w′ : QueueWords} → Along (Answered limits) ls w w′ → (v : List ℕ) × Replies limits ls w v w′
 along-replies no-line = ([], none)
 along-replies (more x r) = let y = along-replies r in (x .text ++ y .0, reply (x .reply) (y .1))
 
 -- the same of what a program's loop claims: where the input has ended, all of it was answered, whatever chunks it came in
-pub ran-answers : {w w′ : QueueWords} {n : ℕ} → Ran Answered 81 [] w n true w′
-    → (cs : List (List ℕ)) × (v : List ℕ) × (length (joined cs) ≡ n) × Replies (linesOf (joined cs)) w v w′
+pub ran-answers : {limits : Bool} {w w′ : QueueWords} {n : ℕ} → Ran (Answered limits) 81 [] w n true w′
+    → (cs : List (List ℕ)) × (v : List ℕ) × (length (joined cs) ≡ n) × Replies limits (linesOf (joined cs)) w v w′
 ran-answers R =
     let x = ran-all (omega arith) R in
     let y = along-replies (x .2) in

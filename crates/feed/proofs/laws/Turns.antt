@@ -17,74 +17,74 @@ use Rattle.feed.specs.Feed.{Stand, stand, answerRoom, Goes, Turn, answer
 use Rattle.feed.proofs.laws.Wrote.{reply-room, reply-size}
 
 -- the heads, handed on as their rows
-pub line-rows : {l o o′ : List ℕ} {at end : ℕ} {s′ : QueueWords} (w : Wheel) {hh hh′ : List (List ℕ)} (vs ds ns ps ts ms : List ℕ) → hh ≡ hh′
-    → LineClaim l (words w hh vs ds ns ps ts ms) o at s′ o′ end → LineClaim l (words w hh′ vs ds ns ps ts ms) o at s′ o′ end
-line-rows {l} {o} {o′} {at} {end} {s′} w vs ds ns ps ts ms e C =
-    subst (λ (h : List (List ℕ)). LineClaim l (words w h vs ds ns ps ts ms) o at s′ o′ end) e C
+pub line-rows : {limits : Bool} {l o o′ : List ℕ} {at end : ℕ} {s′ : QueueWords} (w : Wheel) {hh hh′ : List (List ℕ)} (vs ds ns ps ts ms : List ℕ) → hh ≡ hh′
+    → LineClaim limits l (words w hh vs ds ns ps ts ms) o at s′ o′ end → LineClaim limits l (words w hh′ vs ds ns ps ts ms) o at s′ o′ end
+line-rows {limits} {l} {o} {o′} {at} {end} {s′} w vs ds ns ps ts ms e C =
+    subst (λ (h : List (List ℕ)). LineClaim limits l (words w h vs ds ns ps ts ms) o at s′ o′ end) e C
 
-module _ {got : List ℕ} {from : ℕ} {line : List ℕ} {n : ℕ} {w : QueueWords} {o : List ℕ} {at : ℕ} where
+module _ {limits : Bool} {got : List ℕ} {from : ℕ} {line : List ℕ} {n : ℕ} {w : QueueWords} {o : List ℕ} {at : ℕ} where
   module _ {i k : ℕ} {ended : Bool} {l : List ℕ} (T : TakeClaim got from line n i k ended l) where
     -- a line has ended, and is answered
-    pub turn-line : {w′ : QueueWords} {o′ : List ℕ} {e : ℕ} → ended ≡ true → LineClaim (take k l) w o at w′ o′ e
-        → Turn got (stand from line n w o at) (stand i l 0 w′ o′ e)
+    pub turn-line : {w′ : QueueWords} {o′ : List ℕ} {e : ℕ} → ended ≡ true → LineClaim limits (take k l) w o at w′ o′ e
+        → Turn limits got (stand from line n w o at) (stand i l 0 w′ o′ e)
     turn-line h C = answered (subst (λ (b : Bool). TakeClaim got from line n i k b l) h T) C
 
     -- the chunk has ended
-    pub turn-end : ended ≡ false → Turn got (stand from line n w o at) (stand i l k w o at)
+    pub turn-end : ended ≡ false → Turn limits got (stand from line n w o at) (stand i l k w o at)
     turn-end h = goes-on (subst (λ (b : Bool). TakeClaim got from line n i k b l) h T)
 
 -- ---- the loop
 
 -- whatever comes of b comes of a
-pub record Reaches (got : List ℕ) (a b : Stand) : Type 0 where
-  pub then : (c : Stand) → FeedClaim got b c → FeedClaim got a c
+pub record Reaches (limits : Bool) (got : List ℕ) (a b : Stand) : Type 0 where
+  pub then : (c : Stand) → FeedClaim limits got b c → FeedClaim limits got a c
 
-pub reaches-none : {got : List ℕ} {a : Stand} → Reaches got a a
+pub reaches-none : {limits : Bool} {got : List ℕ} {a : Stand} → Reaches limits got a a
 reaches-none = record { then = λ c f. f }
 
-pub reaches-more : {got : List ℕ} {a b c : Stand} → Reaches got a b → Goes got b → Turn got b c → Reaches got a c
+pub reaches-more : {limits : Bool} {got : List ℕ} {a b c : Stand} → Reaches limits got a b → Goes got b → Turn limits got b c → Reaches limits got a c
 reaches-more r g t = record { then = λ d f. r .then d (turns g t f) }
 
 -- ---- what a caller may count on
 
-pub turn-forth : {got : List ℕ} {a b : Stand} → a .next < length got → Turn got a b → a .next < b .next
+pub turn-forth : {limits : Bool} {got : List ℕ} {a b : Stand} → a .next < length got → Turn limits got a b → a .next < b .next
 turn-forth h (answered T C) = take-forth true T h
 turn-forth h (goes-on T) = take-forth false T h
 
-pub feed-on : {got : List ℕ} {a b : Stand} → FeedClaim got a b → a .next ≤ b .next
+pub feed-on : {limits : Bool} {got : List ℕ} {a b : Stand} → FeedClaim limits got a b → a .next ≤ b .next
 feed-on (stops h) = omega arith
 feed-on (turns g t f) = omega (arith, turn-forth (g .0) t, feed-on f)
 
 -- it goes forth where it can
-pub feed-forth : {got : List ℕ} {a b : Stand} → FeedClaim got a b → Goes got a → a .next < b .next
+pub feed-forth : {limits : Bool} {got : List ℕ} {a b : Stand} → FeedClaim limits got a b → Goes got a → a .next < b .next
 feed-forth (stops h) g = absurd (h g)
 feed-forth (turns g t f) k = omega (arith, turn-forth (g .0) t, feed-on f)
 
 -- the places that come back lie within what was lent
-turn-fits : {got : List ℕ} {a b : Stand} → Turn got a b → b .kept ≤ length (b .line)
+turn-fits : {limits : Bool} {got : List ℕ} {a b : Stand} → Turn limits got a b → b .kept ≤ length (b .line)
 turn-fits (answered T C) = omega arith
 turn-fits (goes-on T) = omega (arith, T .fits, T .size)
 
-pub feed-fits : {got : List ℕ} {a b : Stand} → FeedClaim got a b → a .kept ≤ length (a .line) → b .kept ≤ length (b .line)
+pub feed-fits : {limits : Bool} {got : List ℕ} {a b : Stand} → FeedClaim limits got a b → a .kept ≤ length (a .line) → b .kept ≤ length (b .line)
 feed-fits (stops h) k = k
 feed-fits (turns g t f) k = feed-fits f (turn-fits t)
 
-turn-room : {got : List ℕ} {a b : Stand} → a .at + answerRoom ≤ length (a .out) → Turn got a b → b .at ≤ length (b .out)
+turn-room : {limits : Bool} {got : List ℕ} {a b : Stand} → a .at + answerRoom ≤ length (a .out) → Turn limits got a b → b .at ≤ length (b .out)
 turn-room h (answered T C) = omega (arith, reply-room h C, reply-size h C)
 turn-room h (goes-on T) = omega arith
 
-pub feed-room : {got : List ℕ} {a b : Stand} → FeedClaim got a b → a .at ≤ length (a .out) → b .at ≤ length (b .out)
+pub feed-room : {limits : Bool} {got : List ℕ} {a b : Stand} → FeedClaim limits got a b → a .at ≤ length (a .out) → b .at ≤ length (b .out)
 feed-room (stops h) k = k
 feed-room (turns g t f) k = feed-room f (turn-room (g .1) t)
 
 -- ---- the end of the input
 
-module _ {l o : List ℕ} {w : QueueWords} where
-  pub last-none : length l ≡ 0 → LastClaim l w o w o 0
+module _ {limits : Bool} {l o : List ℕ} {w : QueueWords} where
+  pub last-none : length l ≡ 0 → LastClaim limits l w o w o 0
   last-none h = record { none = λ z. (refl, refl, refl); some = λ z. absurd (omega arith) }
 
-  pub last-line : {w′ : QueueWords} {o′ : List ℕ} {e : ℕ} → 0 < length l → LineClaim l w o 0 w′ o′ e → LastClaim l w o w′ o′ e
+  pub last-line : {w′ : QueueWords} {o′ : List ℕ} {e : ℕ} → 0 < length l → LineClaim limits l w o 0 w′ o′ e → LastClaim limits l w o w′ o′ e
   last-line h C = record { none = λ z. absurd (omega arith); some = λ z. C }
 
-  pub last-room : {w′ : QueueWords} {o′ : List ℕ} {e : ℕ} → LastClaim l w o w′ o′ e → e ≤ length o
+  pub last-room : {w′ : QueueWords} {o′ : List ℕ} {e : ℕ} → LastClaim limits l w o w′ o′ e → e ≤ length o
   last-room C = by-cases (decLt 0 (length l)) (λ h. line-within (C .some h) (omega arith)) (λ h. omega (arith, C .none (omega arith) .2))

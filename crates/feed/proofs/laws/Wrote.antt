@@ -1,5 +1,6 @@
 -- An answer that has room in a slice is the text of a reply.
 use mathlib.Core.Path.{_≡_, ap, _∙_}
+use mathlib.Core.Bool.{Bool}
 use mathlib.Core.Logic.{by-cases}
 use mathlib.Core.List.{List, [], _∷_, _++_, List-discrete}
 use Prim.Native.Nat.{ℕ, _+_, _-_, _≤_, _<_}
@@ -10,10 +11,9 @@ use lib.Seq.{take-at, drop-at, take-add, length-take-le}
 use Rattle.records.specs.Words.{QueueWords}
 use Rattle.delay_queue.specs.declared.Call.{Call}
 use Rattle.decimals.specs.Text.{bytes, Spaced}
-use Rattle.asking.specs.Text.{Says}
 use Rattle.answering.specs.Text.{Written, PutClaim}
 use Rattle.answering.proofs.laws.Answering.{at-most-114}
-use Rattle.bench.specs.Line.{LineClaim}
+use Rattle.bench.specs.Line.{Asks, LineClaim}
 use Rattle.feed.specs.Replies.{Reply}
 use Rattle.feed.specs.Feed.{answerRoom}
 
@@ -63,13 +63,13 @@ bad-4 {l} p =
     let e : length l ≡ length (bytes "bad" ++ (p .rest ++ 10 ∷ [])) = ap (λ (t : List ℕ). length t) (p .line) in
     omega (arith, length-append (p .rest) (10 ∷ []), ap (λ (t : List ℕ). length t) (p .fields))
 
-module _ {l o o′ : List ℕ} {s s′ : QueueWords} {at end : ℕ} (r : at + answerRoom ≤ length o) (C : LineClaim l s o at s′ o′ end) where
-  asked : (c : Call) (x : Says l c) → Wrote o at end o′ (C .asks c x .written .line)
+module _ {limits : Bool} {l o o′ : List ℕ} {s s′ : QueueWords} {at end : ℕ} (r : at + answerRoom ≤ length o) (C : LineClaim limits l s o at s′ o′ end) where
+  asked : (c : Call) (x : Asks limits l c) → Wrote o at end o′ (C .asks c x .written .line)
   asked c x =
       let a = C .asks c x in
       put-wrote (a .written) (some-bytes (a .written .written)) (at-most-114 (a .answer) (a .written .written)) r
 
-  unasked : (f : (c : Call) → Says l c → ⊥) → Wrote o at end o′ (C .bad f .1 .line)
+  unasked : (f : (c : Call) → Asks limits l c → ⊥) → Wrote o at end o′ (C .bad f .1 .line)
   unasked f =
       let b = C .bad f .1 in
       put-wrote b (some-bytes (b .written)) (bad-4 (b .written)) r
@@ -79,7 +79,7 @@ module _ {l o o′ : List ℕ} {s s′ : QueueWords} {at end : ℕ} (r : at + an
   either d f = by-cases d (λ k. k) (λ k. absurd (k (f _ (unasked (λ c x. k (f _ (asked c x)))))))
 
   -- the answer in the slice is the text of the reply
-  pub replied : Reply l s (between o′ at end) s′
+  pub replied : Reply limits l s (between o′ at end) s′
   replied =
       record {
         asks = λ c x.

@@ -17,13 +17,14 @@ use Rattle.gauge.proofs.note_answer.Statement.{statement}
 use Rattle.gauge.proofs.note_answer.Tie as tie
 
 -- an answer with another tag than those of `Out` and `Last`
-other : (a : Answer) → OneOf (0 ∷ 1 ∷ 2 ∷ 5 ∷ 6 ∷ 7 ∷ 8 ∷ 9 ∷ []) (tagOf the-type a) → isOut (told a) ≡ false
+other : (a : Answer) → OneOf (0 ∷ 1 ∷ 2 ∷ 5 ∷ 6 ∷ 7 ∷ 8 ∷ 9 ∷ 10 ∷ []) (tagOf the-type a) → isOut (told a) ≡ false
 other A.Done x = refl
 other (A.Key k) x = refl
 other (A.Gone v d) x = refl
-other (A.Out k v d m n) x = absurd (miss (0 ∷ 1 ∷ 2 ∷ 5 ∷ 6 ∷ 7 ∷ 8 ∷ 9 ∷ []) 3 tt x)
-other (A.Last k v d m n) x = absurd (miss (0 ∷ 1 ∷ 2 ∷ 5 ∷ 6 ∷ 7 ∷ 8 ∷ 9 ∷ []) 4 tt x)
+other (A.Out k v d m n) x = absurd (miss (0 ∷ 1 ∷ 2 ∷ 5 ∷ 6 ∷ 7 ∷ 8 ∷ 9 ∷ 10 ∷ []) 3 tt x)
+other (A.Last k v d m n) x = absurd (miss (0 ∷ 1 ∷ 2 ∷ 5 ∷ 6 ∷ 7 ∷ 8 ∷ 9 ∷ 10 ∷ []) 4 tt x)
 other (A.Nothing m n) x = refl
+other (A.NotYet m n) x = refl
 other (A.Wake t) x = refl
 other A.NoWake x = refl
 other (A.Length n) x = refl

@@ -4,15 +4,15 @@ use native.Mathlib.Omega.{arith}
 use mathlib.Core.Path.{_≡_, _∙_}
 use Prim.Native.Nat.{_≤_, _-_}
 use lib.ListN.{length}
-use Rattle.records.specs.Words.{parts, Sound}
+use Rattle.records.specs.Words.{parts, holding, Sound}
 use Rattle.harness.proofs.answers_on.Statement.{statement}
 use Rattle.harness.proofs.answers_on.Tie as tie
 
 abbrev Inv-loop : tie.InvT-loop
-Inv-loop elapsed rows₀ tops₀ heads₀ values₀ deadlines₀ nexts₀ prevs₀ turns₀ marks₀ script answers₀ e₀ commands i₀ rows tops heads values deadlines nexts prevs
-    turns marks answers e i =
+Inv-loop elapsed rows₀ tops₀ heads₀ values₀ deadlines₀ nexts₀ prevs₀ turns₀ marks₀ hand until script answers₀ e₀ place₀ time₀ commands i₀ rows tops heads
+    values deadlines nexts prevs turns marks answers e place time i =
     (i ≤ commands)
-    × Sound (parts e rows tops heads values deadlines nexts prevs turns marks)
+    × Sound (holding place time (parts e rows tops heads values deadlines nexts prevs turns marks))
     × (length values ≡ length values₀)
     × (length deadlines ≡ length deadlines₀)
     × (length nexts ≡ length nexts₀)
@@ -22,8 +22,8 @@ Inv-loop elapsed rows₀ tops₀ heads₀ values₀ deadlines₀ nexts₀ prevs�
     × (length answers ≡ length answers₀)
 
 abbrev μ-loop : tie.MeasureT-loop
-μ-loop elapsed rows₀ tops₀ heads₀ values₀ deadlines₀ nexts₀ prevs₀ turns₀ marks₀ script answers₀ e₀ commands i₀ rows tops heads values deadlines nexts prevs
-    turns marks answers e i =
+μ-loop elapsed rows₀ tops₀ heads₀ values₀ deadlines₀ nexts₀ prevs₀ turns₀ marks₀ hand until script answers₀ e₀ place₀ time₀ commands i₀ rows tops heads
+    values deadlines nexts prevs turns marks answers e place time i =
     commands - i
 
 abbrev to-called : tie.After-words-of Inv-loop μ-loop → tie.After-called Inv-loop μ-loop

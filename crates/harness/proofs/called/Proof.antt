@@ -1,68 +1,65 @@
--- `called` meets its contract: the store is sound again, whichever call it was.
+-- `called` meets its contract: the store is sound again, whichever call it was. With no poll in hand it is the store in parts.
 use borrow.Author.Needs.{needs}
-use Rattle.delay_queue.proofs.laws.Back.{not-passed, marks-long}
-use Rattle.harness.proofs.laws.Stays.{insert-stays, reset-stays, remove-stays, poll-stays}
+use Rattle.links.specs.Lists.{nobody}
+use Rattle.records.proofs.laws.Inner.{standing-hold}
+use Rattle.delay_queue.proofs.laws.Back.{marks-long, parted}
+use Rattle.harness.proofs.laws.Stays.{poll-stays}
 use Rattle.harness.proofs.called.Statement.{statement}
 use Rattle.harness.proofs.called.Tie as tie
 
-abbrev to-insert : tie.After-slice-known11 → tie.After-insert
-to-insert c =
-    let a = c .before .before .before .before in
-    let b = a .before .before .before .before in
-    b .before .before
-
-abbrev to-slice-known6 : tie.After-insert → tie.After-slice-known6
-to-slice-known6 c =
-    let a = c .before .before .before .before in
-    let b = a .before .before .before .before in
-    b .before .before .before
-
-abbrev to-start : tie.After-slice-known6 → tie.Start
-to-start c =
-    let a = c .before .before .before .before in
-    a .before .before
-
-abbrev to-reset : tie.After-slice-known15 → tie.After-reset
-to-reset c =
-    let a = c .before .before .before .before in
-    a .before .before .before .before
-
-abbrev to-else1 : tie.After-reset → tie.Else1
-to-else1 c =
-    let a = c .before .before .before .before in
-    let b = a .before .before .before .before in
-    b .before .before .before
-
-abbrev to-remove : tie.After-slice-known19 → tie.After-remove
-to-remove c =
-    let a = c .before .before .before .before in
-    a .before .before .before .before
-
-abbrev to-else2 : tie.After-remove → tie.Else2
-to-else2 c =
-    let a = c .before .before .before .before in
-    let b = a .before .before .before .before in
-    b .before .before .before
-
-abbrev to-poll : tie.After-slice-known24 → tie.After-poll
+abbrev to-poll : tie.After-slice-known11 → tie.After-poll
 to-poll c =
     let a = c .before .before .before .before in
     let b = a .before .before .before .before in
     b .before .before
 
-abbrev to-else3 : tie.After-poll → tie.Else3
-to-else3 c =
+abbrev poll-start : tie.After-poll → tie.Start
+poll-start c =
+    let a = c .before .before .before .before in
+    let b = a .before .before .before .before in
+    let d = b .before .before .before .before in
+    let e = d .before .before .before .before in
+    e .before .before .before
+
+abbrev clear-start : tie.After-clear-arg9 → tie.Start
+clear-start c =
+    let a = c .before .before .before .before in
+    let b = a .before .before .before .before in
+    let d = b .before .before .before .before in
+    let e = d .before .before .before .before in
+    e .before .before
+
+abbrev to-clear : tie.After-slice-known15 → tie.After-clear
+to-clear c =
+    let a = c .before .before .before .before in
+    a .before .before .before .before
+
+abbrev length-start : tie.After-length-arg2 → tie.Start
+length-start c =
+    let a = c .before .before .before .before in
+    let b = a .before .before .before .before in
+    b .before .before .before .before
+
+abbrev to-else4 : tie.After-freely-arg9 → tie.Else4
+to-else4 c =
+    let a = c .before .before .before .before in
+    let b = a .before .before .before .before in
+    b .before
+
+abbrev else4-start : tie.Else4 → tie.Start
+else4-start c =
     let a = c .before .before .before .before in
     let b = a .before .before .before .before in
     b .before .before .before
 
-abbrev to-else4 : tie.After-asked-arg4 → tie.Else4
-to-else4 c =
-    let a = c .before .before .before .before in
-    a .before
+is-poll-requires : tie.Need-is-poll-requires
+is-poll-requires c κs = search needs
 
-insert-requires : tie.Need-insert-requires
-insert-requires c κs = search needs
+limit-of-requires : tie.Need-limit-of-requires
+limit-of-requires c κs = search needs
+
+poll-requires : tie.Need-poll-requires
+poll-requires c κs = search needs
 
 same-length : tie.Need-same-length
 same-length c = search needs
@@ -84,11 +81,11 @@ same-length-6 c = search needs
 
 returns : tie.Need-returns
 returns c =
-    let at-insert = to-insert c in
-    insert-stays (to-start (to-slice-known6 at-insert) .pre) (at-insert .insert .ensures)
+    let at-poll = to-poll c in
+    poll-stays (poll-start at-poll .pre) (at-poll .poll .ensures)
 
-reset-requires : tie.Need-reset-requires
-reset-requires c κs = search needs
+clear-requires : tie.Need-clear-requires
+clear-requires c κs = standing-hold (clear-start c .pre .standing) nobody 0
 
 same-length-7 : tie.Need-same-length-7
 same-length-7 c = search needs
@@ -109,15 +106,27 @@ same-length-12 : tie.Need-same-length-12
 same-length-12 c = search needs
 
 returns-2 : tie.Need-returns-2
-returns-2 c =
-    let at-reset = to-reset c in
-    reset-stays (to-start (to-else1 at-reset .before) .pre) (at-reset .reset .ensures)
+returns-2 c = to-clear c .clear .ensures 0 0 .done .sound
 
-remove-requires : tie.Need-remove-requires
-remove-requires c κs = search needs
+element-copy-out-length : tie.Need-element-copy-out-length
+element-copy-out-length c = search needs
+
+length-requires : tie.Need-length-requires
+length-requires c κs = marks-long (length-start c .pre)
 
 same-length-13 : tie.Need-same-length-13
 same-length-13 c = search needs
+
+returns-3 : tie.Need-returns-3
+returns-3 c = search needs
+
+returns-4 : tie.Need-returns-4
+returns-4 c = search needs
+
+freely-requires : tie.Need-freely-requires
+freely-requires c κs =
+    let else4 = to-else4 c in
+    parted (else4-start else4 .pre, else4 .if4 .left)
 
 same-length-14 : tie.Need-same-length-14
 same-length-14 c = search needs
@@ -134,85 +143,19 @@ same-length-17 c = search needs
 same-length-18 : tie.Need-same-length-18
 same-length-18 c = search needs
 
-returns-3 : tie.Need-returns-3
-returns-3 c =
-    let at-remove = to-remove c in
-    let start = to-start (to-else2 at-remove .before .before) in
-    remove-stays (start .pre) (at-remove .remove .ensures)
-
-poll-requires : tie.Need-poll-requires
-poll-requires c κs = search needs
-
 same-length-19 : tie.Need-same-length-19
 same-length-19 c = search needs
 
-same-length-20 : tie.Need-same-length-20
-same-length-20 c = search needs
-
-same-length-21 : tie.Need-same-length-21
-same-length-21 c = search needs
-
-same-length-22 : tie.Need-same-length-22
-same-length-22 c = search needs
-
-same-length-23 : tie.Need-same-length-23
-same-length-23 c = search needs
-
-same-length-24 : tie.Need-same-length-24
-same-length-24 c = search needs
-
-returns-4 : tie.Need-returns-4
-returns-4 c =
-    let at-poll = to-poll c in
-    let start = to-start (to-else3 at-poll .before .before .before) in
-    poll-stays (start .pre) (at-poll .poll .ensures)
-
-clear-requires : tie.Need-clear-requires
-clear-requires c κs = search needs
-
-same-length-25 : tie.Need-same-length-25
-same-length-25 c = search needs
-
-same-length-26 : tie.Need-same-length-26
-same-length-26 c = search needs
-
-same-length-27 : tie.Need-same-length-27
-same-length-27 c = search needs
-
-same-length-28 : tie.Need-same-length-28
-same-length-28 c = search needs
-
-same-length-29 : tie.Need-same-length-29
-same-length-29 c = search needs
-
-same-length-30 : tie.Need-same-length-30
-same-length-30 c = search needs
-
 returns-5 : tie.Need-returns-5
 returns-5 c = search needs
-
-asked-requires : tie.Need-asked-requires
-asked-requires c κs =
-    let start = to-start (to-else4 c .before .before .before .before) in
-    (not-passed (start .pre), marks-long (start .pre))
-
-same-length-31 : tie.Need-same-length-31
-same-length-31 c = search needs
-
-returns-6 : tie.Need-returns-6
-returns-6 c = search needs
-
-element-copy-out-asked : tie.Need-element-copy-out-asked
-element-copy-out-asked c = search needs
-
-element-copy-out-asked-2 : tie.Need-element-copy-out-asked-2
-element-copy-out-asked-2 c = search needs
 
 pub called-spec : {M : Type 1} → statement M
 called-spec =
     tie.close
     (tie.spec
-    insert-requires
+    is-poll-requires
+    limit-of-requires
+    poll-requires
     same-length
     same-length-2
     same-length-3
@@ -220,7 +163,7 @@ called-spec =
     same-length-5
     same-length-6
     returns
-    reset-requires
+    clear-requires
     same-length-7
     same-length-8
     same-length-9
@@ -228,32 +171,16 @@ called-spec =
     same-length-11
     same-length-12
     returns-2
-    remove-requires
+    element-copy-out-length
+    length-requires
     same-length-13
+    returns-3
+    returns-4
+    freely-requires
     same-length-14
     same-length-15
     same-length-16
     same-length-17
     same-length-18
-    returns-3
-    poll-requires
     same-length-19
-    same-length-20
-    same-length-21
-    same-length-22
-    same-length-23
-    same-length-24
-    returns-4
-    clear-requires
-    same-length-25
-    same-length-26
-    same-length-27
-    same-length-28
-    same-length-29
-    same-length-30
-    returns-5
-    element-copy-out-asked
-    element-copy-out-asked-2
-    asked-requires
-    same-length-31
-    returns-6)
+    returns-5)

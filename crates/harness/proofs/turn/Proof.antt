@@ -1,7 +1,8 @@
 -- `turn` meets its contract: the store is sound again, whichever call it was.
 use borrow.Author.Needs.{needs}
+use mathlib.Core.Path.{refl}
 use Rattle.delay_queue.proofs.laws.Back.{not-passed}
-use Rattle.harness.proofs.laws.Stays.{insert-stays, reset-stays, remove-stays, poll-stays}
+use Rattle.harness.proofs.laws.Stays.{insert-stays, reset-stays, remove-stays, whole-stays}
 use Rattle.harness.proofs.turn.Statement.{statement}
 use Rattle.harness.proofs.turn.Tie as tie
 
@@ -88,7 +89,7 @@ same-length-6 c = search needs
 returns : tie.Need-returns
 returns c =
     let at-insert = to-insert c in
-    insert-stays (to-start (to-slice-known6 at-insert) .pre) (at-insert .insert .ensures)
+    insert-stays (to-start (to-slice-known6 at-insert) .pre) refl (at-insert .insert .ensures)
 
 reset-requires : tie.Need-reset-requires
 reset-requires c κs = search needs
@@ -114,7 +115,7 @@ same-length-12 c = search needs
 returns-2 : tie.Need-returns-2
 returns-2 c =
     let at-reset = to-reset c in
-    reset-stays (to-start (to-else1 at-reset .before) .pre) (at-reset .reset .ensures)
+    reset-stays (to-start (to-else1 at-reset .before) .pre) refl (at-reset .reset .ensures)
 
 remove-requires : tie.Need-remove-requires
 remove-requires c κs = search needs
@@ -141,7 +142,7 @@ returns-3 : tie.Need-returns-3
 returns-3 c =
     let at-remove = to-remove c in
     let start = to-start (to-else2 at-remove .before .before) in
-    remove-stays (start .pre) (at-remove .remove .ensures)
+    remove-stays (start .pre) refl (at-remove .remove .ensures)
 
 poll-requires : tie.Need-poll-requires
 poll-requires c κs = search needs
@@ -168,7 +169,7 @@ returns-4 : tie.Need-returns-4
 returns-4 c =
     let at-poll = to-poll c in
     let start = to-start (to-else3 at-poll .before .before .before) in
-    poll-stays (start .pre) (at-poll .poll .ensures)
+    whole-stays (start .pre) refl (at-poll .poll .ensures)
 
 element-copy-out-next-wake : tie.Need-element-copy-out-next-wake
 element-copy-out-next-wake c = search needs
@@ -177,7 +178,7 @@ next-wake-requires : tie.Need-next-wake-requires
 next-wake-requires c κs =
     let else4 = c .before .before in
     let start = to-start (to-slice-known6-2 (else4 .before .before .before)) in
-    not-passed (start .pre)
+    not-passed (start .pre, refl)
 
 told-requires : tie.Need-told-requires
 told-requires c κs = search needs

@@ -32,11 +32,14 @@ enum-known-answer-6 c = search needs
 enum-known-answer-7 : tie.Need-enum-known-answer-7
 enum-known-answer-7 c = search needs
 
+enum-known-answer-8 : tie.Need-enum-known-answer-8
+enum-known-answer-8 c = search needs
+
 enum-told-2 : tie.Need-enum-told-2
 enum-told-2 c = search needs
 
-enum-known-answer-8 : tie.Need-enum-known-answer-8
-enum-known-answer-8 c = search needs
+enum-known-answer-9 : tie.Need-enum-known-answer-9
+enum-known-answer-9 c = search needs
 
 returns : tie.Need-returns
 returns c = search needs
@@ -79,6 +82,9 @@ returns-12 c = search needs
 returns-13 : tie.Need-returns-13
 returns-13 c = search needs
 
+returns-14 : tie.Need-returns-14
+returns-14 c = search needs
+
 pub is-unwritten-spec : {M : Type 1} → statement M
 is-unwritten-spec =
     tie.close
@@ -91,8 +97,9 @@ is-unwritten-spec =
     enum-known-answer-5
     enum-known-answer-6
     enum-known-answer-7
-    enum-told-2
     enum-known-answer-8
+    enum-told-2
+    enum-known-answer-9
     returns
     returns-2
     returns-3
@@ -105,4 +112,5 @@ is-unwritten-spec =
     returns-10
     returns-11
     returns-12
-    returns-13)
+    returns-13
+    returns-14)

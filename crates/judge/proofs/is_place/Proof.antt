@@ -6,15 +6,15 @@ use borrow.Author.Tests.{eqb-true, eqb-false, not-true, not-false}
 use Rattle.times.proofs.laws.Levels.{level-is}
 use Rattle.times.proofs.laws.Quotients.{slot-lt}
 use Rattle.contracts.proofs.laws.Tells.{tells-no}
-use Rattle.judge.proofs.laws.Judge.{place-told}
+use Rattle.judge.proofs.laws.Judge.{place-above, place-hand, place-low}
 use Rattle.judge.proofs.is_place.Statement.{statement}
 use Rattle.judge.proofs.is_place.Tie as tie
 
-abbrev to-start : tie.Else1 → tie.Start
-to-start c = c .before
-
 returns : tie.Need-returns
 returns c = tells-no (λ o. omega (arith, o .late))
+
+abbrev entered : tie.After-level-for → tie.Start
+entered c = c .before .before .before .before
 
 same-block-requires : tie.Need-same-block-requires
 same-block-requires c κs = search needs
@@ -28,22 +28,46 @@ level-for-requires c κs = sym (eqb-true _ _ (sym (c .before .same-block .ensure
 
 slot-for-requires : tie.Need-slot-for-requires
 slot-for-requires c κs =
-    let start = c .before .before .before .before in
-    omega (arith, c .level-for .ensures, level-is (start .args .elapsed) (start .args .when) .within)
+    let start = entered (c .before) in
+    omega (arith, c .before .level-for .ensures, level-is (start .args .clock) (start .args .when) .within)
 
 slot-place-requires : tie.Need-slot-place-requires
 slot-place-requires c κs =
-    let start = to-start (c .before .before .before .before) in (
-      omega (arith, c .before .level-for .ensures, level-is (start .args .elapsed) (start .args .when) .within),
-      omega (arith, c .slot-for .ensures, slot-lt (start .args .when) (c .before .level-for .result)),
+    let l = c .before .before in
+    let start = entered l in (
+      omega (arith, l .level-for .ensures, level-is (start .args .clock) (start .args .when) .within),
+      omega (arith, c .slot-for .ensures, slot-lt (start .args .when) (l .level-for .result)),
     )
 
 returns-3 : tie.Need-returns-3
 returns-3 c =
-    let at-same-block = c .before .before .before .before in
-    place-told (at-same-block .before .if1 .left)
-    (eqb-true _ _ (sym (at-same-block .same-block .ensures) ∙ not-false _ (c .before .before .before .if2 .left)))
-    (c .before .before .level-for .ensures) (c .before .slot-for .ensures) (c .slot-place .ensures)
+    let l = c .before .before .before in
+    let b = l .before .before in
+    place-above (b .before .if1 .left) (eqb-true _ _ (sym (b .same-block .ensures) ∙ not-false _ (l .before .if2 .left)))
+    (l .level-for .ensures) (c .before .before .if3 .taken) (c .before .slot-for .ensures) (c .slot-place .ensures)
+
+returns-4 : tie.Need-returns-4
+returns-4 c =
+    let l = c .before .before in
+    let b = l .before .before in
+    place-hand (b .before .if1 .left) (eqb-true _ _ (sym (b .same-block .ensures) ∙ not-false _ (l .before .if2 .left)))
+    (l .level-for .ensures) (c .before .if3 .left) (c .if4 .taken)
+
+slot-for-requires-2 : tie.Need-slot-for-requires-2
+slot-for-requires-2 c κs = search needs
+
+slot-place-requires-2 : tie.Need-slot-place-requires-2
+slot-place-requires-2 c κs =
+    let start = entered (c .before .before .before) in
+    (start .pre, omega (arith, c .slot-for2 .ensures, slot-lt (start .args .when) (start .args .low)))
+
+returns-5 : tie.Need-returns-5
+returns-5 c =
+    let e = c .before .before in
+    let l = e .before .before in
+    let b = l .before .before in
+    place-low (b .before .if1 .left) (eqb-true _ _ (sym (b .same-block .ensures) ∙ not-false _ (l .before .if2 .left)))
+    (l .level-for .ensures) (e .before .if3 .left) (e .if4 .left) (c .before .slot-for2 .ensures) (c .slot-place2 .ensures)
 
 pub is-place-spec : {M : Type 1} → statement M
 is-place-spec =
@@ -55,4 +79,8 @@ is-place-spec =
     level-for-requires
     slot-for-requires
     slot-place-requires
-    returns-3)
+    returns-3
+    returns-4
+    slot-for-requires-2
+    slot-place-requires-2
+    returns-5)

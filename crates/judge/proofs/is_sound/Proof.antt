@@ -2,8 +2,8 @@
 use borrow.Author.Needs.{needs}
 use native.Mathlib.Omega.{arith}
 use borrow.Author.Tests.{not-true, not-false}
-use Rattle.contracts.proofs.laws.Tells.{tells-no, tells-by}
-use Rattle.judge.proofs.laws.Judge.{sound-judged, judged-sound}
+use Rattle.contracts.proofs.laws.Tells.{tells-no}
+use Rattle.judge.proofs.laws.Judge.{sound-judged, judged-rest, judged-mid, start-of}
 use Rattle.judge.proofs.Rows.{shaped}
 use Rattle.judge.proofs.is_sound.Statement.{statement}
 use Rattle.judge.proofs.is_sound.Tie as tie
@@ -39,28 +39,81 @@ is-whole-requires c κs =
 returns-3 : tie.Need-returns-3
 returns-3 c = tells-no (λ S. c .before .is-whole .ensures .no (not-true _ (c .if3 .taken)) (S .standing .whole))
 
-records-agree-requires : tie.Need-records-agree-requires
-records-agree-requires c κs =
-    let e = roomed (c .before .before) in
-    let R = e .before .has-room .ensures .yes (not-false _ (e .if2 .left)) in
-    (R .deadlines, R .turns, R .links .marks)
+-- no poll is in hand
 
 returns-4 : tie.Need-returns-4
-returns-4 c =
-    let w = c .before .before in
+returns-4 c = tells-no (λ S. c .if5 .taken (S .no-now (c .before .if4 .taken)))
+
+records-agree-requires : tie.Need-records-agree-requires
+records-agree-requires c κs =
+    let e = roomed (c .before .before .before .before) in
+    let R = e .before .has-room .ensures .yes (not-false _ (e .if2 .left)) in
+    (omega arith, R .deadlines, R .turns, R .links .marks)
+
+returns-5 : tie.Need-returns-5
+returns-5 c =
+    let u = c .before in
+    let g = u .before in
+    let w = g .before .before in
     let e = roomed (w .before) in
-    tells-by (c .records-agree .ensures)
-    (λ R.
-    judged-sound (record {
-      fits = record {
-        some = omega arith;
-        few = omega (arith, start (e .before .before .before) .good .0);
-        room = e .before .has-room .ensures .yes (not-false _ (e .if2 .left));
-      };
-      whole = w .is-whole .ensures .yes (not-false _ (c .before .if3 .left));
-      records = R;
-    }))
-    (λ S. sound-judged S .records)
+    judged-rest (record {
+      some = omega arith;
+      few = omega (arith, start (e .before .before .before) .good .0);
+      room = e .before .has-room .ensures .yes (not-false _ (e .if2 .left));
+    })
+    (w .is-whole .ensures .yes (not-false _ (g .before .if3 .left))) _ (g .if4 .taken) (g .if4 .taken) (u .if5 .left) (c .records-agree .ensures)
+
+-- a poll is in hand
+
+can-hold-requires : tie.Need-can-hold-requires
+can-hold-requires c κs = search needs
+
+returns-6 : tie.Need-returns-6
+returns-6 c =
+    tells-no (λ S. c .before .can-hold .ensures .no (not-true _ (c .if6 .taken)) (sound-judged S .mid (c .before .before .before .before .if4 .left) .0))
+
+level-of-requires : tie.Need-level-of-requires
+level-of-requires c κs = search needs
+
+slot-of-requires : tie.Need-slot-of-requires
+slot-of-requires c κs = search needs
+
+slot-start-requires : tie.Need-slot-start-requires
+slot-start-requires c κs =
+    let h = c .before .before in
+    let H = h .before .can-hold .ensures .yes (not-false _ (h .if6 .left)) in
+    (omega (arith, H .below, c .before .level-of .ensures), omega (arith, c .slot-of .ensures))
+
+sub-records-agree : tie.Need-sub-records-agree
+sub-records-agree c =
+    let h = c .before .before .before in
+    let H = h .before .can-hold .ensures .yes (not-false _ (h .if6 .left)) in
+    omega (arith, H .high, c .before .before .level-of .ensures)
+
+records-agree-requires-2 : tie.Need-records-agree-requires-2
+records-agree-requires-2 c κs =
+    let h = c .before .before .before in
+    let H = h .before .can-hold .ensures .yes (not-false _ (h .if6 .left)) in
+    let g = h .before .before .before .before in
+    let e = roomed (g .before .before .before) in
+    let R = e .before .has-room .ensures .yes (not-false _ (e .if2 .left)) in
+    (omega (arith, H .below, c .before .before .level-of .ensures), R .deadlines, R .turns, R .links .marks)
+
+returns-7 : tie.Need-returns-7
+returns-7 c =
+    let o = c .before in
+    let h = o .before .before .before in
+    let g = h .before .before .before .before in
+    let w = g .before .before in
+    let e = roomed (w .before) in
+    judged-mid (record {
+      some = omega arith;
+      few = omega (arith, start (e .before .before .before) .good .0);
+      room = e .before .has-room .ensures .yes (not-false _ (e .if2 .left));
+    })
+    (w .is-whole .ensures .yes (not-false _ (g .before .if3 .left))) (g .if4 .left) (h .before .can-hold .ensures .yes (not-false _ (h .if6 .left))) _ _
+    (o .before .before .level-of .ensures) (start-of _ _ (o .before .before .level-of .ensures) (o .before .slot-of .ensures) (o .slot-start .ensures))
+    (c .records-agree2 .ensures)
 
 pub is-sound-spec : {M : Type 1} → statement M
 is-sound-spec =
@@ -71,5 +124,14 @@ is-sound-spec =
     returns-2
     is-whole-requires
     returns-3
+    returns-4
     records-agree-requires
-    returns-4)
+    returns-5
+    can-hold-requires
+    returns-6
+    level-of-requires
+    slot-of-requires
+    slot-start-requires
+    sub-records-agree
+    records-agree-requires-2
+    returns-7)

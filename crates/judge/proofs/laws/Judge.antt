@@ -1,97 +1,249 @@
 -- The parts of soundness as they are judged are soundness together.
-use mathlib.Core.Path.{_≡_, sym, ap, _∙_}
-use mathlib.Core.Logic.{_≢_}
-use mathlib.Core.Bool.{Bool}
-use mathlib.Core.List.{List}
-use Prim.Native.Nat.{ℕ, _+_, _≤_, _<_}
+use mathlib.Core.Path.{_≡_, sym, ap, _∙_, subst}
+use mathlib.Core.Logic.{_≢_, inl, inr, ⊎-elim, by-cases}
+use mathlib.Core.Bool.{Bool, true}
+use mathlib.Core.List.{List, nil≢cons}
+use Prim.Native.Nat.{ℕ, suc, _+_, _-_, _%_, _^_, _≤_, _<_, max}
+use native.Mathlib.Decide.{ℕ-discrete}
 use native.Mathlib.Omega.{arith}
-use lib.Dec.{eqb}
+use lib.Dec.{eqb, ltb}
 use borrow.Author.Count.{below-more}
+use borrow.Author.Tests.{ltb-true, ltb-false}
 use Rattle.contracts.specs.Tells.{Tells}
-use Rattle.contracts.proofs.laws.Tells.{tells-by, tells-eq}
-use Rattle.times.specs.Times.{slotOf, levelOf, block}
-use Rattle.links.specs.Lists.{nobody}
+use Rattle.contracts.proofs.laws.Tells.{tells-yes, tells-by, tells-eq}
+use Rattle.times.specs.Times.{width, slotOf, startAt, levelOf, block}
+use Rattle.links.specs.Lists.{Mem, nobody, firstD}
 use Rattle.links.specs.Links.{at}
-use Rattle.stack.specs.Places.{slotPlace, slots, expired}
+use Rattle.stack.specs.Places.{slotPlace, slots, expired, levelAt, slotAt}
+use Rattle.stack.specs.Words.{headAt}
+use Rattle.stack.specs.Whole as stack
 use Rattle.stack.proofs.laws.Whole as stack-laws
-use Rattle.wheel.specs.Wheel.{OnWheel, placeFor}
+use Rattle.wheel.specs.Limited.{start}
+use Rattle.wheel.specs.Midway.{Belongs}
+use Rattle.wheel.proofs.laws.Belongs.{belongs-wheel, hand-tests}
 use Rattle.wheel.specs.Words.{WheelWhole}
 use Rattle.records.specs.Records.{lastTurn}
 use Rattle.records.specs.Slices.{Fits}
-use Rattle.records.specs.Words.{QueueWords, count, elapsed, markOf, slices, Sound}
-use Rattle.records.proofs.laws.Inner.{sound-retired}
-use Rattle.judge.specs.Judge.{RecordAgrees, RecordsAgree}
+use Rattle.records.specs.Words.{QueueWords, count, elapsed, markOf, slices, view, Standing, AtRest, MidPoll, Sound}
+use Rattle.judge.specs.Judge.{RecordAgrees, RecordsAgree, OwnStart, CanHold}
 
 -- ---- a record
 
-module _ {p e w : ℕ} where
-  pub place-told : {l s r : ℕ} → e ≤ w → block w ≡ block e → l ≡ levelOf e w → s ≡ slotOf w l → r ≡ slotPlace l s
-      → Tells (OnWheel p e w) (eqb p r)
-  unfolding placeFor
-  place-told {l} {s} {r} h b f g k =
-      let is : r ≡ slotPlace (levelOf e w) (slotOf w (levelOf e w)) = k ∙ ap (slotPlace l) g ∙ ap (λ j. slotPlace j (slotOf w j)) f in
-      tells-by (tells-eq p r) (λ q. record { place = q ∙ is; late = h; near = b }) (λ o. o .place ∙ sym is)
+module _ {low h c p w l : ℕ} (late : c ≤ w) (near : block w ≡ block c) (el : l ≡ levelOf c w) where
+  -- above the level drained into
+  pub place-above : low < l → {s r : ℕ} → s ≡ slotOf w l → r ≡ slotPlace l s → Tells (Belongs low h c p w) (eqb p r)
+  place-above g {s} {r} es er =
+      let m : l ≡ max low (levelOf c w) = omega (arith, el, g) in
+      let is : r ≡ slotPlace (max low (levelOf c w)) (slotOf w (max low (levelOf c w)))
+      = er ∙ ap (slotPlace l) es ∙ ap (λ (j : ℕ). slotPlace j (slotOf w j)) m in
+      tells-by (tells-eq p r) (λ q. record { late = late; near = near; place = inl (q ∙ is) })
+      (λ B. ⊎-elim (λ q. q ∙ sym is) (λ q. absurd (omega (arith, q .1, g, el))) (B .place))
 
-module _ {e w t m : ℕ} (some : t ≢ 0) (last : t ≤ lastTurn) where
-  agrees : (m < slots → OnWheel m e w) → (m ≡ expired → w ≡ e) → (m ≡ nobody → t ≡ lastTurn) → RecordAgrees e w t m
-  agrees f g h = record { some = omega arith; last = omega arith; wheel = f; stack = g; retired = h }
+  -- in the slot that is drained
+  pub place-hand : l ≤ low → p ≡ h → Tells (Belongs low h c p w) true
+  place-hand g q = tells-yes (record { late = late; near = near; place = inr (q, omega (arith, el, g)) })
 
-  pub record-slot : {b : Bool} → m < slots → Tells (OnWheel m e w) b → Tells (RecordAgrees e w t m) b
-  record-slot h T = tells-by T (λ o. agrees (λ g. o) (λ q. absurd (omega arith)) (λ q. absurd (omega arith))) (λ R. R .wheel h)
+  -- at the level drained into
+  pub place-low : l ≤ low → p ≢ h → {s r : ℕ} → s ≡ slotOf w low → r ≡ slotPlace low s → Tells (Belongs low h c p w) (eqb p r)
+  place-low g n {s} {r} es er =
+      let m : low ≡ max low (levelOf c w) = omega (arith, el, g) in
+      let is : r ≡ slotPlace (max low (levelOf c w)) (slotOf w (max low (levelOf c w)))
+      = er ∙ ap (slotPlace low) es ∙ ap (λ (j : ℕ). slotPlace j (slotOf w j)) m in
+      tells-by (tells-eq p r) (λ q. record { late = late; near = near; place = inl (q ∙ is) })
+      (λ B. ⊎-elim (λ q. q ∙ sym is) (λ q. absurd (n (q .0))) (B .place))
 
-  pub record-stack : m ≡ expired → Tells (RecordAgrees e w t m) (eqb w e)
-  record-stack h =
-      tells-by (tells-eq w e) (λ o. agrees (λ g. absurd (omega arith)) (λ q. o) (λ q. absurd (omega arith))) (λ R. R .stack h)
+module _ {low h c w t m : ℕ} (some : t ≢ 0) (last : t ≤ lastTurn) where
+  agrees : (m < slots → Belongs low h c m w) → (m ≡ expired → w ≡ c) → (m ≡ nobody → t ≡ lastTurn) → RecordAgrees low h c w t m
+  agrees f g k = record { some = omega arith; last = omega arith; wheel = f; stack = g; retired = k }
 
-  pub record-retired : m ≡ nobody → Tells (RecordAgrees e w t m) (eqb t lastTurn)
-  record-retired h =
-      tells-by (tells-eq t lastTurn) (λ o. agrees (λ g. absurd (omega arith)) (λ q. absurd (omega arith)) (λ q. o)) (λ R. R .retired h)
+  pub record-slot : {b : Bool} → m < slots → Tells (Belongs low h c m w) b → Tells (RecordAgrees low h c w t m) b
+  record-slot i T = tells-by T (λ o. agrees (λ g. o) (λ q. absurd (omega arith)) (λ q. absurd (omega arith))) (λ R. R .wheel i)
 
-  pub record-aside : slots ≤ m → m ≢ expired → m ≢ nobody → RecordAgrees e w t m
-  record-aside h d n = agrees (λ g. absurd (omega arith)) (λ q. absurd (d q)) (λ q. absurd (n q))
+  pub record-stack : m ≡ expired → Tells (RecordAgrees low h c w t m) (eqb w c)
+  record-stack i =
+      tells-by (tells-eq w c) (λ o. agrees (λ g. absurd (omega arith)) (λ q. o) (λ q. absurd (omega arith))) (λ R. R .stack i)
 
-pub record-next : {e n : ℕ} (ds ts ms : List ℕ) → RecordsAgree e n ds ts ms → RecordAgrees e (at ds n) (at ts n) (at ms n)
-    → RecordsAgree e (n + 1) ds ts ms
+  pub record-retired : m ≡ nobody → Tells (RecordAgrees low h c w t m) (eqb t lastTurn)
+  record-retired i =
+      tells-by (tells-eq t lastTurn) (λ o. agrees (λ g. absurd (omega arith)) (λ q. absurd (omega arith)) (λ q. o)) (λ R. R .retired i)
+
+  pub record-aside : slots ≤ m → m ≢ expired → m ≢ nobody → RecordAgrees low h c w t m
+  record-aside i d n = agrees (λ g. absurd (omega arith)) (λ q. absurd (d q)) (λ q. absurd (n q))
+
+pub record-next : {low h c n : ℕ} (ds ts ms : List ℕ) → RecordsAgree low h c n ds ts ms → RecordAgrees low h c (at ds n) (at ts n) (at ms n)
+    → RecordsAgree low h c (n + 1) ds ts ms
 record-next ds ts ms R r = below-more _ _ R r
 
 -- ---- the judgement
 
+-- by the words: beside the lists, what is asked of a store with a poll in hand and without one
 pub record Judged (s : QueueWords) : Type 0 where
   pub fits : Fits (slices s) (count s)
   pub whole : WheelWhole (s .wheel)
-  pub records : RecordsAgree (elapsed s) (count s) (s .deadlines) (s .turns) (s .wheel .stack .links .marks)
+  pub rest : AtRest s → (s .until ≡ 0) × RecordsAgree 0 nobody (elapsed s) (count s) (s .deadlines) (s .turns) (s .wheel .stack .links .marks)
+  pub mid : MidPoll s
+      → CanHold (elapsed s) (s .until) (s .hand) (headAt (s .wheel .stack) (s .hand)) (headAt (s .wheel .stack) expired)
+      × RecordsAgree (levelAt (s .hand) - 1) (s .hand) (start (elapsed s) (s .hand)) (count s) (s .deadlines) (s .turns)
+      (s .wheel .stack .links .marks)
 
 module _ {s : QueueWords} where
+  -- records by their marks, members by their lists
+  module _ (T : Standing s) {low h c : ℕ} where
+    by-marks : ((p x : ℕ) → p < slots → Mem x (view s .lists p) → Belongs low h c p (at (s .deadlines) x))
+        → ((x : ℕ) → Mem x (view s .lists expired) → at (s .deadlines) x ≡ c)
+        → RecordsAgree low h c (count s) (s .deadlines) (s .turns) (s .wheel .stack .links .marks)
+    by-marks f g i k =
+        let W = T .whole .stack in
+        record {
+          some = T .turns i k .0;
+          last = T .turns i k .1;
+          wheel = λ m. f (markOf s i) i m (stack-laws.marked-member W i k (omega arith));
+          stack = λ m. g i (rw m at (stack-laws.marked-member W i k (omega arith)));
+          retired = λ m. T .retired i k (omega (arith, k, stack-laws.small W)) m;
+        }
+
+  module _ (J : Judged s) {low h c : ℕ}
+      (R : RecordsAgree low h c (count s) (s .deadlines) (s .turns) (s .wheel .stack .links .marks)) where
+    by-lists : (p x : ℕ) → p < slots → Mem x (view s .lists p) → Belongs low h c p (at (s .deadlines) x)
+    by-lists p x h m =
+        let W = J .whole .stack in
+        let e : markOf s x ≡ p = stack-laws.member-mark W p x m in
+        rw e at (R x (stack-laws.member-below W p x m) .wheel (omega arith))
+
+    by-stack : (x : ℕ) → Mem x (view s .lists expired) → at (s .deadlines) x ≡ c
+    by-stack x m = let W = J .whole .stack in R x (stack-laws.member-below W expired x m) .stack (stack-laws.member-mark W expired x m)
+
+  by-turns : (J : Judged s) {low h c : ℕ} → RecordsAgree low h c (count s) (s .deadlines) (s .turns) (s .wheel .stack .links .marks) → Standing s
+  by-turns J R =
+      record {
+        fits = J .fits;
+        whole = J .whole;
+        turns = λ i h. let r = R i h in (r .some, r .last);
+        retired = λ i h d. R i h .retired;
+      }
+
   pub sound-judged : Sound s → Judged s
   sound-judged S =
-      let W = S .standing .whole .stack in
+      let T = S .standing in
+      let W = T .whole .stack in
       record {
-        fits = S .standing .fits;
-        whole = S .standing .whole;
-        records = λ i h.
-            record {
-              some = S .standing .turns i h .0;
-              last = S .standing .turns i h .1;
-              wheel = λ m. S .rule .wheel (markOf s i) i m (stack-laws.marked-member W i h (omega arith));
-              stack = λ m. S .rule .stack i (rw m at (stack-laws.marked-member W i h (omega arith)));
-              retired = sound-retired S i h;
-            };
+        fits = T .fits;
+        whole = T .whole;
+        rest = λ z.
+            let R = S .rule .free z in
+            (S .no-now z, by-marks T (λ p x h m. belongs-wheel nobody (elapsed s) p (at (s .deadlines) x) h (omega arith) .0 (R .wheel p x h m)) (R .stack));
+        mid = λ d.
+            let H = hand-tests (at (s .deadlines)) (s .until) (s .hand) (elapsed s) (view s .lists) .0 (S .rule .inside d) in
+            let f = H .filled in (
+              record {
+                below = H .below;
+                high = H .high;
+                filled = λ z. nil≢cons (sym (stack-laws.list-empty W (s .hand) z) ∙ f .2);
+                stack = stack-laws.head-first W expired ∙ ap (firstD nobody) (H .stack);
+                late = H .late;
+                due = H .due;
+                own = H .own;
+              },
+              by-marks T (H .each) (λ x m. absurd (subst (Mem x) (H .stack) m)),
+            );
       }
 
   pub judged-sound : Judged s → Sound s
-  judged-sound J =
-      let W = J .whole .stack in
+  judged-sound J = by-cases (ℕ-discrete (s .hand) nobody) at-rest mid-poll
+    where
+      W : stack.Whole (s .wheel .stack)
+      W = J .whole .stack
+
+      at-rest : AtRest s → Sound s
+      at-rest z =
+          let R = J .rest z in
+          record {
+            standing = by-turns J (R .1);
+            rule = record {
+              free = λ _. record {
+                wheel = λ p x h m. belongs-wheel nobody (elapsed s) p (at (s .deadlines) x) h (omega arith) .1 (by-lists J (R .1) p x h m);
+                stack = by-stack J (R .1);
+              };
+              inside = λ d. absurd (d z);
+            };
+            no-now = λ _. R .0;
+          }
+
+      mid-poll : MidPoll s → Sound s
+      mid-poll d =
+          let R = J .mid d in
+          let C = R .0 in
+          let f = stack-laws.list-cons W (s .hand) (C .filled) in
+          record {
+            standing = by-turns J (R .1);
+            rule = record {
+              free = λ z. absurd (d z);
+              inside = λ _. hand-tests (at (s .deadlines)) (s .until) (s .hand) (elapsed s) (view s .lists) .1 (record {
+                high = C .high;
+                below = C .below;
+                filled = (_, f .0, f .1);
+                stack = stack-laws.list-empty W expired (C .stack);
+                late = C .late;
+                due = C .due;
+                each = by-lists J (R .1);
+                own = C .own;
+              });
+            };
+            no-now = λ z. absurd (d z);
+          }
+
+-- by the answer of the judge of the records
+module _ {s : QueueWords} (F : Fits (slices s) (count s)) (W : WheelWhole (s .wheel)) {b : Bool} where
+  pub judged-rest : (h : ℕ) → h ≡ nobody → AtRest s → s .until ≡ 0
+      → Tells (RecordsAgree 0 h (elapsed s) (count s) (s .deadlines) (s .turns) (s .wheel .stack .links .marks)) b → Tells (Sound s) b
+  judged-rest h is z u T =
+      tells-by (rw is at T)
+      (λ R. judged-sound (record { fits = F; whole = W; rest = λ _. (u, R); mid = λ d. absurd (d z) }))
+      (λ S. sound-judged S .rest z .1)
+
+  pub judged-mid : MidPoll s → CanHold (elapsed s) (s .until) (s .hand) (headAt (s .wheel .stack) (s .hand)) (headAt (s .wheel .stack) expired)
+      → (k c : ℕ) → k ≡ levelAt (s .hand) → c ≡ start (elapsed s) (s .hand)
+      → Tells (RecordsAgree (k - 1) (s .hand) c (count s) (s .deadlines) (s .turns) (s .wheel .stack .links .marks)) b → Tells (Sound s) b
+  judged-mid d H k c ek ec T =
+      tells-by (rw (ek, ec) at T)
+      (λ R. judged-sound (record { fits = F; whole = W; rest = λ z. absurd (d z); mid = λ _. (H, R) }))
+      (λ S. sound-judged S .mid d .1)
+
+-- ---- a poll in hand
+
+-- the start of a slot, as the code computes it
+pub start-of : (e p : ℕ) {k s c : ℕ} → k ≡ levelAt p → s ≡ slotAt p → c ≡ startAt e k s → c ≡ start e p
+start-of e p ek es ec = ec ∙ rw (ek, es)
+
+pub own-told : {k a : ℕ} (e : ℕ) → a ≡ suc k → e % 2 ^ 36 ≢ 0 → {r : ℕ} → r ≡ width a → Tells (OwnStart k e) (eqb (e % r) 0)
+own-told {k} {a} e ea n {r} er =
+    let z : e % r ≡ e % width (suc k) = ap (λ (j : ℕ). e % j) (er ∙ ap width ea) in
+    tells-by (tells-eq (e % r) 0) (λ q. (sym z ∙ q, n)) (λ o. z ∙ o .0)
+
+pub own-top : {k a : ℕ} (e : ℕ) → a ≡ suc k → a ≡ 6 → e % 2 ^ 36 ≢ 0 → OwnStart k e → ⊥
+unfolding width
+own-top {k} {a} e ea z n o = n (ap (λ (j : ℕ). e % width j) (sym z ∙ ea) ∙ o .0)
+
+module _ {e until p head first : ℕ} (below : p < slots) (high : levelAt p ≢ 0) (filled : head ≢ nobody) (stack : first ≡ nobody) {c : ℕ}
+    (ec : c ≡ start e p) (due : c ≤ until) where
+  holds : e ≤ c → (c ≡ e → OwnStart (levelAt p) e) → CanHold e until p head first
+  holds l o =
       record {
-        standing = record {
-          fits = J .fits;
-          whole = J .whole;
-          turns = λ i h. let r = J .records i h in (r .some, r .last);
-          retired = λ i h d. J .records i h .retired;
-        };
-        rule = record {
-          wheel = λ p x h m.
-              let e : markOf s x ≡ p = stack-laws.member-mark W p x m in
-              rw e at (J .records x (stack-laws.member-below W p x m) .wheel (omega arith));
-          stack = λ x m. J .records x (stack-laws.member-below W expired x m) .stack (stack-laws.member-mark W expired x m);
-        };
+        below = below;
+        high = omega (arith, high);
+        filled = filled;
+        stack = stack;
+        late = omega (arith, l, ec);
+        due = omega (arith, due, ec);
+        own = λ z. o (ec ∙ z);
+      }
+
+  pub hold-own : c ≡ e → {b : Bool} → Tells (OwnStart (levelAt p) e) b → Tells (CanHold e until p head first) b
+  hold-own z T = tells-by T (λ o. holds (omega (arith, z)) (λ _. o)) (λ H. H .own (sym ec ∙ z))
+
+  pub hold-later : c ≢ e → Tells (CanHold e until p head first) (ltb e c)
+  hold-later n =
+      record {
+        yes = λ q. holds (omega (arith, ltb-true e c q)) (λ z. absurd (n z));
+        no = λ q H. omega (arith, ltb-false e c q, H .late, ec, n);
       }

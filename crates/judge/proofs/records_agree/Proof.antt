@@ -10,10 +10,10 @@ use Rattle.judge.proofs.records_agree.Statement.{statement}
 use Rattle.judge.proofs.records_agree.Tie as tie
 
 abbrev Inv-loop : tie.InvT-loop
-Inv-loop elapsed n deadlines turns marks i₀ i = (i ≤ n) × RecordsAgree elapsed i deadlines turns marks
+Inv-loop low hand clock n deadlines turns marks i₀ i = (i ≤ n) × RecordsAgree low hand clock i deadlines turns marks
 
 abbrev μ-loop : tie.MeasureT-loop
-μ-loop elapsed n deadlines turns marks i₀ i = n - i
+μ-loop low hand clock n deadlines turns marks i₀ i = n - i
 
 abbrev to-in-loop : tie.After-record-agrees Inv-loop μ-loop → tie.In-loop Inv-loop μ-loop
 to-in-loop c = c .before .before .before .before

@@ -43,6 +43,7 @@ step-size (S.Asks (C.Insert value when (suc p))) =
 step-size (S.Asks (C.Reset key when)) = omega (arith, entry-length 3 key when)
 step-size (S.Asks (C.Remove key)) = omega (arith, entry-length 4 key 0)
 step-size (S.Asks (C.Poll now)) = omega (arith, entry-length 5 now 0)
+step-size (S.Asks (C.PollSome now limit)) = omega (arith, entry-length 11 now limit)
 step-size (S.Asks C.Wake) = omega arith
 step-size (S.Asks C.Length) = omega arith
 step-size (S.Asks C.Clear) = omega (arith, entry-length 6 0 0)

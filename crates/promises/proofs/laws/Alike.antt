@@ -55,7 +55,7 @@ formatted-alike {s} {t} {n = n} {turn = turn} {a = a} {b = b} F G = (
 )
 
 -- a format that is not refused found room, and its turn in range
-format-taken : {s s′ : QueueWords} {n turn : ℕ} {a : Answer} → FormatClaim s n turn a s′ → isNo (told a) ≡ false → Fits (slices s) n × InRange turn
+pub format-taken : {s s′ : QueueWords} {n turn : ℕ} {a : Answer} → FormatClaim s n turn a s′ → isNo (told a) ≡ false → Fits (slices s) n × InRange turn
 format-taken {s} {n = n} {turn = turn} {a = a} F e =
     by-cases (fits-dec s n)
     (λ x. by-cases (range-dec turn) (λ y. (x, y)) (λ f. absurd (not-no (F .outside x f .told))))
@@ -80,6 +80,7 @@ by-format P f g (C.Insert value when period) = g (C.Insert value when period) re
 by-format P f g (C.Reset key when) = g (C.Reset key when) refl
 by-format P f g (C.Remove key) = g (C.Remove key) refl
 by-format P f g (C.Poll now) = g (C.Poll now) refl
+by-format P f g (C.PollSome now limit) = g (C.PollSome now limit) refl
 by-format P f g C.Wake = g C.Wake refl
 by-format P f g C.Length = g C.Length refl
 by-format P f g C.Clear = g C.Clear refl

@@ -1,35 +1,39 @@
 -- Demand 3 in its own sentences: each poll of a run reports the levels that were lost, all moves are at most five for each accepted insert or reset, and a
 -- due timer is out or removed within as many accepted polls as timers were pending.
 use mathlib.Core.Path.{_≡_, refl, sym, ap, _∙_, subst}
-use mathlib.Core.Logic.{by-cases}
-use mathlib.Core.Bool.{Bool, true, false, _&&_, cond, true≢false, and-false}
+use mathlib.Core.Logic.{inl, ⊎-elim, by-cases}
+use mathlib.Core.Bool.{Bool, true, false, not, _&&_, cond, true≢false, and-false}
 use mathlib.Core.List.{List, [], _∷_}
 use mathlib.Core.Option.{Option, none, some}
-use Prim.Native.Nat.{ℕ, _+_, _≤_}
-use native.Mathlib.Decide.{decLt}
+use Prim.Native.Nat.{ℕ, _+_, _-_, _≤_, _<_, max}
+use native.Mathlib.Decide.{decLt, ℕ-discrete}
 use native.Mathlib.Omega.{arith}
 use borrow.Author.Tests.{le-leb, lt-ltb, le-ltb}
-use Rattle.times.specs.Times.{levelOf}
-use Rattle.times.proofs.laws.Levels.{level-is}
-use Rattle.times.proofs.laws.Quotients.{quotient-le, slot-lt}
-use Rattle.stack.specs.Places.{slots, expired, levelAt}
-use Rattle.wheel.specs.Wheel.{placeFor, OnWheel}
+use Rattle.times.specs.Times.{slotOf}
+use Rattle.times.proofs.laws.Quotients.{slot-lt}
+use Rattle.links.specs.Lists.{nobody, Mem, change}
+use Rattle.stack.specs.Places.{slotPlace, slots, expired, levelAt}
+use Rattle.wheel.specs.Wheel.{Lists, arrive}
+use Rattle.wheel.specs.Limited.{Outcome, ended as stopped, yet, Limited, rests, waits, hands, finds, stops, moves, empties}
+use Rattle.wheel.specs.Turns.{gotten}
+use Rattle.wheel.proofs.laws.Turns.{got-none, got-some}
+use Rattle.wheel.proofs.laws.Sums.{mem-left, mem-joined}
 use Rattle.wheel.specs.Drain.{heights}
-use Rattle.wheel.specs.Poll.{clockAfter}
-use Rattle.queue.specs.declared.Answer.{Answer}
 use Rattle.queue.specs.declared.Answer.the-variants as A
 use Rattle.queue.specs.Told.{told, Told, handing}
 use Rattle.queue.specs.Told as T
-use Rattle.queue.specs.Steps.{pending, QueuePolls, nothing, handed}
-use Rattle.records.specs.Records.{At}
+use Rattle.queue.specs.Steps.{pending, GoesOn, once, again, ended, TakesSome, popped-some, polled-some, PollsSome, handed-some, nothing-some, not-yet}
+use Rattle.records.specs.Records.{At, target, placed}
 use Rattle.records.specs.Slices.{Fits}
 use Rattle.records.specs.View.{View}
-use Rattle.records.specs.Words.{QueueWords, elapsed, slices, view, Sound}
+use Rattle.records.specs.Words.{QueueWords, AtRest, slices, view, Sound}
 use Rattle.delay_queue.specs.declared.Call.{Call}
 use Rattle.delay_queue.specs.declared.Call.the-variants as C
-use Rattle.delay_queue.specs.Claims.{InRange, Formatted, PollClaim, RemoveClaim, CallClaim}
+use Rattle.delay_queue.specs.Claims.{InRange, Formatted, RemoveClaim, CallClaim}
 use Rattle.promises.specs.OneCall.{isNo, blank, one}
-use Rattle.promises.specs.Runs.{Asked, Runs, rest, next, accepted, isPoll, All, tally, movesOf, Each}
+use Rattle.promises.specs.Runs.{Asked, Runs, rest, next, ends, isPoll, All, tallyEnded, movesOf, Each}
+use Rattle.pausing.specs.Pausing.{PollTaken}
+use Rattle.promises.specs.Polls.{PollAt, whole, limited}
 use Rattle.promises.specs.Polling.{Dead}
 use Rattle.promises.specs.Waiting.{Undisturbed, duePoll, NoneRepeats}
 use Rattle.promises.specs.Keys.{asked}
@@ -40,11 +44,13 @@ use Rattle.promises.proofs.laws.Decided.{fits-dec, range-dec}
 use Rattle.promises.proofs.laws.OneCall.{call-sound, fits, one-made, insert-shown}
 use Rattle.promises.proofs.laws.Runs.{run-sound}
 use Rattle.promises.proofs.laws.Views.{call-goes}
-use Rattle.promises.proofs.laws.Polling.{poll-parts, none-out}
-use Rattle.promises.proofs.laws.Moves.{moves-are-heights, moves-bounded, goes-deadline}
-use Rattle.promises.proofs.laws.Waiting.{pending-some, counted, Went, waits, comes, leaves, went, dead-run}
+use Rattle.promises.proofs.laws.Polling.{none-out, no-last, freed-beside}
+use Rattle.promises.proofs.laws.Does.{poll-done, poll-taken}
+use Rattle.promises.proofs.laws.Moves.{view-heights, moves-bounded}
+use Rattle.promises.proofs.laws.Waiting.{pending-some, counted, Went, comes, leaves, went, dead-run}
+use Rattle.promises.proofs.laws.Waiting as waiting-laws
 use Rattle.promises.proofs.laws.Shown.{waiting, waiting-deadline, waiting-pending, waited-shown}
-use Rattle.promises.proofs.laws.TakesOut.{one-list, taken-out}
+use Rattle.promises.proofs.laws.TakesOut.{one-list, taken-out, key-of-names}
 
 -- ---- moves
 
@@ -60,76 +66,95 @@ fresh-formatted {t} F = by (fits-dec (F .lent) (F .n)) (range-dec (F .turn))
     by (yes x) (no f) = absurd (not-refused (F .formats .outside x f .told))
     by (yes x) (yes y) = F .formats .done x y
 
--- the nearer elapsed is to a deadline, the lower is its level
-level-falls : (e f w : ℕ) → e ≤ f → f ≤ w → levelOf f w ≤ levelOf e w
-level-falls e f w h g =
-    let k = levelOf f w in
-    by-cases (decLt (levelOf e w) k)
-    (λ l.
-    let a = level-is e w .above k l (level-is f w .within) in
-    absurd (level-is f w .differ (omega arith) (omega (arith, a, quotient-le k h, quotient-le k g))))
-    (λ l. omega arith)
+-- ---- no timer rises
 
-level-self : (e : ℕ) → levelOf e e ≡ 0
-level-self e = by-cases (decLt 0 (levelOf e e)) (λ h. absurd (level-is e e .differ h refl)) (λ h. omega arith)
+height-most : (p : ℕ) → heightAt p ≤ levelAt p
+height-most p =
+    by-cases (decLt p slots) (λ h. rw (lt-ltb p slots h) (omega arith)) (λ h. rw (le-ltb p slots (omega arith)) (omega arith))
 
-slot-level : (p e w : ℕ) → OnWheel p e w → levelAt p ≡ levelOf e w
-unfolding placeFor
-slot-level p e w o = omega (arith, o .place, slot-lt w (levelOf e w))
+Below : Option ℕ → Type 0
+Below none = Unit {0}
+Below (some p) = p < slots
 
--- a pending timer is not before elapsed, and its height is the level of its deadline
-timer-height : {s : QueueWords} → Sound s → {y p : ℕ} → At (view s) y p
-    → (elapsed s ≤ view s .deadline y) × (heightAt p ≡ levelOf (elapsed s) (view s .deadline y))
-timer-height {s} S {y} {p} a =
-    by-cases (decLt p slots)
-    (λ h.
-    let o = S .rule .wheel p y h (a .member) in
-    (o .late, rw (lt-ltb p slots h) (slot-level p (elapsed s) (view s .deadline y) o)))
-    (λ h.
-    let e : p ≡ expired = omega arith in
-    let w : view s .deadline y ≡ elapsed s = S .rule .stack y (rw e at (a .member)) in
-    (omega arith, rw (le-ltb p slots (omega arith), w) (sym (level-self (elapsed s)))))
+-- who lies in a place after a call of the wheel lay as high or higher before it
+module _ {d : ℕ → ℕ} {now : ℕ} where
+  limited-falls : {h : Option ℕ} {b e m n c : ℕ} {L N : Lists} {o : Outcome} → Limited d now h b e L o m n c N → Below h → (y q : ℕ) → Mem y (N q)
+      → (p : ℕ) × Mem y (L p) × (heightAt q ≤ heightAt p)
+  unfolding arrive Below
+  limited-falls (rests E) h y q k = (q, k, omega arith)
+  limited-falls (waits F g) h y q k = (q, k, omega arith)
+  limited-falls (hands {s = s} {x = x} {L = L} {l = l} F g is) h y q k = (q, mem-left L (slotPlace 0 s) x l is q y k, omega arith)
+  limited-falls (finds {k = j} {s = s} F g r) h y q k = limited-falls r (omega (arith, F .within, F .is)) y q k
+  limited-falls (stops i) h y q k = (q, k, omega arith)
+  limited-falls (moves {p = p} {x = x} {L = L} {l = l} i r) h y q k =
+      let a = limited-falls r h y q k in
+      let o = slotPlace (levelAt p - 1) (slotOf (d x) (levelAt p - 1)) in
+      let top : heightAt p ≡ levelAt p = rw (lt-ltb p slots h) refl in
+      ⊎-elim
+      (λ z.
+      let low : heightAt (a .0) ≤ levelAt (a .0) = height-most (a .0) in
+      (p, rw (z .1, i) (inl refl), omega (arith, a .2, low, top, z .0, slot-lt (d x) (levelAt p - 1))))
+      (λ m. (a .0, mem-left L p x l i (a .0) y m, a .2))
+      (mem-joined (change L p l) o x (a .0) y (a .1))
+  limited-falls (empties i r) h y q k = limited-falls r tt y q k
 
-module _ {s : QueueWords} (S : Sound s) {now : ℕ} (h : elapsed s ≤ now) {a : Answer} {t : QueueWords} (P : PollClaim s now a t) where
-  clock-on : elapsed s ≤ elapsed t
-  clock-on = by (poll-parts S h P .got) (poll-parts S h P .clock)
-    where
-      by : (o : Option ℕ) → elapsed t ≡ clockAfter (view s .deadline) now (elapsed s) o → elapsed s ≤ elapsed t
-      by none c = omega arith
-      by (some r) c = omega arith
+module _ {s : QueueWords} (S : Sound s) {now : ℕ} (h : PollTaken (view s) now) where
+  hand-below : Below (gotten (s .hand))
+  unfolding Below
+  hand-below =
+      by-cases (ℕ-discrete (s .hand) nobody)
+      (λ z. subst (λ (o : Option ℕ). Below o) (sym (got-none (s .hand) z)) tt)
+      (λ d. subst (λ (o : Option ℕ). Below o) (sym (got-some (s .hand) d)) (S .rule .inside d .below))
 
-  -- a timer that is not set again keeps its deadline
-  same-deadline : (y p : ℕ) → At (view s) y p → (IsSetAgain (view s) (told a) y → ⊥) → view t .deadline y ≡ view s .deadline y
-  same-deadline y p c f = of (P .good S .done h .1) f
-    where
-      of : {x : Told} {w : View} → QueuePolls (view s) now x w → (IsSetAgain (view s) x y → ⊥) → w .deadline y ≡ view s .deadline y
-      of (nothing T) g = ap (λ e. e y) (taken-out S h T .deadline)
-      of (handed T G) g = goes-deadline S h T G y g
+  takes-falls : {limit m n : ℕ} {o : Outcome} {u : View} → TakesSome (view s) now limit o m n u → (y q : ℕ) → Mem y (u .lists q)
+      → (p : ℕ) × Mem y (view s .lists p) × (heightAt q ≤ heightAt p)
+  takes-falls (popped-some {r = r} {l = l} e) y q k = (q, mem-left (view s .lists) expired r l e q y k, omega arith)
+  takes-falls (polled-some {o = stopped g} e r) y q k = limited-falls r hand-below y q k
+  takes-falls (polled-some {o = yet g} e r) y q k = limited-falls r hand-below y q k
 
-  poll-loses : LosesLevels (view s) (told a) (view t)
-  poll-loses =
-      let M = moves-are-heights S h P in
+  -- who is not set again lies where it lay before the hand-out
+  goes-from : {limit r m n : ℕ} {u : View} {x : Told} {w : View} → TakesSome (view s) now limit (stopped (some r)) m n u → GoesOn (view s) r m n u x w
+      → (y q : ℕ) → (IsSetAgain (view s) x y → ⊥) → At w y q → Mem y (u .lists q)
+  unfolding placed
+  goes-from {r = r} {u = u} T (once z) y q f a = rw (freed-beside r u .lists q (a .timed)) at (a .member)
+  goes-from {r = r} {u = u} T (ended p g) y q f a = rw (freed-beside r u .lists q (a .timed)) at (a .member)
+  goes-from {r = r} {u = u} T (again p g) y q f a =
+      let O = taken-out S h T in
+      let N = key-of-names S (O .out r refl .1) in
+      let more : y ≡ r → view s .period y ≡ 0 → ⊥ = λ e z. omega (arith, ap (view s .period) e, p) in
+      let when = max (view s .deadline r + view s .period r) (u .elapsed) in
+      ⊎-elim (λ z. absurd (f (_, _, _, _, _, refl, z .1 ∙ N .number, ⊎-elim (more (z .1)) no-last))) (λ m. m)
+      (mem-joined (u .lists) (target (u .elapsed) when) r q y (a .member))
+
+  poll-falls : {limit : ℕ} {x : Told} {w : View} → PollsSome (view s) now limit x w → (y p q : ℕ) → (IsSetAgain (view s) x y → ⊥) → At (view s) y p
+      → At w y q → heightAt q ≤ heightAt p
+  poll-falls (handed-some T G) y p q f a b =
+      let k = takes-falls T y q (goes-from T G y q f b) in
+      subst (λ (j : ℕ). heightAt q ≤ heightAt j) (one-list S y (k .0) p (k .1) (a .member)) (k .2)
+  poll-falls (nothing-some T) y p q f a b =
+      let k = takes-falls T y q (b .member) in
+      subst (λ (j : ℕ). heightAt q ≤ heightAt j) (one-list S y (k .0) p (k .1) (a .member)) (k .2)
+  poll-falls (not-yet T) y p q f a b =
+      let k = takes-falls T y q (b .member) in
+      subst (λ (j : ℕ). heightAt q ≤ heightAt j) (one-list S y (k .0) p (k .1) (a .member)) (k .2)
+
+  poll-loses : {limit : ℕ} {x : Told} {w : View} → PollsSome (view s) now limit x w → LosesLevels (view s) x w
+  poll-loses Q =
+      let M = view-heights S h Q in
       record {
         added = M .0;
         lost = M .1;
         nothing-added = M .2;
         height-added = M .3;
-        none-rises = λ y p q f x z.
-            let before = timer-height S x in
-            let after = timer-height (P .good S .done h .0) z in
-            let same : view t .deadline y ≡ view s .deadline y = same-deadline y p x f in
-            let falls = level-falls (elapsed s) (elapsed t) (view s .deadline y) clock-on (omega (arith, after .0, same)) in
-            let now-at : heightAt q ≡ levelOf (elapsed t) (view s .deadline y) = after .1 ∙ ap (levelOf (elapsed t)) same in
-            omega (arith, before .1);
+        none-rises = λ y p q f a b. poll-falls Q y p q f a b;
       }
 
--- a poll before elapsed is refused, reports nothing and changes nothing
+-- a poll that is refused reports nothing and changes nothing
 poll-lost : {s : QueueWords} (x : Asked) (t : QueueWords) → Sound s → CallClaim (x .call) s (x .answer) t → ReportsLost s x t
-poll-lost {s} x t S A now e =
-    let P : PollClaim s now (x .answer) t = subst (λ c. CallClaim c s (x .answer) t) e A in
-    by-cases (decLt now (elapsed s))
-    (λ h.
-    let R = P .good S .back h in
+poll-lost {s} x t S A now at =
+    ⊎-elim
+    (λ r.
+    let R = r .1 in
     let nobody-set : (y : ℕ) → IsSetAgain (view s) (told (x .answer)) y → ⊥ = λ y z. none-out (ap handing (sym (R .told)) ∙ z .5) in
     record {
       added = 0;
@@ -141,7 +166,8 @@ poll-lost {s} x t S A now e =
           let z : p ≡ q = one-list S y p q (a .member) (c .member) in
           rw z (omega arith);
     })
-    (λ h. poll-loses S (omega arith) P)
+    (λ K. poll-loses S K (poll-done S at K (x .answer) t A .1))
+    (poll-taken S at A)
 
 -- "each poll reports as many moves as the pending timers lost in levels during it": so from any sound store
 pub each-lost : {s u : QueueWords} {l : List Asked} → Sound s → (R : Runs s l u) → Each ReportsLost R
@@ -151,17 +177,33 @@ each-lost S (next {s} {t} {u} {x} {l} A R) = (poll-lost x t S A, each-lost (call
 -- ---- waiting
 
 -- a poll at or past d is one at which d is due
-due-counted : (d : ℕ) (c : Call) (b : Bool) → ((now : ℕ) → c ≡ C.Poll now → b ≡ true → d ≤ now)
+due-counted : (d : ℕ) (c : Call) (b : Bool) → ((now : ℕ) → PollAt c now → b ≡ true → d ≤ now)
     → _≡_ {A = ℕ} (cond (duePoll d c && b) 1 0) (cond (isPoll c && b) 1 0)
 due-counted d (C.Format n turn) b f = refl
 due-counted d (C.Insert value when period) b f = refl
 due-counted d (C.Reset key when) b f = refl
 due-counted d (C.Remove key) b f = refl
-due-counted d (C.Poll now) true f = rw (le-leb d now (f now refl refl))
+due-counted d (C.Poll now) true f = rw (le-leb d now (f now whole refl))
 due-counted d (C.Poll now) false f = rw (and-false (duePoll d (C.Poll now)))
+due-counted d (C.PollSome now limit) true f = rw (le-leb d now (f now limited refl))
+due-counted d (C.PollSome now limit) false f = rw (and-false (duePoll d (C.PollSome now limit)))
 due-counted d C.Wake b f = refl
 due-counted d C.Length b f = refl
 due-counted d C.Clear b f = refl
+
+-- what has ended was accepted
+ends-accepted : (x : Told) → ends x ≡ true → not (isNo x) ≡ true
+ends-accepted T.ok e = refl
+ends-accepted (T.key k) e = refl
+ends-accepted (T.gone v d) e = refl
+ends-accepted (T.out k v d m n) e = refl
+ends-accepted (T.last k v d m n) e = refl
+ends-accepted (T.none m n) e = refl
+ends-accepted (T.yet m n) e = refl
+ends-accepted (T.wake t) e = refl
+ends-accepted T.never e = refl
+ends-accepted (T.len n) e = refl
+ends-accepted (T.no n) e = absurd (true≢false (sym e))
 
 one-call : (c : Call) (b : Bool) → cond (isPoll c && b) 1 0 ≤ 1
 one-call c b = by (isPoll c && b)
@@ -171,7 +213,7 @@ one-call c b = by (isPoll c && b)
     by false = omega arith
 
 -- a call goes before
-within-later : {n m : ℕ} {P : Asked → Type 0} {x : Asked} {l : List Asked} → tally isPoll (x ∷ []) + n ≤ m → Within n P l → Within m P (x ∷ l)
+within-later : {n m : ℕ} {P : Asked → Type 0} {x : Asked} {l : List Asked} → tallyEnded isPoll (x ∷ []) + n ≤ m → Within n P l → Within m P (x ∷ l)
 within-later {x = x} h W =
     record {
       before = x ∷ W .before;
@@ -182,24 +224,24 @@ within-later {x = x} h W =
       few = omega (arith, W .few);
     }
 
--- the timer waits on, and each accepted poll has handed out another; or it is out or removed
+-- the timer waits on, and each ended poll has handed out another; or it is out or removed
 data Ending (s : QueueWords) (l : List Asked) (u : QueueWords) (k v d : ℕ) : Type 0 where
-  still : Reaches (view u) k v 0 d → pending (view u) + tally isPoll l ≤ pending (view s) → Ending s l u k v d
+  still : Reaches (view u) k v 0 d → pending (view u) + tallyEnded isPoll l ≤ pending (view s) → Ending s l u k v d
   left : LeavesWithin (pending (view s)) k v d l u → Ending s l u k v d
 
 due-ends : {s u : QueueWords} {l : List Asked} {k v d : ℕ} → Sound s → NoneRepeats (view s) → Reaches (view s) k v 0 d → Runs s l u
     → All Undisturbed l
     → All (AtOrPast d) l
     → Ending s l u k v d
-due-ends S once R rest q a = still R (omega arith)
-due-ends {k = k} {v = v} {d = d} S once R (next {s} {t} {u} {x} {l} A r) q a =
-    by (went S once R (call-goes (x .call) s (x .answer) t S A) (q .0)) (λ o M. due-ends after o M r (q .1) (a .1))
+due-ends S nr R rest q a = still R (omega arith)
+due-ends {k = k} {v = v} {d = d} S nr R (next {s} {t} {u} {x} {l} A r) q a =
+    by (went S nr R (call-goes (x .call) s (x .answer) t S A) (q .0)) (λ o M. due-ends after o M r (q .1) (a .1))
   where
     after : Sound t
     after = call-sound (x .call) s (x .answer) t A S
 
-    same : counted d (x .call) (told (x .answer)) ≡ cond (isPoll (x .call) && accepted x) 1 0
-    same = due-counted d (x .call) (accepted x) (a .0)
+    same : counted d (x .call) (told (x .answer)) ≡ cond (isPoll (x .call) && ends (told (x .answer))) 1 0
+    same = due-counted d (x .call) (ends (told (x .answer))) (λ now at e. a .0 now at (ends-accepted (told (x .answer)) e))
 
     later : pending (view t) + counted d (x .call) (told (x .answer)) ≤ pending (view s) → Ending t l u k v d → Ending s (x ∷ l) u k v d
     later c (still M h) = still M (omega (arith, same))
@@ -214,21 +256,24 @@ due-ends {k = k} {v = v} {d = d} S once R (next {s} {t} {u} {x} {l} A r) q a =
             after = l;
             split = refl;
             such = o;
-            few = omega (arith, one-call (x .call) (accepted x), pending-some (R .names .pending));
+            few = omega (arith, one-call (x .call) (ends (told (x .answer))), pending-some (R .names .pending));
           };
           dead = dead-run after r (q .1) h;
         })
 
-    answers : x .call ≡ C.Remove k → told (x .answer) ≡ T.gone v d
-    answers e =
+    -- accepted, so no poll was in hand
+    answers : x .call ≡ C.Remove k → isNo (told (x .answer)) ≡ false → told (x .answer) ≡ T.gone v d
+    answers e f =
         let B : RemoveClaim s k (x .answer) t = subst (λ c. CallClaim c s (x .answer) t) e A in
-        B .good S .done (R .number) (R .place) (R .names) .told ∙ (λ i. T.gone (R .value i) (R .deadline i))
+        let z : AtRest s = by-cases (ℕ-discrete (s .hand) nobody) (λ q. q)
+        (λ q. absurd (true≢false (sym (ap isNo (B .good S .held q .told)) ∙ f))) in
+        B .good S .free z .done (R .number) (R .place) (R .names) .told ∙ (λ i. T.gone (R .value i) (R .deadline i))
 
     by : Went (view s) k v d (x .call) (told (x .answer)) (view t) → (NoneRepeats (view t) → Reaches (view t) k v 0 d → Ending t l u k v d)
         → Ending s (x ∷ l) u k v d
-    by (waits M o c) f = later c (f o M)
+    by (waiting-laws.waits M o c) f = later c (f o M)
     by (comes e z h) f = at-once (out e z) h
-    by (leaves e z h) f = at-once (removed e (answers e)) h
+    by (leaves e z h) f = at-once (removed e (answers e z)) h
 
 -- "A timer that is due, with no insert, reset, clear or format after that and every poll's now at or past its deadline, is out or removed within as many
 -- accepted polls as timers were pending": so in any sound store
@@ -274,7 +319,7 @@ fresh-shown =
     }
 
 pub due-shown : (u : QueueWords) × Runs one (asked (C.Insert 7 70 0) (A.Key 65536) ∷ []) waiting × DueAfter waiting 65536 0 65 polledAt70 u
-    × (pending (view waiting) ≤ tally isPoll polledAt70)
+    × (pending (view waiting) ≤ tallyEnded isPoll polledAt70)
 due-shown =
     let w = waited-shown in (
       w .0,
@@ -284,7 +329,10 @@ due-shown =
         once = w .1 .once;
         runs = w .1 .runs;
         undisturbed = w .1 .undisturbed;
-        past = (λ now e h. let z : 70 ≡ now = cc in omega (arith, waiting-deadline), tt);
+        past = (λ now at h. at-seventy at, tt);
       },
       omega (arith, waiting-pending),
     )
+  where
+    at-seventy : {now : ℕ} → PollAt (C.Poll 70) now → view waiting .deadline 0 ≤ now
+    at-seventy whole = omega (arith, waiting-deadline)

@@ -23,6 +23,8 @@ use Rattle.stack.specs.Words.{stackWords, headAt}
 use Rattle.stack.specs.Whole as stack
 use Rattle.stack.proofs.laws.Whole as stack-laws
 use Rattle.wheel.specs.Wheel.{Lists, Rule}
+use Rattle.wheel.specs.Between.{Draining}
+use Rattle.wheel.specs.Midway.{Obeys}
 use Rattle.wheel.specs.Words.{wheelWords, lists as listsIn}
 use Rattle.records.specs.Slices.{Room}
 use Rattle.records.specs.View.{View, viewOf, upd}
@@ -67,13 +69,40 @@ fam-agree {P} {n} {s} {t} {L} K F =
 rule-agree : {d f : ℕ → ℕ} {e : ℕ} {L : Lists} → ((p x : ℕ) → Mem x (L p) → f x ≡ d x) → Rule d e L → Rule f e L
 rule-agree k R = record { wheel = λ p x h m. rw (k p x m) (R .wheel p x h m); stack = λ x m. k _ x m ∙ R .stack x m }
 
+draining-agree : {d f : ℕ → ℕ} {k h e : ℕ} {L : Lists} → ((p x : ℕ) → Mem x (L p) → f x ≡ d x) → Draining d k h e L → Draining f k h e L
+draining-agree {h = h} a D =
+    record {
+      spot = λ q y b m. rw (a q y m) (D .spot q y b m);
+      hand = λ y m. rw (a h y m) (D .hand y m);
+      low = D .low;
+      later = λ q y b n m g. rw (a q y m) (D .later q y b n m g);
+    }
+
+obeys-agree : {d f : ℕ → ℕ} {u h e : ℕ} {L : Lists} → ((p x : ℕ) → Mem x (L p) → f x ≡ d x) → Obeys d u h e L → Obeys f u h e L
+obeys-agree a O =
+    record {
+      free = λ z. rule-agree a (O .free z);
+      inside = λ z.
+          let I = O .inside z in
+          record {
+            high = I .high;
+            below = I .below;
+            filled = I .filled;
+            stack = I .stack;
+            late = I .late;
+            due = I .due;
+            rule = draining-agree a (I .rule);
+            own = I .own;
+          };
+    }
+
 -- ---- stores that are cut alike
 
 -- the state and the heads of s, over the slices of t
 abbrev over : QueueWords → QueueWords → QueueWords
 over s t =
     queueWords (wheelWords (elapsed s) (s .wheel .occupied) (stackWords (s .wheel .stack .stacks) (s .wheel .stack .heads) (t .wheel .stack .links)))
-    (t .values) (t .deadlines) (t .turns)
+    (t .values) (t .deadlines) (t .turns) (s .hand) (s .until)
 
 module _ {s t : QueueWords} (A : Alike s t) where
   over-is : over s t ≡ t
@@ -82,7 +111,7 @@ module _ {s t : QueueWords} (A : Alike s t) where
       queueWords
       (wheelWords (A .same i .wheel .elapsed) (A .same i .wheel .occupied)
       (stackWords (A .same i .wheel .stack .stacks) (A .same i .wheel .stack .heads) (t .wheel .stack .links)))
-      (t .values) (t .deadlines) (t .turns)
+      (t .values) (t .deadlines) (t .turns) (A .same i .hand) (A .same i .until)
 
   pub alike-size : count s ≡ count t
   unfolding upTo
@@ -148,7 +177,8 @@ module _ {s t : QueueWords} (A : Alike s t) where
             turns = λ i h. rw (turns .same i h) (T .turns i h);
             retired = λ i h d m. turns .same i h ∙ T .retired i h d (sym (marks .same i h) ∙ m);
           };
-          rule = rw over-lists (rule-agree (λ p x m. deadlines .same x (stack-laws.member-below (W .stack) p x m)) (S .rule));
+          rule = rw over-lists (obeys-agree (λ p x m. deadlines .same x (stack-laws.member-below (W .stack) p x m)) (S .rule));
+          no-now = S .no-now;
         }
 
     -- a store is sound, or not, by what its N records have
@@ -182,7 +212,7 @@ cut-alike s =
           queueWords
           (wheelWords (elapsed s) (s .wheel .occupied)
           (stackWords (t .stacks) (t .heads) (links (same (t .links .nexts) i) (same (t .links .prevs) i) (same (t .links .marks) i))))
-          (two i) (same (s .deadlines) i) (same (s .turns) i);
+          (two i) (same (s .deadlines) i) (same (s .turns) i) (s .hand) (s .until);
     }
 
 pub cut-sound : {s : QueueWords} → Sound s → Sound (cut s)
@@ -237,6 +267,7 @@ take-below g n m l f h =
 abbrev pub masked : View → View
 masked v =
     viewOf (v .n) (v .elapsed) (v .lists) (below (v .n) (v .value)) (below (v .n) (v .period)) (below (v .n) (v .deadline)) (below (v .n) (v .turn))
+    (v .hand) (v .until)
 
 pub cut-view : {s : QueueWords} → Sound s → view (cut s) ≡ masked (view s)
 unfolding upTo
@@ -301,4 +332,6 @@ alike-views {s} {t} A S =
       period = at-each _ _ (ap (λ v. v .period) e);
       deadline = at-each _ _ (ap (λ v. v .deadline) e);
       turn = at-each _ _ (ap (λ v. v .turn) e);
+      hand = ap (λ v. v .hand) e;
+      until = ap (λ v. v .until) e;
     }

@@ -1,33 +1,40 @@
--- What a call claims of a store it claims of the store that is cut to its N records (`call-cut`): but for format, which looks at the lengths of the slices, each
--- case of a claim is the same case, by the laws of a view with nothing past N.
+-- What a call claims of a store it claims of the store that is cut to its N records (`call-cut`): but for format, which looks at the lengths of the slices,
+-- each case of a claim is the same case, by the laws of a view with nothing past N.
 use mathlib.Core.Path.{_≡_, refl, sym, ap, _∙_, subst, subst₂}
 use mathlib.Core.Logic.{inl}
 use mathlib.Core.Bool.{false, true≢false}
 use mathlib.Core.List.{List, _∷_}
-use Prim.Native.Nat.{ℕ, _<_}
+use Prim.Native.Nat.{ℕ, _≤_, _<_}
 use native.Mathlib.Omega.{arith}
 use Rattle.stack.specs.Places.{free}
 use Rattle.stack.proofs.laws.Whole as stack-laws
 use Rattle.records.specs.View.{View}
 use Rattle.records.specs.Records.{keyOf, Names, left, placed, freed}
-use Rattle.records.specs.Words.{QueueWords, count, view, Sound}
+use Rattle.records.specs.Words.{QueueWords, count, elapsed, view, AtRest, Sound}
 use Rattle.records.proofs.laws.Inner.{placed-size, left-size, freed-size}
 use Rattle.queue.specs.declared.Answer.{Answer}
 use Rattle.queue.specs.Told.{Told, told}
 use Rattle.queue.specs.Told as T
-use Rattle.queue.specs.Steps.{QueuePolls, NextWake, pending, Clears}
-use Rattle.queue.specs.Calls.{Refused, Answered, InsertOn, ResetOn, RemoveOn, PollOn, WakeOn, LengthOn, ClearOn}
-use Rattle.queue.proofs.laws.Polls.{polls-size, clears-size}
+use Rattle.queue.specs.Steps.{PollsSome, PollsRest, NextWake, pending, Clears}
+use Rattle.queue.specs.Calls.{Refused, Answered, InsertOn, ResetOn, RemoveOn, PollOn, Freely, Resuming, RestOn, SomeOn, PollSomeOn, WakeOn, LengthOn, ClearOn}
+use Rattle.queue.proofs.laws.Polls.{some-size, rest-size, clears-size}
 use Rattle.delay_queue.specs.declared.Call.{Call}
 use Rattle.delay_queue.specs.declared.Call.the-variants as C
 use Rattle.delay_queue.specs.Claims.{Judging, CallClaim}
 use Rattle.promises.specs.Runs.{isFormat}
 use Rattle.promises.specs.Alike.{upTo, cut}
+use Rattle.pausing.specs.Pausing.{PollTaken}
+use Rattle.pausing.proofs.laws.Pausing.{rest-whole}
+use Rattle.promises.proofs.laws.Does.{whole-rest}
 use Rattle.promises.proofs.laws.Cut.{cut-sound, sound-cut, cut-view, cut-kept, below, below-lt, masked}
-use Rattle.promises.proofs.laws.Masked.{inserted, inserted-masked, reset-masked, removed-masked, key-masked, names-masked, masked-names, polls-masked, wake-masked, pending-masked, clears-masked}
+use Rattle.promises.proofs.laws.Masked.{inserted, inserted-masked, reset-masked, removed-masked, key-masked, names-masked, masked-names, polls-masked, rest-masked, wake-masked, pending-masked, clears-masked}
 
 refused-cut : {k : ℕ} {s t : QueueWords} {a : Answer} → Refused k s a t → Refused k (cut s) a (cut t)
 refused-cut R = record { told = R .told; same = ap (λ u. cut u) (R .same) }
+
+-- a poll is taken with no poll in hand
+taken-free : (s : QueueWords) {now : ℕ} → AtRest s → elapsed s ≤ now → PollTaken (view s) now
+taken-free s z h = record { same = λ d. absurd (d z); later = λ _. h }
 
 module _ {s : QueueWords} (S : Sound s) where
   free-seen : {l : List ℕ} → view (cut s) .lists free ≡ l → view s .lists free ≡ l
@@ -54,6 +61,21 @@ module _ {s t : QueueWords} {a : Answer} where
 
   judging-cut : {On On′ : Type 0} → (Sound s → On → On′) → Judging s a t On → Judging (cut s) a (cut t) On′
   judging-cut f J = record { bad = λ n. refused-cut (J .bad (λ S. n (cut-sound S))); good = λ S. f (sound-cut S) (J .good (sound-cut S)) }
+
+  -- the poll in hand is the same
+  freely-cut : {On On′ : Type 0} → (On → On′) → Freely s a t On → Freely (cut s) a (cut t) On′
+  unfolding upTo
+  freely-cut f F = record { held = λ d. refused-cut (F .held d); free = λ z. f (F .free z) }
+
+  resuming-cut : {now : ℕ} {On On′ Rest Rest′ : Type 0} → (AtRest s → On → On′) → (PollTaken (view s) now → Rest → Rest′) → Resuming s now a t On Rest
+      → Resuming (cut s) now a (cut t) On′ Rest′
+  unfolding upTo
+  resuming-cut f g R =
+      record {
+        other = λ d n. refused-cut (R .other d n);
+        same = λ d e. g (record { same = λ _. e; later = λ z. absurd (d z) }) (R .same d e);
+        free = λ z. f z (R .free z);
+      }
 
   module _ (S : Sound s) where
     insert-cut : {value when period : ℕ} → InsertOn s value when period a t → InsertOn (cut s) value when period a (cut t)
@@ -100,19 +122,6 @@ module _ {s t : QueueWords} {a : Answer} where
               (freed-size r _ ∙ left-size p r (view s)) (R .done r p (names-seen S N));
         }
 
-    poll-cut : {now : ℕ} → PollOn s now a t → PollOn (cut s) now a (cut t)
-    unfolding upTo
-    poll-cut {now} P =
-        record {
-          back = λ h. refused-cut (P .back h);
-          done = λ h.
-              let d = P .done h in (
-                cut-sound (d .0),
-                subst₂ (λ u w. QueuePolls u now (told a) w) (sym (cut-view S)) (sym (cut-view (d .0))) (polls-masked S h (d .1)),
-                cut-kept S (d .0) (polls-size (d .1)),
-              );
-        }
-
     clear-cut : ClearOn s a t → ClearOn (cut s) a (cut t)
     unfolding upTo
     clear-cut K =
@@ -121,6 +130,38 @@ module _ {s t : QueueWords} {a : Answer} where
           clears = subst (λ v. Clears v (count s) (masked (K .cleared))) (sym (cut-view S)) (clears-masked (omega arith) (K .clears));
           done = answered-cut S refl refl (clears-size (K .clears)) (K .done);
         }
+
+-- a poll
+module _ {s t : QueueWords} (a : Answer) (S : Sound s) where
+  some-cut : {now limit : ℕ} → PollTaken (view s) now → SomeOn s now limit a t → SomeOn (cut s) now limit a (cut t)
+  some-cut {now} {limit} K d = (
+    cut-sound (d .0),
+    subst₂ (λ u w. PollsSome u now limit (told a) w) (sym (cut-view S)) (sym (cut-view (d .0))) (polls-masked S K (d .1)),
+    cut-kept S (d .0) (some-size (d .1)),
+  )
+
+  rest-cut : {now : ℕ} → PollTaken (view s) now → RestOn s now a t → RestOn (cut s) now a (cut t)
+  rest-cut {now} K d = (
+    cut-sound (d .0),
+    subst₂ (λ u w. PollsRest u now (told a) w) (sym (cut-view S)) (sym (cut-view (d .0))) (rest-masked S K (d .1)),
+    cut-kept S (d .0) (rest-size (d .1)),
+  )
+
+  -- with no poll in hand, a whole poll goes on from nothing
+  poll-cut : {now : ℕ} → AtRest s → PollOn s now a t → PollOn (cut s) now a (cut t)
+  unfolding upTo
+  poll-cut {now} z P =
+      record {
+        back = λ h. refused-cut (P .back h);
+        done = λ h.
+            let d = P .done h in
+            let r = rest-cut (taken-free s z h) (d .0, whole-rest S z (d .1), d .2) in
+            (r .0, rest-whole (cut s) z (S .no-now z) (r .1), r .2);
+      }
+
+  begin-cut : {now limit : ℕ} → AtRest s → PollSomeOn s now limit a t → PollSomeOn (cut s) now limit a (cut t)
+  unfolding upTo
+  begin-cut z P = record { back = λ h. refused-cut (P .back h); done = λ h. some-cut (taken-free s z h) (P .done h) }
 
 wake-cut : {s : QueueWords} {a : Answer} → Sound s → WakeOn s a → WakeOn (cut s) a
 wake-cut {s} {a} S W = record { done = subst (λ v. NextWake v (told a)) (sym (cut-view S)) (wake-masked (W .done)) }
@@ -132,10 +173,11 @@ length-cut {s} S L =
 -- a claim of a store is one of the store that is cut
 pub call-cut : (c : Call) (s : QueueWords) (a : Answer) (t : QueueWords) → isFormat c ≡ false → CallClaim c s a t → CallClaim c (cut s) a (cut t)
 call-cut (C.Format n turn) s a t f A = absurd (true≢false f)
-call-cut (C.Insert value when period) s a t f A = judging-cut (λ S. insert-cut S) A
-call-cut (C.Reset key when) s a t f A = judging-cut (λ S. reset-cut S) A
-call-cut (C.Remove key) s a t f A = judging-cut (λ S. remove-cut S) A
-call-cut (C.Poll now) s a t f A = judging-cut (λ S. poll-cut S) A
-call-cut C.Wake s a t f A = (judging-cut wake-cut (A .0), ap (λ u. cut u) (A .1))
+call-cut (C.Insert value when period) s a t f A = judging-cut (λ S. freely-cut (insert-cut S)) A
+call-cut (C.Reset key when) s a t f A = judging-cut (λ S. freely-cut (reset-cut S)) A
+call-cut (C.Remove key) s a t f A = judging-cut (λ S. freely-cut (remove-cut S)) A
+call-cut (C.Poll now) s a t f A = judging-cut (λ S. resuming-cut (poll-cut a S) (rest-cut a S)) A
+call-cut (C.PollSome now limit) s a t f A = judging-cut (λ S. resuming-cut (begin-cut a S) (some-cut a S)) A
+call-cut C.Wake s a t f A = (judging-cut (λ S. freely-cut (wake-cut S)) (A .0), ap (λ u. cut u) (A .1))
 call-cut C.Length s a t f A = (judging-cut length-cut (A .0), ap (λ u. cut u) (A .1))
 call-cut C.Clear s a t f A = judging-cut clear-cut A

@@ -1,27 +1,29 @@
 -- Whether a store is sound, and whether format takes what it is given, is decided.
 use mathlib.Core.Path.{_≡_}
-use mathlib.Core.Logic.{by-cases, Dec·and}
+use mathlib.Core.Logic.{_⊎_, inl, inr, ⊎-elim, by-cases, Dec·and}
 use mathlib.Core.Bool.{true, Bool-discrete}
 use mathlib.Core.List.{List, []}
-use Prim.Native.Nat.{ℕ, zero, suc, _^_, _<_, _≤_, _*_}
+use Prim.Native.Nat.{ℕ, zero, suc, _-_, _%_, _^_, _<_, _≤_, _*_, max}
 use native.Mathlib.Decide.{ℕ-discrete, decLe, decLt, map-dec}
 use native.Mathlib.Omega.{arith}
 use lib.ListN.{length, getD}
-use Rattle.times.specs.Times.{block}
+use Rattle.times.specs.Times.{width, slotOf, levelOf, block}
 use Rattle.row.specs.Row.{rowOf}
 use Rattle.links.specs.Lists.{nobody}
 use Rattle.links.specs.Links.{at}
-use Rattle.stack.specs.Places.{slots, expired}
+use Rattle.stack.specs.Places.{slotPlace, slots, expired, levelAt}
+use Rattle.stack.specs.Words.{headAt}
 use Rattle.stack.specs.Heads.{Shape}
 use Rattle.stack.proofs.laws.Words.{judged}
 use Rattle.stack.specs.Judge.{held}
 use Rattle.stack.proofs.laws.Whole as stack-laws
-use Rattle.wheel.specs.Wheel.{placeFor, OnWheel}
-use Rattle.records.specs.Words.{QueueWords, count, elapsed, markOf, Sound, slices}
+use Rattle.wheel.specs.Limited.{start}
+use Rattle.wheel.specs.Midway.{Belongs}
+use Rattle.records.specs.Words.{QueueWords, count, elapsed, markOf, AtRest, MidPoll, Sound, slices}
 use Rattle.wheel.specs.Words.{WheelWords, WheelWhole}
 use Rattle.wheel.specs.Judged.{CanJudge}
 use Rattle.wheel.proofs.laws.Judged.{whole-row, whole-from}
-use Rattle.judge.specs.Judge.{RecordAgrees}
+use Rattle.judge.specs.Judge.{RecordAgrees, RecordsAgree, CanHold}
 use Rattle.judge.proofs.laws.Judge.{sound-judged, judged-sound}
 use Rattle.delay_queue.specs.Claims.{InRange}
 use Rattle.records.specs.Records.{lastTurn}
@@ -83,30 +85,78 @@ whole-dec {t} C =
     (λ x. whole-from C (x .0) (x .1))
     (λ W. (stack-laws.whole-judged (W .stack), whole-row W))
 
-wheel-dec : (p e w : ℕ) → Dec (OnWheel p e w)
-wheel-dec p e w =
-    by-dec (Dec·and (ℕ-discrete p (placeFor e w)) (Dec·and (decLe e w) (ℕ-discrete (block w) (block e))))
-    (λ x. record { place = x .0; late = x .1 .0; near = x .1 .1 })
-    (λ O. (O .place, (O .late, O .near)))
+or-dec : {A B : Type 0} → Dec A → Dec B → Dec (A ⊎ B)
+or-dec (yes a) e = yes (inl a)
+or-dec (no f) (yes b) = yes (inr b)
+or-dec (no f) (no g) = no (λ x. ⊎-elim f g x)
 
-agrees-dec : (e w t m : ℕ) → Dec (RecordAgrees e w t m)
-agrees-dec e w t m =
+not-dec : {A : Type 0} → Dec A → Dec (A → ⊥)
+not-dec (yes a) = no (λ f. f a)
+not-dec (no f) = yes f
+
+belongs-dec : (low h c p w : ℕ) → Dec (Belongs low h c p w)
+belongs-dec low h c p w =
+    let k : ℕ = max low (levelOf c w) in
+    by-dec
+    (Dec·and (Dec·and (decLe c w) (ℕ-discrete (block w) (block c)))
+    (or-dec (ℕ-discrete p (slotPlace k (slotOf w k))) (Dec·and (ℕ-discrete p h) (decLe (levelOf c w) low))))
+    (λ x. record { late = x .0 .0; near = x .0 .1; place = x .1 })
+    (λ B. ((B .late, B .near), B .place))
+
+agrees-dec : (low h c w t m : ℕ) → Dec (RecordAgrees low h c w t m)
+agrees-dec low h c w t m =
     by-dec
     (Dec·and (Dec·and (decLt 0 t) (decLt t (2 ^ 48)))
-    (Dec·and (implies-dec (decLt m slots) (wheel-dec m e w))
-    (Dec·and (implies-dec (ℕ-discrete m expired) (ℕ-discrete w e)) (implies-dec (ℕ-discrete m nobody) (ℕ-discrete t lastTurn)))))
+    (Dec·and (implies-dec (decLt m slots) (belongs-dec low h c m w))
+    (Dec·and (implies-dec (ℕ-discrete m expired) (ℕ-discrete w c)) (implies-dec (ℕ-discrete m nobody) (ℕ-discrete t lastTurn)))))
     (λ x. record { some = x .0 .0; last = x .0 .1; wheel = x .1 .0; stack = x .1 .1 .0; retired = x .1 .1 .1 })
     (λ R. ((R .some, R .last), (R .wheel, (R .stack, R .retired))))
+
+hold-dec : (e until p head first : ℕ) → Dec (CanHold e until p head first)
+hold-dec e until p head first =
+    by-dec
+    (Dec·and (Dec·and (decLt p slots) (decLt 0 (levelAt p)))
+    (Dec·and (Dec·and (not-dec (ℕ-discrete head nobody)) (ℕ-discrete first nobody))
+    (Dec·and (Dec·and (decLe e (start e p)) (decLe (start e p) until))
+    (implies-dec (ℕ-discrete (start e p) e)
+    (Dec·and (ℕ-discrete (e % width (suc (levelAt p))) 0) (not-dec (ℕ-discrete (e % 2 ^ 36) 0)))))))
+    (λ x.
+    record {
+      below = x .0 .0;
+      high = x .0 .1;
+      filled = x .1 .0 .0;
+      stack = x .1 .0 .1;
+      late = x .1 .1 .0 .0;
+      due = x .1 .1 .0 .1;
+      own = x .1 .1 .1;
+    })
+    (λ H. ((H .below, H .high), ((H .filled, H .stack), ((H .late, H .due), H .own))))
+
+-- all n records
+all-dec : (s : QueueWords) (low h c : ℕ) → Dec (RecordsAgree low h c (count s) (s .deadlines) (s .turns) (s .wheel .stack .links .marks))
+all-dec s low h c = below-dec (λ i. agrees-dec low h c (at (s .deadlines) i) (at (s .turns) i) (markOf s i)) (count s)
 
 pub sound-dec : (s : QueueWords) → Dec (Sound s)
 sound-dec s =
     by (Dec·and (Dec·and (shape-dec (s .wheel .stack .heads)) (ℕ-discrete (length (s .wheel .occupied)) 6)) (fits-dec s (count s)))
   where
+    at-rest : Fits (slices s) (count s) → Dec (WheelWhole (s .wheel)) → AtRest s → Dec (Sound s)
+    at-rest F d z =
+        by-dec (Dec·and d (Dec·and (ℕ-discrete (s .until) 0) (all-dec s 0 nobody (elapsed s))))
+        (λ y. judged-sound (record { fits = F; whole = y .0; rest = λ _. (y .1 .0, y .1 .1); mid = λ e. absurd (e z) }))
+        (λ S. let J = sound-judged S .rest z in (S .standing .whole, (J .0, J .1)))
+
+    mid-poll : Fits (slices s) (count s) → Dec (WheelWhole (s .wheel)) → MidPoll s → Dec (Sound s)
+    mid-poll F d e =
+        by-dec
+        (Dec·and d (Dec·and (hold-dec (elapsed s) (s .until) (s .hand) (headAt (s .wheel .stack) (s .hand)) (headAt (s .wheel .stack) expired))
+        (all-dec s (levelAt (s .hand) - 1) (s .hand) (start (elapsed s) (s .hand)))))
+        (λ y. judged-sound (record { fits = F; whole = y .0; rest = λ z. absurd (e z); mid = λ _. (y .1 .0, y .1 .1) }))
+        (λ S. let J = sound-judged S .mid e in (S .standing .whole, (J .0, J .1)))
+
     by : Dec ((Shape (s .wheel .stack .heads) × (length (s .wheel .occupied) ≡ 6)) × Fits (slices s) (count s)) → Dec (Sound s)
     by (yes x) =
-        by-dec
-        (Dec·and (whole-dec (record { six = x .0 .1; shape = x .0 .0; room = x .1 .room .links; few = omega arith }))
-        (below-dec (λ i. agrees-dec (elapsed s) (at (s .deadlines) i) (at (s .turns) i) (markOf s i)) (count s)))
-        (λ y. judged-sound (record { fits = x .1; whole = y .0; records = y .1 }))
-        (λ S. (S .standing .whole, sound-judged S .records))
+        let C : CanJudge (s .wheel) = record { six = x .0 .1; shape = x .0 .0; room = x .1 .room .links; few = omega arith } in
+        let d : Dec (WheelWhole (s .wheel)) = whole-dec C in
+        by-cases (ℕ-discrete (s .hand) nobody) (at-rest (x .1) d) (mid-poll (x .1) d)
     by (no f) = no (λ S. f ((S .standing .whole .stack .shape, S .standing .whole .rows .six), S .standing .fits))

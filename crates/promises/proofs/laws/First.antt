@@ -4,29 +4,32 @@
 use mathlib.Core.Path.{_≡_, refl, sym, ap, _∙_}
 use mathlib.Core.Logic.{_≢_, _⊎_, inl, inr, ⊎-elim, by-cases}
 use mathlib.Core.Bool.{false, not}
-use mathlib.Core.List.{List, [], prod}
-use mathlib.Core.Option.{some}
+use mathlib.Core.List.{List, [], nil≢cons}
+use mathlib.Core.Option.{Option, some}
 use Prim.Native.Nat.{ℕ, _+_, _≤_, _<_, max}
 use native.Mathlib.Decide.{ℕ-discrete}
 use native.Mathlib.Omega.{arith}
 use borrow.Author.Tests.{eq-eqb, ne-eqb}
-use Rattle.links.specs.Lists.{Mem}
+use Rattle.links.specs.Lists.{nobody, Mem}
 use Rattle.links.proofs.laws.Lists.{change-same, change-other}
 use Rattle.stack.specs.Places.{slots, expired, free, put}
 use Rattle.stack.proofs.laws.Whole as stack-laws
 use Rattle.wheel.specs.Wheel.{placeFor}
 use Rattle.wheel.proofs.laws.Sums.{put-mem}
 use Rattle.queue.specs.declared.Answer.{Answer}
-use Rattle.queue.specs.Told.{Told, told}
+use Rattle.queue.specs.Told.{Told, told, handing}
 use Rattle.queue.specs.Told as T
-use Rattle.queue.specs.Steps.{TakesOut, GoesOn, once, again, ended, handed, nothing}
+use Rattle.queue.specs.Steps.{TakesSome, popped-some, polled-some, GoesOn, once, again, ended, PollsSome, handed-some, nothing-some, not-yet}
 use Rattle.records.specs.View.{View, withValue, withPeriod, upd}
 use Rattle.records.proofs.laws.Words.{upd-same}
 use Rattle.records.specs.Records.{keyOf, At, Names, taken, left, target, placed, numberIn}
-use Rattle.records.specs.Words.{QueueWords, elapsed, view, Sound}
+use Rattle.records.specs.Words.{QueueWords, AtRest, elapsed, view, Sound}
+use Rattle.wheel.specs.Limited.{ended as stopped}
+use Rattle.pausing.specs.Pausing.{SaysYet, PollTaken}
+use Rattle.promises.specs.Polls.{PollAt, whole, limited}
 use Rattle.delay_queue.specs.declared.Call.{Call}
 use Rattle.delay_queue.specs.declared.Call.the-variants as C
-use Rattle.delay_queue.specs.Claims.{CallClaim}
+use Rattle.delay_queue.specs.Claims.{InsertClaim, ResetClaim, CallClaim}
 use Rattle.promises.specs.OneCall.{isNo}
 use Rattle.promises.specs.Runs.{Asked, Runs, rest, next, All, Each}
 use Rattle.promises.specs.KeysStay.{Aims, Out}
@@ -34,9 +37,9 @@ use Rattle.promises.specs.KeysReach.{Reaches, Spares}
 use Rattle.promises.specs.First.{Sets, NotSet, SetOn, storedOn, SetInTurn}
 use Rattle.promises.proofs.laws.OneCall.{call-sound}
 use Rattle.promises.proofs.laws.Runs.{run-sound}
-use Rattle.promises.proofs.laws.Views.{ViewGoes, refuses, formats, inserts, resets, removes, polls, wakes, counts, clears, call-goes, key-inserts, out-polls}
-use Rattle.promises.proofs.laws.TakesOut.{one-list, key-of-names, taken-out}
-use Rattle.promises.proofs.laws.Polling.{out-or-last, clock-before, none-before, placed-clock}
+use Rattle.promises.proofs.laws.Views.{ViewGoes, refuses, formats, inserts, resets, removes, polls, wakes, counts, clears, call-goes, key-inserts, out-polls, goes-rest, goes-on-hand}
+use Rattle.promises.proofs.laws.TakesOut.{one-list, key-of-names, taken-out, none-before}
+use Rattle.promises.proofs.laws.Polling.{out-or-last, clock-before, placed-clock}
 use Rattle.promises.proofs.laws.KeysGone.{out-spent, remove-spent, spent-unnamed}
 use Rattle.promises.proofs.laws.KeysStay.{Stays, does-stays}
 use Rattle.promises.proofs.laws.KeysReach.{reaches-on, key-one}
@@ -58,14 +61,15 @@ module _ {s : QueueWords} (S : Sound s) where
   aims-none (inserts e) none res N a = absurd a
   aims-none (resets {when = when} M) none res N a = absurd (res when (ap (λ (n : ℕ). C.Reset n when) a) refl)
   aims-none (removes M) none {k} res {r} {p} N a = absurd (spent-unnamed (remove-spent S (rw a at M)) r p N)
-  aims-none (polls h Q) none res N a = absurd a
+  aims-none (polls whole h Q) none res N a = absurd a
+  aims-none (polls limited h Q) none res N a = absurd a
   aims-none (wakes W) none res N a = absurd a
   aims-none counts none res N a = absurd a
   aims-none (clears c) none res {r} {p} N a = absurd (none refl r p (N .pending))
 
   -- and did not hand it out: it would be gone, or set again
   out-none : {c : Call} {x : Told} {u : View} → ViewGoes v c x u → {k : ℕ}
-      → ((now w d m n : ℕ) → c ≡ C.Poll now → x ≡ T.out k w d m n → 0 < v .period (numberIn k) → ⊥) → {r p : ℕ} → Names u k r p → Out k x → ⊥
+      → ((now w d m n : ℕ) → PollAt c now → x ≡ T.out k w d m n → 0 < v .period (numberIn k) → ⊥) → {r p : ℕ} → Names u k r p → Out k x → ⊥
   out-none {x = x} D set-again {r} {p} N o =
       let H = out-spent S D (o .4) in
       let P = out-polls D (o .4) in
@@ -159,7 +163,7 @@ module _ {s : QueueWords} (S : Sound s) where
   reset-placed (resets {r = i} {p = p} M) z = record { number = i; before = left p i (view s); is = refl; key = M .number; clock = inl refl }
 
   -- "places it at w plus period under the same key"
-  again-placed : {now i m n : ℕ} {u : View} {x : Told} {w : View} → elapsed s ≤ now → TakesOut (view s) now (some i) m n u
+  again-placed : {now limit i m n : ℕ} {u : View} {x : Told} {w : View} → PollTaken (view s) now → TakesSome (view s) now limit (stopped (some i)) m n u
       → GoesOn (view s) i m n u x w → {k v d m₁ n₁ : ℕ} → x ≡ T.out k v d m₁ n₁ → 0 < view s .period (numberIn k)
       → PlacedAt s k (d + view s .period (numberIn k)) w
   again-placed {i = i} h T (once f) {k} z more =
@@ -180,16 +184,27 @@ module _ {s : QueueWords} (S : Sound s) where
         key = same;
         clock = inr (
           omega (arith, clock-before S h T, due, more),
-          omega (arith, none-before (view s) (S .rule) h i a, due, more),
+          omega (arith, none-before S i (a .0) (a .1), due, more),
         );
       }
   again-placed h T (ended f g) z more = let y : _≡_ {A = ℕ} 0 1 = cc in absurd (omega arith)
 
-  poll-placed : {now k v d m n : ℕ} {x : Told} {w : View} → ViewGoes (view s) (C.Poll now) x w → x ≡ T.out k v d m n
+  poll-placed : {now limit k v d m n : ℕ} {x : Told} {w : View} → PollTaken (view s) now → PollsSome (view s) now limit x w → x ≡ T.out k v d m n
       → 0 < view s .period (numberIn k) → PlacedAt s k (d + view s .period (numberIn k)) w
-  poll-placed refuses z more = let y : _≡_ {A = ℕ} 0 1 = cc in absurd (omega arith)
-  poll-placed (polls h (handed T G)) z more = again-placed h T G z more
-  poll-placed (polls h (nothing T)) z more = let y : _≡_ {A = ℕ} 0 1 = cc in absurd (omega arith)
+  poll-placed h (handed-some T G) z more = again-placed h T G z more
+  poll-placed h (nothing-some T) z more = let y : _≡_ {A = ℕ} 0 1 = cc in absurd (omega arith)
+  poll-placed h (not-yet T) z more = let y : _≡_ {A = ℕ} 0 1 = cc in absurd (omega arith)
+
+  -- a poll that hands out has ended, and leaves none in hand
+  takes-rest : {now limit m n : ℕ} {g : Option ℕ} {u : View} → TakesSome (view s) now limit (stopped g) m n u → u .hand ≡ nobody
+  takes-rest (popped-some e) =
+      by-cases (ℕ-discrete (s .hand) nobody) (λ z. z) (λ d. absurd (nil≢cons (sym (S .rule .inside d .stack) ∙ e)))
+  takes-rest (polled-some e r) = refl
+
+  out-rest : {now limit k v d m n : ℕ} {x : Told} {w : View} → PollsSome (view s) now limit x w → x ≡ T.out k v d m n → w .hand ≡ nobody
+  out-rest (handed-some T G) z = goes-on-hand G ∙ takes-rest T
+  out-rest (nothing-some T) z = takes-rest T
+  out-rest (not-yet T) z = let y : _≡_ {A = ℕ} 0 1 = cc in absurd (omega arith)
 
   set-placed : {t : QueueWords} {k : ℕ} (x : SetOn s k t) → PlacedAt s k (x .when) (view t)
   set-placed {t} {k} x = by (x .sets)
@@ -200,7 +215,36 @@ module _ {s : QueueWords} (S : Sound s) where
       by : Sets s k (x .when) (x .asked) → PlacedAt s k (x .when) (view t)
       by (inl z) = insert-placed (call-goes (C.Insert (z .0) (x .when) (z .1)) s (x .asked .answer) t S (rw (z .2) at A)) (z .3)
       by (inr (inl z)) = reset-placed (call-goes (C.Reset k (x .when)) s (x .asked .answer) t S (rw (z .0) at A)) (z .1)
-      by (inr (inr z)) = rw (z .8) (poll-placed (call-goes (C.Poll (z .0)) s (x .asked .answer) t S (rw (z .5) at A)) (z .6) (z .7))
+      by (inr (inr z)) =
+          let P = out-polls (call-goes (x .asked .call) s (x .asked .answer) t S A) (ap handing (z .6)) in
+          rw (z .8) (poll-placed (P .1) (P .2 .1) (z .6) (z .7))
+
+  -- what sets a timer leaves no poll in hand
+  set-rest : {t : QueueWords} {k : ℕ} → SetOn s k t → AtRest t
+  set-rest {t} {k} x = by (x .sets)
+    where
+      A : CallClaim (x .asked .call) s (x .asked .answer) t
+      A = x .claim
+
+      D : ViewGoes (view s) (x .asked .call) (told (x .asked .answer)) (view t)
+      D = call-goes (x .asked .call) s (x .asked .answer) t S A
+
+      key-no-yet : {y : Told} → y ≡ T.key k → SaysYet y → ⊥
+      key-no-yet e y = let f = sym e ∙ y .2 in let z : _≡_ {A = ℕ} 0 1 = cc in omega arith
+
+      ok-no-yet : {y : Told} → y ≡ T.ok → SaysYet y → ⊥
+      ok-no-yet e y = let f = sym e ∙ y .2 in let z : _≡_ {A = ℕ} 0 1 = cc in omega arith
+
+      by : Sets s k (x .when) (x .asked) → AtRest t
+      by (inl z) =
+          let I : InsertClaim s (z .0) (x .when) (z .1) (x .asked .answer) t = rw (z .2) at A in
+          by-cases (ℕ-discrete (s .hand) nobody) (λ q. goes-rest D (key-no-yet (z .3)) q)
+          (λ q. let f = sym (I .good S .held q .told) ∙ z .3 in let y : _≡_ {A = ℕ} 0 1 = cc in absurd (omega arith))
+      by (inr (inl z)) =
+          let I : ResetClaim s k (x .when) (x .asked .answer) t = rw (z .0) at A in
+          by-cases (ℕ-discrete (s .hand) nobody) (λ q. goes-rest D (ok-no-yet (z .1)) q)
+          (λ q. let f = sym (I .good S .held q .told) ∙ z .1 in let y : _≡_ {A = ℕ} 0 1 = cc in absurd (omega arith))
+      by (inr (inr z)) = out-rest (out-polls D (ap handing (z .6)) .2 .1) (z .6)
 
 target-wheel : (e w : ℕ) → e < w → target e w ≡ placeFor e w
 unfolding target
@@ -226,7 +270,7 @@ placed-deadline i when u = upd-same (u .deadline) i (max when (u .elapsed))
 
 -- ---- what the customer asked for
 
-module _ {s t u : QueueWords} {j k now : ℕ} {a : Answer} (S : Sound s) (I : SetInTurn s j k t) (P : CallClaim (C.Poll now) t a u)
+module _ {s t : QueueWords} {j k : ℕ} (S : Sound s) (I : SetInTurn s j k t) (c : Call) (a : Answer) (u : QueueWords) (P : CallClaim c t a u)
     (o : Out k (told a)) {r p : ℕ} (N : Names (view t) j r p) where
   set-sound : Sound (I .set)
   set-sound = let x = I .first .asked in call-sound (x .call) s (x .answer) (I .set) (I .first .claim) S
@@ -237,6 +281,9 @@ module _ {s t u : QueueWords} {j k now : ℕ} {a : Answer} (S : Sound s) (I : Se
   both-sound : Sound (I .both)
   both-sound = let x = I .second .asked in call-sound (x .call) (I .later) (x .answer) (I .both) (I .second .claim) later-sound
 
+  both-rest : AtRest (I .both)
+  both-rest = set-rest later-sound (I .second)
+
   last-sound : Sound t
   last-sound = run-sound both-sound (I .at-last)
 
@@ -246,7 +293,7 @@ module _ {s t u : QueueWords} {j k now : ℕ} {a : Answer} (S : Sound s) (I : Se
 
   back : Was (I .both) k (numberIn k) (All (Spares k) (I .after))
   back =
-      let H = out-spent last-sound (call-goes (C.Poll now) t a u last-sound P) (o .4) in
+      let H = out-spent last-sound (call-goes c t a u last-sound P) (o .4) in
       run-was both-sound (I .at-last) (I .second-last) (rw (H .names .number) at (H .names))
 
   meets : Was (I .later) j r (Spares j (I .second .asked))
@@ -273,7 +320,7 @@ module _ {s t u : QueueWords} {j k now : ℕ} {a : Answer} (S : Sound s) (I : Se
       → view (I .both) .deadline r ≡ max (I .second .when) (two .before .elapsed) → ⊥
   never-so here equal =
       queued-waits last-sound (run-queued both-sound Q (I .at-last) (front .spared) (back .spared))
-      (call-goes (C.Poll now) t a u last-sound P) o
+      (call-goes c t a u last-sound P) o
     where
       i : ℕ
       i = two .number
@@ -301,7 +348,7 @@ module _ {s t u : QueueWords} {j k now : ℕ} {a : Answer} (S : Sound s) (I : Se
   same-clock = ap (λ v. v .elapsed) (two .is) ∙ placed-clock (two .number) (I .second .when) (two .before)
 
   -- "among equal deadlines on the wheel the one placed first comes out first, a reset counting as a new placing": the timer of j is set, then that of k,
-  -- with one deadline as stored, which lies past elapsed when that of k is set; then a poll that hands out k finds j no longer pending
+  -- with one deadline as stored, which lies past elapsed when that of k is set; then a call that hands out k finds j no longer pending
   pub first-set-first-out : storedOn (I .first) ≡ storedOn (I .second) → elapsed (I .later) < storedOn (I .second) → ⊥
   first-set-first-out same late = never-so here equal
     where
@@ -340,13 +387,13 @@ module _ {s t u : QueueWords} {j k now : ℕ} {a : Answer} (S : Sound s) (I : Se
       m = front .names .pending
 
       away : front .place ≢ expired
-      away = λ (z : front .place ≡ expired). omega (arith, both-sound .rule .stack r (rw z at (m .member)), equal, stored, past, same-clock)
+      away = λ (z : front .place ≡ expired). omega (arith, both-sound .rule .free both-rest .stack r (rw z at (m .member)), equal, stored, past, same-clock)
 
       here : front .place ≡ target e (max (I .second .when) e)
       here =
           let h : front .place < slots = omega (arith, away, m .timed) in
           let late-so : e < max (I .second .when) e = omega (arith, stored, past) in
-          both-sound .rule .wheel (front .place) r h (m .member) .place ∙ ap (placeFor (elapsed (I .both))) equal
+          both-sound .rule .free both-rest .wheel (front .place) r h (m .member) .place ∙ ap (placeFor (elapsed (I .both))) equal
           ∙ ap (λ n. placeFor n (max (I .second .when) e)) same-clock ∙ sym (target-wheel e (max (I .second .when) e) late-so)
 
   -- and so on the expired stack: both were set for a time that had come
@@ -378,4 +425,4 @@ module _ {s t u : QueueWords} {j k now : ℕ} {a : Answer} (S : Sound s) (I : Se
       equal : view (I .both) .deadline r ≡ max (I .second .when) e
       equal =
           let h : I .second .when ≤ e = ⊎-elim (λ y. omega arith) (λ y. omega arith) (two .clock) in
-          omega (arith, both-sound .rule .stack r m, same-clock)
+          omega (arith, both-sound .rule .free both-rest .stack r m, same-clock)

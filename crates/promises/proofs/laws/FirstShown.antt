@@ -1,37 +1,63 @@
--- What "First set, first out" asks can be met: in a store of two records two timers are set for one time and polled at it, and come out in turn.
-use mathlib.Core.Path.{_≡_, refl, sym, ap, _∙_}
-use mathlib.Core.Logic.{_≢_, inl, inr}
-use mathlib.Core.List.{List, [], _∷_}
-use Prim.Native.Nat.{ℕ, _≤_, _<_, max}
+-- What "First set, first out" asks can be met: in a store of two records two timers are set for one time and polled at it, and come out in turn; so they do
+-- with a pause between their moves (`paused-shown`).
+use mathlib.Core.Path.{_≡_, refl, sym, ap, _∙_, subst}
+use mathlib.Core.Logic.{_≢_, inl, inr, by-cases}
+use mathlib.Core.Bool.{true≢false}
+use mathlib.Core.List.{List, [], _∷_, _++_}
+use mathlib.Core.Option.{none}
+use Prim.Native.Nat.{ℕ, _+_, _*_, _/_, _%_, _≤_, _<_, max}
+use native.Mathlib.Decide.{ℕ-discrete}
 use native.Mathlib.Omega.{arith}
-use Rattle.links.specs.Lists.{change}
+use Rattle.times.specs.Times.{width, slotOf, startAt}
+use Rattle.times.proofs.laws.Quotients.{slot-lt}
+use Rattle.links.specs.Lists.{Mem, change}
 use Rattle.links.proofs.laws.Lists.{change-same, change-other}
-use Rattle.stack.specs.Places.{free, put}
-use Rattle.wheel.specs.Wheel.{Lists}
+use Rattle.stack.specs.Places.{slotPlace, expired, free, put}
+use Rattle.stack.proofs.laws.Places.{put-tail}
+use Rattle.stack.proofs.laws.Whole as stack-laws
+use Rattle.wheel.specs.Wheel.{Lists, FirstSlot, arrive}
+use Rattle.wheel.specs.Limited.{yet, Limited, finds, stops, moves}
+use Rattle.wheel.proofs.laws.Turns.{got-none}
+use Rattle.queue.specs.Steps.{polled-some, not-yet}
 use Rattle.queue.specs.declared.Answer.{Answer}
-use Rattle.queue.specs.Told.{told, handing}
+use Rattle.queue.specs.Told.{Told, told, handing}
 use Rattle.queue.specs.Told as T
-use Rattle.records.specs.View.{withValue, upd, withPeriod}
+use Rattle.records.specs.View.{View, withValue, upd, withPeriod}
 use Rattle.records.specs.Records.{keyOf, Takes, taken, target, placed}
-use Rattle.records.specs.Words.{QueueWords, elapsed, view, Sound}
+use Rattle.records.specs.Words.{QueueWords, AtRest, elapsed, view, Sound}
 use Rattle.records.proofs.laws.Cases.{takes-so}
 use Rattle.queue.specs.Calls.{Answered}
+use Rattle.delay_queue.specs.declared.Call.{Call}
 use Rattle.delay_queue.specs.declared.Call.the-variants as C
 use Rattle.delay_queue.specs.Claims.{CallClaim}
-use Rattle.promises.specs.Runs.{Asked, Runs, rest, next, Each}
+use Rattle.promises.specs.Runs.{Asked, Runs, rest, next, Each, isPoll}
 use Rattle.promises.specs.Keys.{asked}
 use Rattle.promises.specs.KeysStay.{Out}
 use Rattle.promises.specs.KeysReach.{Reaches}
 use Rattle.promises.specs.Polling.{IsPending, SaysOut, HandsLeast, PollLeast}
+use Rattle.promises.specs.Waiting.{Some}
 use Rattle.promises.specs.First.{NotSet, storedOn, SetInTurn, SecondOut}
 use Rattle.promises.proofs.laws.Met.{insert-met, poll-met}
-use Rattle.promises.proofs.laws.OneCall.{call-sound}
-use Rattle.promises.proofs.laws.Quiet.{Fresh, fresh-two}
-use Rattle.promises.proofs.laws.Polling.{none-out, target-timed, poll-least, poll-clock}
+use Rattle.promises.proofs.laws.OneCall.{call-met, call-sound}
+use Rattle.promises.proofs.laws.Chained.{rest-of-whole}
+use Rattle.promises.proofs.laws.Quiet.{Fresh, fresh-two, target-70}
+use Rattle.promises.proofs.laws.Polling.{whole-no-yet, taken-from-rest, none-out, target-timed, poll-least, poll-clock}
+use Rattle.pausing.specs.Pausing.{added, SaysYet, PollTaken}
+use Rattle.pausing.proofs.laws.Pausing.{some-on, polls-one}
+use Rattle.promises.specs.Polls.{PollAt, whole, limited}
+use Rattle.promises.proofs.laws.Does.{poll-is}
+use Rattle.promises.proofs.laws.Views.{call-goes, goes-rest}
 use Rattle.promises.proofs.laws.KeysStay.{key-is}
 use Rattle.promises.proofs.laws.KeysReach.{reaches-on, insert-reaches}
 use Rattle.promises.proofs.laws.First.{first-set-first-out, expired-first-out}
-use Rattle.promises.proofs.laws.TakesOut.{key-of-names}
+use Rattle.promises.proofs.laws.TakesOut.{one-list, key-of-names}
+
+-- a poll sets nobody that does not repeat
+unset : (u : QueueWords) {i x d : ℕ} → Reaches (view u) i x 0 d → {c : Call} {now : ℕ} → PollAt c now → (a : Answer) (t : QueueWords)
+    → NotSet i u (asked c a) t
+unset u R p a t w (inl z) = true≢false (sym (poll-is p) ∙ ap isPoll (z .2))
+unset u R p a t w (inr (inl z)) = true≢false (sym (poll-is p) ∙ ap isPoll (z .0))
+unset u R p a t w (inr (inr z)) = omega (arith, z .7, R .period, ap (view u .period) (R .names .number))
 
 -- ---- two timers for one time
 
@@ -42,7 +68,7 @@ module _ {s : QueueWords} (F : Fresh s) (when now : ℕ) (near : Takes 0 when) (
 
   D₁ : Answered s (m₁ .0) (T.key (keyOf (view s) 0))
       (placed 0 when (withPeriod (upd (view s .period) 0 0) (withValue (upd (view s .value) 0 7) (taken (1 ∷ []) (view s))))) (m₁ .1)
-  D₁ = m₁ .2 .good (F .sound) .done 0 (1 ∷ []) (F .room) (rw (F .clock) near)
+  D₁ = m₁ .2 .good (F .sound) .free (F .at-rest) .done 0 (1 ∷ []) (F .room) (rw (F .clock) near)
 
   size₁ : view (m₁ .1) .n ≡ 2
   unfolding placed
@@ -67,9 +93,17 @@ module _ {s : QueueWords} (F : Fresh s) (when now : ℕ) (near : Takes 0 when) (
   m₂ : (a : Answer) × (t : QueueWords) × CallClaim (C.Insert 8 when 0) (m₁ .1) a t
   m₂ = insert-met (m₁ .1) 8 when 0
 
+  rest₁ : AtRest (m₁ .1)
+  unfolding placed
+  rest₁ = ap (λ v. v .hand) (D₁ .view) ∙ F .at-rest
+
   D₂ : Answered (m₁ .1) (m₂ .0) (T.key (keyOf (view (m₁ .1)) 1))
       (placed 1 when (withPeriod (upd (view (m₁ .1) .period) 1 0) (withValue (upd (view (m₁ .1) .value) 1 8) (taken [] (view (m₁ .1)))))) (m₂ .1)
-  D₂ = m₂ .2 .good (D₁ .sound) .done 1 [] room₁ (rw clock₁ near)
+  D₂ = m₂ .2 .good (D₁ .sound) .free rest₁ .done 1 [] room₁ (rw clock₁ near)
+
+  rest₂ : AtRest (m₂ .1)
+  unfolding placed
+  rest₂ = ap (λ v. v .hand) (D₂ .view) ∙ rest₁
 
   size₂ : view (m₂ .1) .n ≡ 2
   unfolding placed
@@ -78,6 +112,9 @@ module _ {s : QueueWords} (F : Fresh s) (when now : ℕ) (near : Takes 0 when) (
   clock₂ : elapsed (m₂ .1) ≡ 0
   unfolding placed
   clock₂ = ap (λ v. v .elapsed) (D₂ .view) ∙ clock₁
+
+  K₂ : PollTaken (view (m₂ .1)) now
+  K₂ = taken-from-rest (m₂ .1) rest₂ (omega (arith, clock₂))
 
   abbrev k : ℕ
   k = keyOf (view (m₁ .1)) 1
@@ -98,16 +135,11 @@ module _ {s : QueueWords} (F : Fresh s) (when now : ℕ) (near : Takes 0 when) (
   K : Reaches (view (m₂ .1)) k 8 0 (max when (elapsed (m₁ .1)))
   K = insert-reaches (D₁ .sound) (m₂ .2) (D₂ .told)
 
-  -- the second insert sets another, and a poll sets nobody: they do not repeat
+  -- the second insert sets another
   other : NotSet j (m₁ .1) (asked (C.Insert 8 when 0) (m₂ .0)) (m₂ .1)
   other w (inl z) = let e : T.key j ≡ T.key k = sym (z .3) ∙ D₂ .told in let q : j ≡ k = cc in apart q
   other w (inr (inl z)) = let e = z .0 in let y : _≡_ {A = ℕ} 0 1 = cc in omega arith
-  other w (inr (inr z)) = let e = z .5 in let y : _≡_ {A = ℕ} 0 1 = cc in omega arith
-
-  unset : {i x d : ℕ} → Reaches (view (m₂ .1)) i x 0 d → (a : Answer) (t : QueueWords) → NotSet i (m₂ .1) (asked (C.Poll now) a) t
-  unset R a t w (inl z) = let e = z .2 in let y : _≡_ {A = ℕ} 0 1 = cc in omega arith
-  unset R a t w (inr (inl z)) = let e = z .0 in let y : _≡_ {A = ℕ} 0 1 = cc in omega arith
-  unset R a t w (inr (inr z)) = omega (arith, z .7, R .period, ap (view (m₂ .1) .period) (R .names .number))
+  other w (inr (inr z)) = true≢false (sym (poll-is (z .5)))
 
   abbrev in-turn : {t : QueueWords} (l : List Asked) (R : Runs (m₂ .1) l t) → Each (NotSet j) R → Each (NotSet k) R → SetInTurn s j k t
   in-turn l R f g =
@@ -134,7 +166,7 @@ module _ {s : QueueWords} (F : Fresh s) (when now : ℕ) (near : Takes 0 when) (
     S₃ = call-sound (C.Poll now) (m₂ .1) (m₃ .0) (m₃ .1) (m₃ .2) (D₂ .sound)
 
     fair : PollLeast (view (m₂ .1)) now (told (m₃ .0)) (view (m₃ .1))
-    fair = poll-least (D₂ .sound) (omega (arith, clock₂)) (m₃ .2)
+    fair = poll-least (D₂ .sound) whole K₂ (m₃ .0) (m₃ .1) (m₃ .2) (whole-no-yet (D₂ .sound) K₂ (m₃ .2))
 
     says : SaysOut (told (m₃ .0))
     says = fair .hands-out .1 (J .number, (J .place, J .names .pending), omega (arith, J .deadline, F .clock, due))
@@ -153,8 +185,11 @@ module _ {s : QueueWords} (F : Fresh s) (when now : ℕ) (near : Takes 0 when) (
 
     fair₄ : PollLeast (view (m₃ .1)) now (told (m₄ .0)) (view (m₄ .1))
     fair₄ =
-        let c = poll-clock (D₂ .sound) (omega (arith, clock₂)) (m₃ .2) .out (says .0) (says .1) (says .2) (says .3) (says .4) (says .5) in
-        poll-least S₃ (omega (arith, c, clock₂, got .due)) (m₄ .2)
+        let c = poll-clock (D₂ .sound) whole K₂ (m₃ .0) (m₃ .1) (m₃ .2) .out (says .0) (says .1) (says .2) (says .3) (says .4) (says .5) in
+        let D = call-goes (C.Poll now) (m₂ .1) (m₃ .0) (m₃ .1) (D₂ .sound) (m₃ .2) in
+        let rest₃ : AtRest (m₃ .1) = goes-rest D (whole-no-yet (D₂ .sound) K₂ (m₃ .2)) rest₂ in
+        let K : PollTaken (view (m₃ .1)) now = taken-from-rest (m₃ .1) rest₃ (omega (arith, c, clock₂, got .due)) in
+        poll-least S₃ whole K (m₄ .0) (m₄ .1) (m₄ .2) (whole-no-yet S₃ K (m₄ .2))
 
     says₄ : SaysOut (told (m₄ .0))
     says₄ = fair₄ .hands-out .1 (K₃ .number, (K₃ .place, K₃ .names .pending), omega (arith, K₃ .deadline, clock₁, due))
@@ -186,21 +221,27 @@ module _ {s : QueueWords} (F : Fresh s) (when now : ℕ) (near : Takes 0 when) (
         let q : k ≡ says₄ .0 = key-is (K₃ .names) ∙ ap (keyOf (view (m₃ .1))) (sym second-is) ∙ sym (key-is (got₄ .names)) in
         (says₄ .1, says₄ .2, says₄ .3, says₄ .4, rw q (says₄ .5))
 
-    abbrev second-out : SecondOut
-    second-out =
+    -- whatever calls lead to where the first was handed out
+    abbrev second-by : (l : List Asked) (R : Runs (m₂ .1) l (m₃ .1)) → Each (NotSet j) R → Each (NotSet k) R → SecondOut
+    second-by l R f g =
         record {
           start = s;
           reached = m₃ .1;
           left = m₄ .1;
           one = j;
           two = k;
-          now = now;
+          call = C.Poll now;
           answer = m₄ .0;
           sound = F .sound;
-          run = in-turn (asked (C.Poll now) (m₃ .0) ∷ []) (next (m₃ .2) rest) (unset J (m₃ .0) (m₃ .1), tt) (unset K (m₃ .0) (m₃ .1), tt);
+          run = in-turn l R f g;
           poll = m₄ .2;
           out = out₄;
         }
+
+    abbrev second-out : SecondOut
+    second-out =
+        second-by (asked (C.Poll now) (m₃ .0) ∷ []) (next (m₃ .2) rest) (unset (m₂ .1) J whole (m₃ .0) (m₃ .1), tt)
+        (unset (m₂ .1) K whole (m₃ .0) (m₃ .1), tt)
 
 -- two for 70, polled at 70
 pub first-shown : (x : SecondOut) × (storedOn (x .run .first) ≡ storedOn (x .run .second)) × (elapsed (x .run .later) < storedOn (x .run .second))
@@ -212,7 +253,7 @@ first-shown =
     let same : max 70 (elapsed (fresh-two .0)) ≡ max 70 (elapsed (m₁ F 70 70 near due .1)) = omega (arith, c, F .clock) in
     let late : elapsed (m₁ F 70 70 near due .1) < max 70 (elapsed (m₁ F 70 70 near due .1)) = omega (arith, c) in
     let I = in-turn F 70 70 near due [] rest tt tt in
-    (second-out F 70 70 near due (λ a u P o. first-set-first-out (F .sound) I P o (J F 70 70 near due .names) same late), same, late)
+    (second-out F 70 70 near due (λ a u P o. first-set-first-out (F .sound) I (C.Poll 70) a u P o (J F 70 70 near due .names) same late), same, late)
 
 -- and two for 0, which have expired when they are set, polled at 0
 pub expired-shown : (x : SecondOut) × (x .run .first .when ≤ elapsed (x .start)) × (x .run .second .when ≤ elapsed (x .run .later))
@@ -222,4 +263,153 @@ expired-shown =
     let due : 0 ≤ 0 = omega arith in
     let I = in-turn F 0 0 near due [] rest tt tt in
     let N = J F 0 0 near due .names in
-    (second-out F 0 0 near due (λ a u P o. expired-first-out (F .sound) I P o N (omega arith) (omega arith)), omega arith, omega arith)
+    (second-out F 0 0 near due (λ a u P o. expired-first-out (F .sound) I (C.Poll 0) a u P o N (omega arith) (omega arith)), omega arith, omega arith)
+
+-- ---- 02 [10]: over a pause, inside the drain of their slot
+
+-- a timer for 70 comes to the tail of its slot, in a store at 0
+set-lists : {s t : QueueWords} {a : Answer} {x : Told} (r value : ℕ) (l : List ℕ)
+    → Answered s a x (placed r 70 (withPeriod (upd (view s .period) r 0) (withValue (upd (view s .value) r value) (taken l (view s))))) t → elapsed s ≡ 0
+    → (q : ℕ) → q < free → view t .lists q ≡ change (view s .lists) 65 (view s .lists 65 ++ r ∷ []) q
+unfolding placed
+set-lists {s} {t} r value l A e q h =
+    let L : Lists = change (view s .lists) free l in
+    let is : view t .lists ≡ change L 65 (put 65 r (L 65))
+    = ap (λ v. v .lists) (A .view) ∙ ap (λ p. change L p (put p r (L p))) (target-70 (elapsed s) e) in
+    let own : L 65 ≡ view s .lists 65 = change-other (view s .lists) free l 65 (omega arith) in
+    ap (λ (M : Lists). M q) is
+    ∙ by-cases (ℕ-discrete q 65)
+    (λ (z : q ≡ 65).
+    rw z (change-same L 65 (put 65 r (L 65)) ∙ put-tail 65 r (L 65) (omega arith) ∙ ap (λ k. k ++ r ∷ []) own
+    ∙ sym (change-same (view s .lists) 65 (view s .lists 65 ++ r ∷ []))))
+    (λ d.
+    change-other L 65 (put 65 r (L 65)) q d ∙ change-other (view s .lists) free l q (omega (arith, h))
+    ∙ sym (change-other (view s .lists) 65 (view s .lists 65 ++ r ∷ []) q d))
+
+-- nothing is pending in a fresh store
+fresh-empty : {s : QueueWords} → Fresh s → (p : ℕ) → p < free → view s .lists p ≡ []
+fresh-empty {s} F p h = by (view s .lists p) refl
+  where
+    by : (l : List ℕ) → view s .lists p ≡ l → view s .lists p ≡ []
+    by [] e = e
+    by (x ∷ l) e =
+        let m : Mem x (view s .lists p) = rw e (inl refl) in
+        let b = stack-laws.member-below (F .sound .standing .whole .stack) p x m in
+        let both : Mem x (0 ∷ 1 ∷ [])
+        = by-cases (ℕ-discrete x 0) inl (λ d. inr (inl (omega (arith, b, F .size, d)))) in
+        absurd (omega (arith, h, one-list (F .sound) x p free m (subst (Mem x) (sym (F .room)) both)))
+
+module _ {s : QueueWords} (F : Fresh s) (near : Takes 0 70) (due : 70 ≤ 70) where
+  abbrev set₂ : QueueWords
+  set₂ = m₂ F 70 70 near due .1
+
+  abbrev v₂ : View
+  v₂ = view set₂
+
+  -- both lie in the slot of 70, and nothing else is pending
+  lists₂ : (q : ℕ) → q < free → v₂ .lists q ≡ change (λ p. []) 65 (0 ∷ 1 ∷ []) q
+  lists₂ q h =
+      let one = set-lists 0 7 (1 ∷ []) (D₁ F 70 70 near due) (F .clock) in
+      let two = set-lists 1 8 [] (D₂ F 70 70 near due) (clock₁ F 70 70 near due) in
+      let bare = fresh-empty F in
+      let first : view (m₁ F 70 70 near due .1) .lists 65 ≡ 0 ∷ []
+      = one 65 (omega arith) ∙ change-same (view s .lists) 65 (view s .lists 65 ++ 0 ∷ []) ∙ ap (λ k. k ++ 0 ∷ []) (bare 65 (omega arith)) in
+      two q h
+      ∙ by-cases (ℕ-discrete q 65)
+      (λ (z : q ≡ 65).
+      rw z (change-same (view (m₁ F 70 70 near due .1) .lists) 65 _ ∙ ap (λ k. k ++ 1 ∷ []) first ∙ sym (change-same (λ p. []) 65 (0 ∷ 1 ∷ []))))
+      (λ d.
+      change-other (view (m₁ F 70 70 near due .1) .lists) 65 _ q d ∙ one q h ∙ change-other (view s .lists) 65 _ q d ∙ bare q h
+      ∙ sym (change-other (λ p. []) 65 (0 ∷ 1 ∷ []) q d))
+
+  slot₂ : v₂ .lists 65 ≡ 0 ∷ 1 ∷ []
+  slot₂ = lists₂ 65 (omega arith) ∙ change-same (λ p. []) 65 (0 ∷ 1 ∷ [])
+
+  other₂ : (q : ℕ) → q < free → q ≢ 65 → v₂ .lists q ≡ []
+  other₂ q h d = lists₂ q h ∙ change-other (λ p. []) 65 (0 ∷ 1 ∷ []) q d
+
+  own-slot : slotOf (v₂ .elapsed) 1 ≡ 0
+  unfolding slotOf width
+  own-slot = ap (λ e. e / 64 % 64) (clock₂ F 70 70 near due)
+
+  starts-at : startAt (v₂ .elapsed) 1 1 ≡ 64
+  unfolding startAt width
+  starts-at = ap (λ e. e / 4096 * 4096 + 64) (clock₂ F 70 70 near due)
+
+  first-slot : FirstSlot (v₂ .elapsed) (v₂ .lists) 1 1
+  first-slot =
+      record {
+        within = omega arith;
+        lowest = λ q h. other₂ q (omega arith) (omega arith);
+        steps = 1;
+        near = omega arith;
+        is = omega (arith, own-slot);
+        before = λ i h. other₂ (slotPlace 1 ((slotOf (v₂ .elapsed) 1 + i) % 64)) (omega arith) (omega (arith, own-slot, h));
+        head = 0;
+        rest = 1 ∷ [];
+        filled = slot₂;
+      }
+
+  -- a poll with limit 1 moves the first, and stops before the second
+  abbrev moved : Lists
+  moved = arrive 0 (v₂ .deadline 0) 0 (change (v₂ .lists) 65 (1 ∷ []))
+
+  still-there : moved 65 ≡ 1 ∷ []
+  unfolding arrive
+  still-there =
+      change-other (change (v₂ .lists) 65 (1 ∷ [])) _ _ 65 (omega (arith, slot-lt (v₂ .deadline 0) 0)) ∙ change-same (v₂ .lists) 65 (1 ∷ [])
+
+  stops-so : Limited (v₂ .deadline) 70 none 1 (v₂ .elapsed) (v₂ .lists) (yet 65) 1 0 (v₂ .elapsed) moved
+  stops-so = finds first-slot (omega (arith, starts-at)) (moves slot₂ (stops still-there))
+
+  -- so it is answered
+  y : (a : Answer) × (t : QueueWords) × CallClaim (C.PollSome 70 1) set₂ a t
+  y = call-met (C.PollSome 70 1) set₂
+
+  says-yet : told (y .0) ≡ T.yet 1 0
+  says-yet =
+      let Q = some-on (D₂ F 70 70 near due .sound) (K₂ F 70 70 near due) (y .2) .1 in
+      let l = subst (λ h. Limited (v₂ .deadline) 70 h 1 (v₂ .elapsed) (v₂ .lists) (yet 65) 1 0 (v₂ .elapsed) moved)
+      (sym (got-none (v₂ .hand) (rest₂ F 70 70 near due))) stops-so in
+      polls-one Q (not-yet (polled-some (other₂ expired (omega arith) (omega arith)) l)) .0
+
+  -- each of the two waits over it
+  waits-on : {i x d : ℕ} → Reaches v₂ i x 0 d → Reaches (view (y .1)) i x 0 d
+  waits-on R =
+      reaches-on (D₂ F 70 70 near due .sound) R (next {x = asked (C.PollSome 70 1) (y .0)} (y .2) rest)
+      ((λ z. absurd z, λ o. none-out (ap handing (sym says-yet) ∙ o .4)), tt)
+
+  module _ (never : (a : Answer) (u : QueueWords) → CallClaim (C.Poll 70) set₂ a u → Out (k F 70 70 near due) (told a) → ⊥) where
+    abbrev third : (a : Answer) × (t : QueueWords) × CallClaim (C.Poll 70) set₂ a t
+    third = m₃ F 70 70 near due never
+
+    x₃ : (x : Answer) × CallClaim (C.Poll 70) (y .1) x (third .1) × (told (third .0) ≡ added 1 0 (told x))
+    x₃ = rest-of-whole (y .0) (third .0) (y .2) says-yet (third .2)
+
+    abbrev paused : List Asked
+    paused = asked (C.PollSome 70 1) (y .0) ∷ asked (C.Poll 70) (x₃ .0) ∷ []
+
+    unset-both : {i x d : ℕ} → Reaches v₂ i x 0 d
+        → Each (NotSet i) (next {x = asked (C.PollSome 70 1) (y .0)} (y .2) (next {x = asked (C.Poll 70) (x₃ .0)} (x₃ .1) rest))
+    unset-both R = (unset set₂ R limited (y .0) (y .1), (unset (y .1) (waits-on R) whole (x₃ .0) (third .1), tt))
+
+    abbrev paused-out : SecondOut
+    paused-out =
+        second-by F 70 70 near due never paused (next (y .2) (next (x₃ .1) rest)) (unset-both (J F 70 70 near due)) (unset-both (K F 70 70 near due))
+
+-- two for 70, polled at 70 with a pause between the moves of the first and of the second: they come out in turn all the same
+pub paused-shown : (x : SecondOut) × (storedOn (x .run .first) ≡ storedOn (x .run .second)) × (elapsed (x .run .later) < storedOn (x .run .second))
+    × Some (λ y. SaysYet (told (y .answer))) (x .run .after)
+paused-shown =
+    let F = fresh-two .1 in
+    let near : Takes 0 70 = takes-so (omega arith) (λ h. refl) in
+    let due : 70 ≤ 70 = omega arith in
+    let c = clock₁ F 70 70 near due in
+    let same : max 70 (elapsed (fresh-two .0)) ≡ max 70 (elapsed (m₁ F 70 70 near due .1)) = omega (arith, c, F .clock) in
+    let late : elapsed (m₁ F 70 70 near due .1) < max 70 (elapsed (m₁ F 70 70 near due .1)) = omega (arith, c) in
+    let I = in-turn F 70 70 near due [] rest tt tt in (
+      paused-out F near due (λ a u P o. first-set-first-out (F .sound) I (C.Poll 70) a u P o (J F 70 70 near due .names) same late),
+      same,
+      late,
+      inl (1, 0, says-yet F near due),
+    )

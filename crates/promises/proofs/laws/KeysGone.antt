@@ -16,8 +16,9 @@ use Rattle.queue.specs.Told.{Told, Hands, timer}
 use Rattle.queue.specs.Told as T
 use Rattle.records.specs.View.{View}
 use Rattle.records.specs.Records.{lastTurn, keyOf, At, Names, left, freed, numberIn, turnIn}
-use Rattle.queue.specs.Steps.{QueuePolls, handed, nothing, GoesOn, once, again, ended}
+use Rattle.queue.specs.Steps.{PollsSome, handed-some, nothing-some, not-yet, GoesOn, once, again, ended}
 use Rattle.records.specs.Words.{QueueWords, count, view, Sound}
+use Rattle.pausing.specs.Pausing.{PollTaken}
 use Rattle.records.proofs.laws.Words.{upd-same}
 use Rattle.queue.proofs.laws.Polls.{clear-done}
 use Rattle.delay_queue.specs.declared.Call.{Call}
@@ -131,14 +132,15 @@ module _ {s : QueueWords} (S : Sound s) where
   goes-spent t out (again p f) d = absurd (⊎-elim (λ z. omega arith) (λ y. let e = y .5 in let z : _≡_ {A = ℕ} 0 1 = cc in omega arith) d)
   goes-spent {i} {u = u} t out (ended p f) d = rw (← t) (freed-spent i u out)
 
-  poll-spent : {now : ℕ} {x : Told} {w : View} → view s .elapsed ≤ now → QueuePolls (view s) now x w → {k v d m n : ℕ} → Hands x k v d m n
+  poll-spent : {now limit : ℕ} {x : Told} {w : View} → PollTaken (view s) now → PollsSome (view s) now limit x w → {k v d m n : ℕ} → Hands x k v d m n
       → HandsOut k x w
-  poll-spent h (handed {r = i} {m} {n} {u} T G) {k} {v} {d} {m = m₁} {n = n₁} z =
+  poll-spent h (handed-some {r = i} {m} {n} {u} T G) {k} {v} {d} {m = m₁} {n = n₁} z =
       let O = taken-out S h T in
       let e : timer (keyOf (view s) i) (view s .value i) (view s .deadline i) m n ≡ timer k v d m₁ n₁ = sym (goes-on-says G) ∙ z in
       let q : k ≡ keyOf (view s) i = cc in
       hands-out (O .out i refl .1) q (goes-spent (ap (λ f. f i) (O .turn)) (O .gone i refl) G)
-  poll-spent h (nothing T) z = absurd (none-out z)
+  poll-spent h (nothing-some T) z = absurd (none-out z)
+  poll-spent h (not-yet T) z = absurd (none-out z)
 
   -- ---- clear
 
@@ -147,7 +149,7 @@ module _ {s : QueueWords} (S : Sound s) where
   clear-empty {a} {t} A r p b =
       let m = clear-first (S .standing) (count s) (omega arith) in
       let C = m .1 in
-      let e = clear-once A (taken-up S (clear-done C refl)) .1 in
+      let e = clear-once A (taken-up S (clear-done C refl (s .hand) (s .until))) .1 in
       let x = rw e at b in
       let y : At (view (m .0)) r p = record { timed = x .timed; member = x .member } in
       C .gone r (omega (arith, stack-laws.member-below (C .standing .whole .stack) p r (y .member))) p y
@@ -183,7 +185,7 @@ module _ {s : QueueWords} (S : Sound s) {k : ℕ} where
     module _ {v d m n : ℕ} where
       -- what is handed out was pending under its key
       pub out-spent : Hands x k v d m n → HandsOut S k x w
-      out-spent z = let p = out-polls D z in poll-spent S (p .1) (p .2) z
+      out-spent z = let p = out-polls D z in poll-spent S (p .1) (p .2 .1) z
 
       -- one that is spent is not handed out
       pub spent-kept : Spent (view s) k → (Hands x k v d m n → ⊥)

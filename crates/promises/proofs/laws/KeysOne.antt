@@ -7,20 +7,17 @@ use Prim.Native.Nat.{ℕ, _+_, _≤_, _<_, max}
 use native.Mathlib.Decide.{ℕ-discrete}
 use native.Mathlib.Omega.{arith}
 use borrow.Author.Tests.{eq-eqb, ne-eqb}
-use Rattle.times.specs.Times.{levelOf}
-use Rattle.times.proofs.laws.Quotients.{slot-lt}
-use Rattle.times.proofs.laws.Levels.{level-is}
-use Rattle.links.specs.Lists.{Mem}
+use Rattle.links.specs.Lists.{nobody, Mem}
 use Rattle.links.proofs.laws.Lists.{change-other}
 use Rattle.stack.specs.Places.{free, put}
-use Rattle.wheel.specs.Wheel.{placeFor}
 use Rattle.wheel.proofs.laws.Sums.{mem-joined, mem-left}
 use Rattle.queue.specs.Told.{Told}
-use Rattle.records.specs.View.{View, withElapsed, withValue, upd, withPeriod}
+use Rattle.records.specs.View.{View, withElapsed, withValue, withHand, upd, withPeriod}
 use Rattle.records.specs.Records.{lastTurn, At, taken, left, target, placed, freed}
 use Rattle.queue.proofs.laws.Polls.{left-less}
-use Rattle.queue.specs.Steps.{QueuePolls, handed, nothing, Clears, begun, kept, gave, GoesOn, once, again, ended}
+use Rattle.queue.specs.Steps.{PollsSome, handed-some, nothing-some, not-yet, Clears, begun, kept, gave, GoesOn, once, again, ended}
 use Rattle.records.specs.Words.{QueueWords, view, Sound}
+use Rattle.pausing.specs.Pausing.{PollTaken}
 use Rattle.records.proofs.laws.Words.{upd-same, upd-other}
 use Rattle.delay_queue.specs.declared.Call.{Call}
 use Rattle.promises.specs.OneCall.{isNo}
@@ -116,15 +113,16 @@ taken-onward {v} {u} T r =
     }
 
 module _ {s : QueueWords} (S : Sound s) where
-  poll-onward : {now : ℕ} {x : Told} {w : View} → view s .elapsed ≤ now → QueuePolls (view s) now x w → (r : ℕ) → Onward (view s) w r
-  poll-onward h (handed {r = i} {u = u} T G) r = let O = taken-out S h T in goes-onward (O .out i refl) (taken-onward O r) G
+  poll-onward : {now limit : ℕ} {x : Told} {w : View} → PollTaken (view s) now → PollsSome (view s) now limit x w → (r : ℕ) → Onward (view s) w r
+  poll-onward h (handed-some {r = i} {u = u} T G) r = let O = taken-out S h T in goes-onward (O .out i refl) (taken-onward O r) G
     where
       goes-onward : {i m n : ℕ} {u : View} {x : Told} {w : View} → (q : ℕ) × At (view s) i q → Onward (view s) u r → GoesOn (view s) i m n u x w
           → Onward (view s) w r
       goes-onward {i} {u = u} a O (once z) = onward-then O (freed-onward i u r)
       goes-onward {i} {u = u} a O (again p f) = placed-onward i (view s .deadline i + view s .period i) (view s) u (inr a) r O
       goes-onward {i} {u = u} a O (ended p f) = onward-then O (freed-onward i u r)
-  poll-onward h (nothing T) r = taken-onward (taken-out S h T) r
+  poll-onward h (nothing-some T) r = taken-onward (taken-out S h T) r
+  poll-onward h (not-yet T) r = taken-onward (taken-out S h T) r
 
 clears-onward : {v : View} {k : ℕ} {w : View} → Clears v k w → (r : ℕ) → Onward v w r
 clears-onward {v} begun r = onward-same v r
@@ -145,7 +143,7 @@ does-onward {s} S (inserts {value} {when} {period} {r = i} {l = l} e) f r =
 does-onward {s} S (resets {when = when} {r = i} {p = p} N) f r =
     placed-onward i when (view s) (left p i (view s)) (inr (p, N .pending)) r (left-onward p i (view s) r)
 does-onward {s} S (removes {r = i} {p = p} N) f r = onward-then (left-onward p i (view s) r) (freed-onward i (left p i (view s)) r)
-does-onward S (polls h Q) f r = poll-onward S h Q r
+does-onward S (polls c h Q) f r = poll-onward S h Q r
 does-onward {s} S (wakes W) f r = onward-same (view s) r
 does-onward {s} S counts f r = onward-same (view s) r
-does-onward S (clears {w} c) f r = onward-then (clears-onward c r) (less-onward w (withElapsed 0 w) r refl (λ q m. m))
+does-onward S (clears {w} c) f r = onward-then (clears-onward c r) (less-onward w (withHand nobody 0 (withElapsed 0 w)) r refl (λ q m. m))

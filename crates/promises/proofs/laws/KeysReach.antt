@@ -2,8 +2,8 @@
 use mathlib.Core.Path.{_≡_, refl, sym, ap, _∙_, subst}
 use mathlib.Core.Logic.{inl}
 use mathlib.Core.List.{List}
-use mathlib.Core.Option.{Option, none, some}
-use Prim.Native.Nat.{ℕ, _≤_, _<_, max}
+use mathlib.Core.Option.{none, some}
+use Prim.Native.Nat.{ℕ, _<_, max}
 use native.Mathlib.Omega.{arith}
 use Rattle.links.proofs.laws.Lists.{change-same}
 use Rattle.stack.specs.Places.{free}
@@ -15,19 +15,22 @@ use Rattle.queue.specs.Told as T
 use Rattle.records.specs.View.{View, withValue, upd, withPeriod}
 use Rattle.records.specs.Records.{keyOf, At, Names, taken, left, target, placed, numberIn, turnIn}
 use Rattle.queue.proofs.laws.Calls.{names-one}
-use Rattle.queue.specs.Steps.{QueuePolls}
-use Rattle.records.specs.Words.{QueueWords, elapsed, view, Sound}
+use Rattle.queue.specs.Steps.{PollsSome}
+use Rattle.records.specs.Words.{QueueWords, AtRest, elapsed, view, Sound}
+use Rattle.pausing.specs.Pausing.{PollTaken}
+use Rattle.wheel.specs.Limited.{Outcome, ended as stopped, yet}
 use Rattle.records.proofs.laws.Words.{upd-same}
+use Rattle.delay_queue.specs.declared.Call.{Call}
 use Rattle.delay_queue.specs.declared.Call.the-variants as C
 use Rattle.delay_queue.specs.Claims.{CallClaim}
 use Rattle.promises.proofs.laws.OneCall.{call-sound}
 use Rattle.promises.specs.Runs.{Asked, Runs, rest, next, All}
 use Rattle.promises.proofs.laws.Runs.{run-sound}
-use Rattle.promises.proofs.laws.Views.{ViewGoes, refuses, inserts, resets, polls, call-goes}
+use Rattle.promises.proofs.laws.Views.{ViewGoes, refuses, inserts, resets, call-goes, out-polls}
 use Rattle.promises.proofs.laws.Polling.{target-timed, saysOf, Fairly, Polled, poll-works, none-out}
 use Rattle.promises.proofs.laws.KeysStay.{Stays, does-stays}
 use Rattle.promises.specs.KeysReach.{Reaches, Spares}
-use Rattle.promises.proofs.laws.TakesOut.{key-of-names}
+use Rattle.promises.proofs.laws.TakesOut.{gotBy, key-of-names}
 
 -- ---- one call
 
@@ -80,28 +83,28 @@ module _ {s : QueueWords} (S : Sound s) where
       rw (← e, ← f) (placed-reaches (left p i (view s)) i when (N .number) (N .below) (N .turn))
 
   -- what is handed out under the key is the record that the key names
-  pub poll-tells : {now : ℕ} {x : Told} {w : View} → view s .elapsed ≤ now → QueuePolls (view s) now x w → {k y q d v e m n : ℕ}
+  pub poll-tells : {now limit : ℕ} {x : Told} {w : View} → PollTaken (view s) now → PollsSome (view s) now limit x w → {k y q d v e m n : ℕ}
       → Reaches (view s) k y q d
       → Hands x k v e m n → (v ≡ y) × (e ≡ d)
-  poll-tells {now} {x} {w} h Q {k} {y} {d = d} {v} {e} R z = by (P .got) (P .is) (P .by .fair)
+  poll-tells {now} {x = x} {w = w} h Q {k} {y} {d = d} {v} {e} R z = by (P .outcome) (P .is) (P .by .fair)
     where
       P : Polled (view s) now x w
-      P = poll-works (view s) (S .rule) h Q
+      P = poll-works S h Q
 
-      by : (o : Option ℕ) → handing x ≡ saysOf (view s) o (P .moves) (P .drains) → Fairly (view s) now o → (v ≡ y) × (e ≡ d)
-      by none is f = absurd (none-out (sym is ∙ z))
-      by (some i) is f =
+      by : (o : Outcome) → handing x ≡ saysOf (view s) (gotBy o) (P .moves) (P .drains) → Fairly (view s) now o → (v ≡ y) × (e ≡ d)
+      by (stopped none) is f = absurd (none-out (sym is ∙ z))
+      by (yet o) is f = absurd (none-out (sym is ∙ z))
+      by (stopped (some i)) is f =
           let q : k ≡ keyOf (view s) i = cc in
           let a : v ≡ view s .value i = cc in
           let b : e ≡ view s .deadline i = cc in
           let j : i ≡ R .number = (rw (← q) at (key-of-names S (f .0 .1) .number)) ∙ sym (R .names .number) in
           (a ∙ ap (view s .value) j ∙ R .value, b ∙ ap (view s .deadline) j ∙ R .deadline)
 
-  out-does : {now : ℕ} {x : Told} {w : View} → ViewGoes (view s) (C.Poll now) x w → {k y q d v e m n : ℕ} → Reaches (view s) k y q d
-      → Hands x k v e m n
+  -- whatever call it is
+  out-does : {c : Call} {x : Told} {w : View} → ViewGoes (view s) c x w → {k y q d v e m n : ℕ} → Reaches (view s) k y q d → Hands x k v e m n
       → (v ≡ y) × (e ≡ d)
-  out-does refuses R z = let y : _≡_ {A = ℕ} 0 1 = cc in absurd (omega arith)
-  out-does (polls h Q) R z = poll-tells h Q R z
+  out-does D R z = let P = out-polls D z in poll-tells (P .1) (P .2 .1) R z
 
 pub stays-reaches : {v w : View} {k x q d : ℕ} (R : Reaches v k x q d) → Stays v w (R .number) → Reaches w k x q d
 stays-reaches {v} {w} {k} R Y =
@@ -144,14 +147,14 @@ module _ {s : QueueWords} (S : Sound s) where
   reset-reaches {t} {when} {k} {a = a} R A e = reset-does S (call-goes (C.Reset k when) s a t S A) e R
 
   -- a remove of the key answers the value and the deadline that it reaches: "`gone value deadline`"
-  pub remove-tells : {t : QueueWords} {k x q d : ℕ} {a : Answer} → Reaches (view s) k x q d → CallClaim (C.Remove k) s a t → told a ≡ T.gone x d
-  remove-tells R A = A .good S .done (R .number) (R .place) (R .names) .told ∙ rw (R .value, R .deadline)
+  pub remove-tells : {t : QueueWords} {k x q d : ℕ} {a : Answer} → AtRest s → Reaches (view s) k x q d → CallClaim (C.Remove k) s a t
+      → told a ≡ T.gone x d
+  remove-tells z R A = A .good S .free z .done (R .number) (R .place) (R .names) .told ∙ rw (R .value, R .deadline)
 
   -- and a poll that hands out the key says them: "`out key value deadline moves drains`"
-  pub out-tells : {t : QueueWords} {now k x q d v e m n : ℕ} {a : Answer} → Reaches (view s) k x q d → CallClaim (C.Poll now) s a t
-      → Hands (told a) k v e m n
+  pub out-tells : (c : Call) (a : Answer) (t : QueueWords) → CallClaim c s a t → {k x q d v e m n : ℕ} → Reaches (view s) k x q d → Hands (told a) k v e m n
       → (v ≡ x) × (e ≡ d)
-  out-tells {t} {now} {a = a} R A z = out-does S (call-goes (C.Poll now) s a t S A) R z
+  out-tells c a t A R z = out-does S (call-goes c s a t S A) R z
 
 -- it goes on reaching it over any run that leaves the timer alone
 pub reaches-on : {s t : QueueWords} {l : List Asked} {k x q d : ℕ} → Sound s → Reaches (view s) k x q d → Runs s l t → All (Spares k) l
@@ -167,6 +170,6 @@ module _ {s t u : QueueWords} {value when period k : ℕ} {a : Answer} {l : List
   pub key-reaches : Reaches (view u) k value period (max when (elapsed s))
   key-reaches = reaches-on (call-sound (C.Insert value when period) s a t I S) (insert-reaches S I answer) r spared
 
-  -- so a remove of the key answers what was inserted
-  pub key-removes : {b : Answer} {w : QueueWords} → CallClaim (C.Remove k) u b w → told b ≡ T.gone value (max when (elapsed s))
-  key-removes B = remove-tells (run-sound (call-sound (C.Insert value when period) s a t I S) r) key-reaches B
+  -- so a remove of the key answers what was inserted, while no poll is in hand
+  pub key-removes : AtRest u → {b : Answer} {w : QueueWords} → CallClaim (C.Remove k) u b w → told b ≡ T.gone value (max when (elapsed s))
+  key-removes z B = remove-tells (run-sound (call-sound (C.Insert value when period) s a t I S) r) z key-reaches B

@@ -4,7 +4,7 @@ use mathlib.Core.Logic.{_≢_, inl, inr, ⊎-elim}
 use mathlib.Core.Bool.{false, not, true≢false}
 use mathlib.Core.List.{List, _∷_}
 use mathlib.Core.Option.{Option}
-use Prim.Native.Nat.{ℕ, _≤_, max, _+_}
+use Prim.Native.Nat.{ℕ, max, _+_}
 use native.Mathlib.Omega.{arith}
 use Rattle.links.specs.Lists.{Mem, without, change}
 use Rattle.links.proofs.laws.Lists.{change-other}
@@ -14,8 +14,9 @@ use Rattle.queue.specs.Told.{Told, timer}
 use Rattle.queue.specs.Told as T
 use Rattle.records.specs.View.{View, withLists, withValue, upd, withPeriod}
 use Rattle.records.specs.Records.{keyOf, At, Names, taken, left, target, placed, freed}
-use Rattle.queue.specs.Steps.{QueuePolls, handed, nothing, GoesOn, once, again, ended}
+use Rattle.queue.specs.Steps.{PollsSome, handed-some, nothing-some, not-yet, GoesOn, once, again, ended}
 use Rattle.records.specs.Words.{QueueWords, view, Sound}
+use Rattle.pausing.specs.Pausing.{PollTaken}
 use Rattle.records.proofs.laws.Words.{upd-other}
 use Rattle.records.proofs.laws.Inner.{mem-other}
 use Rattle.delay_queue.specs.declared.Call.{Call}
@@ -150,9 +151,9 @@ module _ {s : QueueWords} (S : Sound s) {k r p : ℕ} (N : Names (view s) k r p)
   not-handed : (i : ℕ) {x y m n : ℕ} → (timer (keyOf (view s) i) x y m n ≡ timer k x y m n → ⊥) → r ≢ i
   not-handed i {x} {y} {m} {n} out e = out (ap (λ j. timer j x y m n) (ap (keyOf (view s)) (sym e) ∙ sym (key-is N)))
 
-  poll-stays : {now : ℕ} {x : Told} {w : View} → view s .elapsed ≤ now → QueuePolls (view s) now x w → (Out k x → ⊥)
+  poll-stays : {now limit : ℕ} {x : Told} {w : View} → PollTaken (view s) now → PollsSome (view s) now limit x w → (Out k x → ⊥)
       → Stays (view s) w r
-  poll-stays h (handed {r = i} {u = u} T G) out =
+  poll-stays h (handed-some {r = i} {u = u} T G) out =
       let d : r ≢ i = not-handed i (λ e. out (_, _, _, _, goes-on-says G ∙ e)) in
       stays-then (stays-taken-out (taken-out S h T) r d) (stays-on d G)
     where
@@ -160,7 +161,8 @@ module _ {s : QueueWords} (S : Sound s) {k r p : ℕ} (N : Names (view s) k r p)
       stays-on {i} {u = u} d (once z) = stays-freed i u r d
       stays-on {i} {u = u} d (again p f) = stays-placed i (view s .deadline i + view s .period i) u r d
       stays-on {i} {u = u} d (ended p f) = stays-freed i u r d
-  poll-stays h (nothing T) out = stays-taken-out (taken-out S h T) r tt
+  poll-stays h (nothing-some T) out = stays-taken-out (taken-out S h T) r tt
+  poll-stays h (not-yet T) out = stays-taken-out (taken-out S h T) r tt
 
   pub does-stays : {c : Call} {x : Told} {w : View} → ViewGoes (view s) c x w → (Aims k c → not (isNo x) ≡ false) → (Out k x → ⊥)
       → Stays (view s) w r
@@ -175,7 +177,7 @@ module _ {s : QueueWords} (S : Sound s) {k r p : ℕ} (N : Names (view s) k r p)
   does-stays (removes {r = i} {p = q} M) aims out =
       let d : r ≢ i = other-record M (λ z. true≢false (aims z)) in
       stays-then (stays-left q i (view s) r d) (stays-freed i (left q i (view s)) r d)
-  does-stays (polls h Q) aims out = poll-stays h Q out
+  does-stays (polls c h Q) aims out = poll-stays h Q out
   does-stays (wakes W) aims out = stays-same (view s) r
   does-stays counts aims out = stays-same (view s) r
   does-stays (clears c) aims out = absurd (true≢false (aims tt))

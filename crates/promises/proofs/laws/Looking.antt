@@ -27,7 +27,7 @@ use Rattle.queue.specs.Told as T
 use Rattle.records.specs.View.{View, withElapsed, withLists}
 use Rattle.records.specs.Records.{At}
 use Rattle.queue.specs.Steps.{QueuePolls, polled, popped, handed, nothing, Wakes, sleeps, starts, NextWake, at-once, from-wheel}
-use Rattle.records.specs.Words.{QueueWords, count, elapsed, markOf, view, Sound, PastKept}
+use Rattle.records.specs.Words.{QueueWords, AtRest, count, elapsed, markOf, view, Sound, PastKept}
 use Rattle.records.proofs.laws.Words.{view-fixed}
 use Rattle.records.proofs.laws.Inner.{mark-at}
 use Rattle.queue.specs.Inner.{pendingIn}
@@ -137,18 +137,19 @@ next-now : {v : View} {x : Told} {r : ℕ} {l : List ℕ} → NextWake v x → v
 next-now (at-once n) e = refl
 next-now (from-wheel n W) e = absurd (nil≢cons (sym n ∙ e))
 
-module _ {s : QueueWords} {a : Answer} (W : WakeClaim s a) (S : Sound s) where
+-- while no poll is in hand: else it is refused with 12 (02 [10])
+module _ {s : QueueWords} {a : Answer} (W : WakeClaim s a) (S : Sound s) (z : AtRest s) where
   -- `wake -` exactly when nothing is pending
   pub never-exactly : (told a ≡ T.never → NonePending (view s)) × (NonePending (view s) → told a ≡ T.never)
-  never-exactly = (next-never (W .good S .done), never-next (W .good S .done))
+  never-exactly = (next-never (W .good S .free z .done), never-next (W .good S .free z .done))
 
   -- 02 [1]: "next wake is elapsed whenever the expired stack holds anything": whatever lies on the wheel
   pub wake-at-once : {r : ℕ} {l : List ℕ} → view s .lists expired ≡ r ∷ l → told a ≡ T.wake (elapsed s)
-  wake-at-once e = next-now (W .good S .done) e
+  wake-at-once e = next-now (W .good S .free z .done) e
 
   -- "and the wheel's answer otherwise": in deadlines, of all that is pending
   pub wake-in-time : {w : ℕ} → told a ≡ T.wake w → NextAt (view s) w
-  wake-in-time e = next-at (S .rule) (W .good S .done) e
+  wake-in-time e = next-at (S .rule .free z) (W .good S .free z .done) e
 
 -- ---- a poll before the wake
 
@@ -193,10 +194,11 @@ only-next (at-once n) (nothing (polled i P)) h w e = absurd (nil≢cons (sym i �
 only-next (from-wheel n W) P h w e = idle-only W P h e
 
 -- a view that differs in elapsed alone is that of words that do
-only-elapsed : {s t : QueueWords} {now : ℕ} → Sound s → Sound t → PastKept (count s) s t → view t ≡ withElapsed now (view s) → t ≡ atTime now s
-only-elapsed {s} {t} {now} S T K e =
+only-elapsed : {s t : QueueWords} {now : ℕ} → Sound s → AtRest s → Sound t → PastKept (count s) s t → view t ≡ withElapsed now (view s) → t ≡ atTime now s
+only-elapsed {s} {t} {now} S z T K e =
     let A = S .standing in
-    let R : Rule (at (s .deadlines)) now (view s .lists) = subst (λ (v : View). Rule (v .deadline) (v .elapsed) (v .lists)) e (T .rule) in
+    let R : Rule (at (s .deadlines)) now (view s .lists)
+    = subst (λ (v : View). Rule (v .deadline) (v .elapsed) (v .lists)) e (T .rule .free (ap (λ (v : View). v .hand) e ∙ z)) in
     let S′ : Sound (atTime now s)
     = record {
       standing =
@@ -206,18 +208,19 @@ only-elapsed {s} {t} {now} S T K e =
             turns = A .turns;
             retired = A .retired;
           };
-      rule = R;
+      rule = record { free = λ _. R; inside = λ d. absurd (d z) };
+      no-now = λ _. S .no-now z;
     } in
     view-fixed S′ T e (record { links = K .links; values = K .values; deadlines = K .deadlines; turns = K .turns })
 
 -- "An empty wheel or a slot start past now ends it": a poll from elapsed on finds something to do exactly from next wake on. Before, it "hands out nothing,
 -- makes no moves and changes only elapsed" (02 [14])
-pub idle-exactly : {s t : QueueWords} {a b : Answer} {now : ℕ} → WakeClaim s a → PollClaim s now b t → Sound s → elapsed s ≤ now
+pub idle-exactly : {s t : QueueWords} {a b : Answer} {now : ℕ} → WakeClaim s a → PollClaim s now b t → Sound s → AtRest s → elapsed s ≤ now
     → (Before now (told a) → Idle s now b t) × (told b ≡ T.none 0 0 → Before now (told a))
-idle-exactly W P S h =
-    let x = W .good S .done in
-    let y = P .good S .done h in
-    (λ f. let z = idle-next h x (y .1) f in record { told = z .0; only = only-elapsed S (y .0) (y .2) (z .1) }, only-next x (y .1))
+idle-exactly W P S z h =
+    let x = W .good S .free z .done in
+    let y = P .good S .free z .done h in
+    (λ f. let i = idle-next h x (y .1) f in record { told = i .0; only = only-elapsed S z (y .0) (y .2) (i .1) }, only-next x (y .1))
 
 -- ---- length
 

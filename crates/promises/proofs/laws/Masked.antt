@@ -3,16 +3,17 @@
 use mathlib.Core.Path.{_≡_, refl, sym, ap, _∙_, subst, subst₂}
 use mathlib.Core.Logic.{inl, ⊎-elim, by-cases}
 use mathlib.Core.List.{List, _∷_}
-use mathlib.Core.Option.{Option}
-use Prim.Native.Nat.{ℕ, _+_, _≤_, _<_, max}
+use mathlib.Core.Option.{Option, some}
+use Prim.Native.Nat.{ℕ, _+_, _-_, _≤_, _<_, max}
 use native.Mathlib.Decide.{ℕ-discrete}
 use native.Mathlib.Omega.{arith}
 use borrow.Author.Tests.{eq-eqb, ne-eqb}
 use Rattle.times.specs.Times.{slotOf}
 use Rattle.links.specs.Lists.{Mem, change}
-use Rattle.stack.specs.Places.{slotPlace}
+use Rattle.stack.specs.Places.{slotPlace, levelAt}
 use Rattle.stack.proofs.laws.Whole as stack-laws
-use Rattle.wheel.specs.Wheel.{Lists, arrive, Drains, drained, moved, Polls, idle, early, out, drain}
+use Rattle.wheel.specs.Wheel.{Lists, arrive}
+use Rattle.wheel.specs.Limited.{Outcome, ended as stopped, yet, Limited, rests, waits, hands, finds, stops, moves, empties}
 use Rattle.wheel.proofs.laws.Sums.{mem-joined, mem-left}
 use Rattle.records.specs.View.{View, withValue, withPeriod, upd}
 use Rattle.records.specs.Records.{lastTurn, keyOf, At, Names, taken, left, placed, freed}
@@ -20,8 +21,10 @@ use Rattle.records.specs.Words.{QueueWords, count, view, Sound}
 use Rattle.records.proofs.laws.View.{view-eq}
 use Rattle.queue.specs.Told.{Told}
 use Rattle.queue.specs.Told as T
-use Rattle.queue.specs.Steps.{TakesOut, popped, polled, GoesOn, once, again, ended, QueuePolls, handed, nothing, sleeps, starts, NextWake, at-once, from-wheel, pending, Clears, begun, kept, gave}
+use Rattle.queue.specs.Steps.{GoesOn, once, again, ended, TakesSome, popped-some, polled-some, PollsSome, handed-some, nothing-some, not-yet}
+use Rattle.queue.specs.Steps.{PollsRest, handed-rest, nothing-rest, sleeps, starts, NextWake, at-once, from-wheel, pending, Clears, begun, kept, gave}
 use Rattle.queue.proofs.laws.Polls.{clears-size}
+use Rattle.pausing.specs.Pausing.{PollTaken}
 use Rattle.promises.proofs.laws.TakesOut.{taken-out}
 use Rattle.promises.proofs.laws.Cut.{below, below-lt, below-upd, masked}
 
@@ -84,7 +87,7 @@ masked-names v N =
 -- ---- poll: it reads the deadlines of members alone
 
 -- the members that a move leaves
-arrive-from : (k w p x : ℕ) (L : Lists) (l : List ℕ) → L p ≡ x ∷ l → (q y : ℕ) → Mem y (arrive k w x (change L p l) q) → (o : ℕ) × Mem y (L o)
+pub arrive-from : (k w p x : ℕ) (L : Lists) (l : List ℕ) → L p ≡ x ∷ l → (q y : ℕ) → Mem y (arrive k w x (change L p l) q) → (o : ℕ) × Mem y (L o)
 unfolding arrive
 arrive-from k w p x L l e q y m =
     ⊎-elim
@@ -92,33 +95,29 @@ arrive-from k w p x L l e q y m =
     (λ a. (q, mem-left L p x l e q y a))
     (mem-joined (change L p l) (slotPlace k (slotOf w k)) x q y m)
 
-drains-from : {d : ℕ → ℕ} {k p m : ℕ} {L M : Lists} → Drains d k p L m M → (q y : ℕ) → Mem y (M q) → (o : ℕ) × Mem y (L o)
-drains-from (drained e) q y m = (q, m)
-drains-from {d} {k} {p} (moved {L} {M} {m} {x} {l} e r) q y i =
-    let b = drains-from r q y i in
-    arrive-from k (d x) p x L l e (b .0) y (b .1)
-
 -- f is d at every member
 abbrev Agrees : (ℕ → ℕ) → (ℕ → ℕ) → Lists → Type 0
 Agrees d f L = (p x : ℕ) → Mem x (L p) → f x ≡ d x
 
-drains-agree : {d f : ℕ → ℕ} {k p m : ℕ} {L M : Lists} → Agrees d f L → Drains d k p L m M → Drains f k p L m M
-drains-agree a (drained e) = drained e
-drains-agree {d} {f} {k} {p} a (moved {L} {M} {m} {x} {l} e r) =
-    let b : Agrees d f (arrive k (d x) x (change L p l)) = λ q y i. let c = arrive-from k (d x) p x L l e q y i in a (c .0) y (c .1) in
-    moved e (subst (λ w. Drains f k p (arrive k w x (change L p l)) m M) (sym (a p x (rw e (inl refl)))) (drains-agree b r))
+limited-agree : {d f : ℕ → ℕ} {now b e m n c : ℕ} {h : Option ℕ} {L N : Lists} {o : Outcome} → Agrees d f L → Limited d now h b e L o m n c N
+    → Limited f now h b e L o m n c N
+limited-agree a (rests E) = rests E
+limited-agree a (waits F h) = waits F h
+limited-agree a (hands F h i) = hands F h i
+limited-agree a (finds F h r) = finds F h (limited-agree a r)
+limited-agree a (stops i) = stops i
+limited-agree {d} {f} {now} a (moves {b = b} {e = e} {p = p} {x = x} {L = L} {N = N} {l = l} {o = o} {m = m} {n = n} {e′ = c} i r) =
+    let k = levelAt p - 1 in
+    let g : Agrees d f (arrive k (d x) x (change L p l)) = λ q y j. let z = arrive-from k (d x) p x L l i q y j in a (z .0) y (z .1) in
+    moves i
+    (subst (λ w. Limited f now (some p) b e (arrive k w x (change L p l)) o m n c N) (sym (a p x (rw i (inl refl)))) (limited-agree g r))
+limited-agree a (empties i r) = empties i (limited-agree a r)
 
-polls-agree : {d f : ℕ → ℕ} {now e m n c : ℕ} {L N : Lists} {got : Option ℕ} → Agrees d f L → Polls d now e L got m n c N → Polls f now e L got m n c N
-polls-agree a (idle E) = idle E
-polls-agree a (early F h) = early F h
-polls-agree a (out F h i) = out F h i
-polls-agree a (drain F h D r) =
-    drain F h (drains-agree a D) (polls-agree (λ q y i. let c = drains-from D q y i in a (c .0) y (c .1)) r)
-
-takes-masked : {v : View} {now m n : ℕ} {got : Option ℕ} {u : View} → ((p x : ℕ) → Mem x (v .lists p) → x < v .n) → TakesOut v now got m n u
-    → TakesOut (masked v) now got m n (masked u)
-takes-masked M (popped e) = popped e
-takes-masked {v} M (polled e P) = polled e (polls-agree (λ p x m. below-lt (v .n) (v .deadline) (M p x m)) P)
+takes-masked : {v : View} {now limit m n : ℕ} {o : Outcome} {u : View} → ((p x : ℕ) → Mem x (v .lists p) → x < v .n)
+    → TakesSome v now limit o m n u → TakesSome (masked v) now limit o m n (masked u)
+takes-masked M (popped-some e) = popped-some e
+takes-masked {v} M (polled-some {o = stopped g} e P) = polled-some e (limited-agree (λ p x m. below-lt (v .n) (v .deadline) (M p x m)) P)
+takes-masked {v} M (polled-some {o = yet q} e P) = polled-some e (limited-agree (λ p x m. below-lt (v .n) (v .deadline) (M p x m)) P)
 
 goes-on-masked : {v : View} {r m n : ℕ} {u : View} {x : Told} {w : View} → r < v .n → r < u .n → GoesOn v r m n u x w
     → GoesOn (masked v) r m n (masked u) x (masked w)
@@ -144,15 +143,28 @@ goes-on-masked {v} {r} {m} {n} {u} h g G = of G
     of (ended p f) =
         subst₂ (GoesOn (masked v) r m n (masked u)) (rw (value, due, turn)) (sym (freed-masked r u g)) (ended (rw period p) (rw (due, period) f))
 
-pub polls-masked : {s : QueueWords} → Sound s → {now : ℕ} {x : Told} {w : View} → view s .elapsed ≤ now → QueuePolls (view s) now x w
-    → QueuePolls (masked (view s)) now x (masked w)
-polls-masked {s} S {now} h (handed {r} {m} {n} {u} P G) =
-    let W = S .standing .whole .stack in
-    let O = taken-out S h P in
-    let o = O .out r refl in
-    let b : r < count s = stack-laws.member-below W (o .0) r (o .1 .member) in
-    handed (takes-masked (stack-laws.member-below W) P) (goes-on-masked b (rw (O .size) b) G)
-polls-masked {s} S h (nothing P) = nothing (takes-masked (stack-laws.member-below (S .standing .whole .stack)) P)
+module _ {s : QueueWords} (S : Sound s) {now : ℕ} where
+  some-masked : {limit m n : ℕ} {o : Outcome} {u : View} → TakesSome (view s) now limit o m n u → TakesSome (masked (view s)) now limit o m n (masked u)
+  some-masked T = takes-masked (stack-laws.member-below (S .standing .whole .stack)) T
+
+  handed-masked : PollTaken (view s) now → {limit r m n : ℕ} {u : View} {x : Told} {w : View}
+      → TakesSome (view s) now limit (stopped (some r)) m n u → GoesOn (view s) r m n u x w → GoesOn (masked (view s)) r m n (masked u) x (masked w)
+  handed-masked K {r = r} T G =
+      let O = taken-out S K T in
+      let o = O .out r refl in
+      let b : r < count s = stack-laws.member-below (S .standing .whole .stack) (o .0) r (o .1 .member) in
+      goes-on-masked b (rw (O .size) b) G
+
+  -- a poll with a limit, and a whole one that goes on
+  pub polls-masked : PollTaken (view s) now → {limit : ℕ} {x : Told} {w : View} → PollsSome (view s) now limit x w
+      → PollsSome (masked (view s)) now limit x (masked w)
+  polls-masked K (handed-some T G) = handed-some (some-masked T) (handed-masked K T G)
+  polls-masked K (nothing-some T) = nothing-some (some-masked T)
+  polls-masked K (not-yet T) = not-yet (some-masked T)
+
+  pub rest-masked : PollTaken (view s) now → {x : Told} {w : View} → PollsRest (view s) now x w → PollsRest (masked (view s)) now x (masked w)
+  rest-masked K (handed-rest T G) = handed-rest (some-masked T) (handed-masked K T G)
+  rest-masked K (nothing-rest T) = nothing-rest (some-masked T)
 
 -- ---- next wake, length and clear
 

@@ -1,12 +1,12 @@
 -- Each claim can be met: for every input there are an answer and a final content that satisfy it, so that no claim is empty.
 use mathlib.Core.Path.{_≡_, refl, sym, ap, _∙_, subst}
-use mathlib.Core.Logic.{_⊎_, inl, inr, ⊎-elim, by-cases}
+use mathlib.Core.Logic.{_≢_, _⊎_, inl, inr, ⊎-elim, by-cases}
 use mathlib.Core.List.{List, [], _∷_}
-use Prim.Native.Nat.{ℕ, zero, suc, _+_, _-_, _*_, _/_, _%_, _≤_, _<_}
+use Prim.Native.Nat.{ℕ, zero, suc, _+_, _-_, _*_, _/_, _%_, _^_, _≤_, _<_}
 use native.Mathlib.Decide.{ℕ-discrete, decLt}
 use native.Mathlib.Omega.{arith}
 use native.Mathlib.Numerals.{add-one}
-use lib.ListN.{length, replicate}
+use lib.ListN.{replicate}
 use borrow.Author.Tests.{eq-eqb, ne-eqb, lt-ltb, le-ltb}
 use Rattle.times.specs.Times.{maxDuration, block, levelOf, slotOf, startAt}
 use Rattle.times.proofs.laws.Quotients.{slot-lt}
@@ -19,25 +19,25 @@ use Rattle.stack.specs.Words.{headAt as headIn, pop, remove}
 use Rattle.wheel.specs.Wheel.{Lists, FirstSlot, EmptyWheel, arrive}
 use Rattle.wheel.specs.Words.{WheelWords, wheelWords, markOf as markIn, lists as listsIn, CanPop, Pops, CanLeave, Leaves, CanAdd, Becomes}
 use Rattle.wheel.proofs.laws.Words.{headAt, popped-none, popped-more, popped-last, pops-aside, leaves-aside, leaves-more, leaves-last, add-law, push-aside}
-use Rattle.wheel.specs.Turns.{CanMove, MovesOne, DrainsTo, CanPoll, PollsTo}
-use Rattle.wheel.proofs.laws.Turns.{insert-adds, moved-none, move-adds, moved-some, DrainedSo, turn-start, turn-can, turn-more, turn-done, PolledSo, poll-start, poll-idle, poll-early, pop-can, poll-out, drain-can, poll-drain}
 use Rattle.wheel.specs.Drain.{heights}
+use Rattle.wheel.specs.Turns.{CanMove, MovesOne, DrainsTo, CanPoll, PollsTo}
+use Rattle.wheel.proofs.laws.Turns.{insert-adds, moved-none, move-adds, moved-some, DrainedSo, turn-start, turn-can, turn-full, turn-more, turn-done, PolledSo, poll-start, poll-idle, poll-early, pop-can, poll-out, poll-finds, drain-can, poll-yet, poll-drained}
 use Rattle.queue.specs.declared.Answer.{Answer}
 use Rattle.queue.specs.declared.Answer.the-variants as A
 use Rattle.queue.specs.Told.{told}
 use Rattle.records.specs.Records.{lastTurn}
 use Rattle.queue.specs.Steps.{Wakes, sleeps, starts, at-once, from-wheel}
-use Rattle.records.specs.Words.{QueueWords, queueWords, count, elapsed, markOf, view, Standing, SoundBut, Sound}
-use Rattle.queue.specs.Calls.{Refused, InsertOn, ResetOn, RemoveOn, PollOn, WakeOn}
+use Rattle.records.specs.Words.{QueueWords, queueWords, count, elapsed, markOf, view, Standing, SoundBut, AtRest, Sound}
+use Rattle.queue.specs.Calls.{Refused, InsertOn, ResetOn, RemoveOn, Freely, PollsOn, WakeOn}
 use Rattle.records.specs.Found.{AheadNo, DeadlineNo}
 use Rattle.records.proofs.laws.Found.{no-past, no-far, no-near, no-other, no-old, no-recent, key-names, names-key}
 use Rattle.records.specs.Inner.{LooseAt, CanPlace, PlacesTo, CanFree, LeavesTo}
 use Rattle.records.proofs.laws.Inner.{place-push, place-insert, placed-now, placed-later, free-push, freed-last, freed-given}
 use Rattle.queue.proofs.laws.Calls.{insert-full, insert-refused, insert-place, insert-done, reset-dead, remove-dead, found-leaves, reset-refused, reset-place, reset-done, remove-frees, remove-done}
-use Rattle.queue.specs.Inner.{CanPollIdx, PollsIdx, of-stack, of-wheel, HandsOut, pendingIn, ClearsOne}
-use Rattle.queue.proofs.laws.Polls.{out-frees, out-done, poll-back, wheel-can, poll-can, poll-none, poll-loose, poll-handed, clear-stays, clear-leaves, clear-frees, clear-goes, ClearedSo, clear-none, clear-turn, clear-done, out-last, out-again, out-places}
-use Rattle.delay_queue.specs.Claims.{FormatClaim, Judging, InsertClaim, ResetClaim, RemoveClaim, PollClaim, WakeClaim, LengthClaim, ClearClaim}
-use Rattle.delay_queue.proofs.laws.Back.{taken-up, length-done}
+use Rattle.queue.specs.Inner.{CanPollIdx, PollsIdx, of-stack, of-wheel, PollNo, HandsOut, pendingIn, ClearsOne}
+use Rattle.queue.proofs.laws.Polls.{out-frees, out-done, no-other as no-another, no-same, no-back, no-none, poll-refused, wheel-can, poll-can, poll-yet as poll-yet-on, poll-none, poll-loose, poll-handed, clear-stays, clear-leaves, clear-frees, clear-goes, ClearedSo, clear-none, clear-turn, clear-done, out-last, out-again, out-places}
+use Rattle.delay_queue.specs.Claims.{FormatClaim, Judging, InsertClaim, ResetClaim, RemoveClaim, PollClaim, PollSomeClaim, WakeClaim, LengthClaim, ClearClaim}
+use Rattle.delay_queue.proofs.laws.Back.{taken-up, length-done, whole-claim}
 use Rattle.delay_queue.proofs.laws.Format.{formats}
 use Rattle.records.proofs.laws.Cases.{by-key}
 use Rattle.promises.proofs.laws.Decided.{sound-dec, fits-dec, range-dec}
@@ -54,6 +54,14 @@ unsound {s} n = record { bad = λ z. refuse 2 s; good = λ S. absurd (n S) }
 judging-met : {On : Answer → QueueWords → Type 0} (s : QueueWords) → (Sound s → Met On) → Met (λ a t. Judging s a t (On a t))
 judging-met s f = by-cases (sound-dec s) (λ S. let m = f S in (m .0, m .1, taken-up S (m .2))) (λ n. (A.No 2, s, unsound n))
 
+-- while a poll is in hand it is refused with 12
+freely-met : {On : Answer → QueueWords → Type 0} (s : QueueWords) → (Sound s → AtRest s → Met On) → Met (λ a t. Judging s a t (Freely s a t (On a t)))
+freely-met s f =
+    judging-met s (λ S.
+    by-cases (ℕ-discrete (s .hand) nobody)
+    (λ z. let m = f S z in (m .0, m .1, record { held = λ d. absurd (d z); free = λ _. m .2 }))
+    (λ d. (A.No 12, s, record { held = λ _. refuse 12 s; free = λ z. absurd (d z) })))
+
 -- ---- format
 
 pub format-met : (s : QueueWords) (n turn : ℕ) → Met (FormatClaim s n turn)
@@ -66,11 +74,11 @@ format-met s n turn =
       queueWords
           (wheelWords 0 (replicate 6 0) (formatted n (s .wheel .stack .links .nexts) (s .wheel .stack .links .prevs)
           (s .wheel .stack .links .marks)))
-          (over (2 * n) (λ i. 0) (s .values)) (over n (λ i. 0) (s .deadlines)) (over n (λ i. turn) (s .turns)),
+          (over (2 * n) (λ i. 0) (s .values)) (over n (λ i. 0) (s .deadlines)) (over n (λ i. turn) (s .turns)) nobody 0,
       record {
         short = λ f. absurd (f F);
         outside = λ G f. absurd (f T);
-        done = λ G I. formats s G I (record { wheel = refl; values = refl; deadlines = refl; turns = refl }) refl;
+        done = λ G I. formats s G I (record { wheel = refl; values = refl; deadlines = refl; turns = refl; hand = refl; until = refl }) refl;
       },
     ))
     (λ f. (A.No 8, s, record { short = λ g. absurd (g F); outside = λ G g. refuse 8 s; done = λ G T. absurd (f T) })))
@@ -127,51 +135,51 @@ free-met {t} {ts} {i} C =
 
 -- ---- insert, reset, remove
 
-insert-on : {s : QueueWords} → Sound s → (value when period : ℕ) → Met (InsertOn s value when period)
-insert-on {s} S value when period =
+insert-on : {s : QueueWords} → Sound s → AtRest s → (value when period : ℕ) → Met (InsertOn s value when period)
+insert-on {s} S rest value when period =
     by-cases (ℕ-discrete (s .wheel .stack .stacks .free) nobody)
-    (λ z. (A.No 3, s, insert-full S value when period z))
+    (λ z. (A.No 3, s, insert-full S rest value when period z))
     (λ d.
     let D = deadline-met (elapsed s) when in
     by-cases (ℕ-discrete (D .0) 0)
     (λ z.
     let Q = pops-aside (S .standing .whole) free (headAt (s .wheel) free) refl refl (omega arith) in
-    let P = place-met (insert-place S value when period d (D .1) z Q) in
-    (A.Key _, _, insert-done S value when period d (D .1) z Q _ refl (P .2)))
-    (λ z. (A.No (D .0), s, insert-refused S value when period d (D .1) z)))
+    let P = place-met (insert-place S rest value when period d (D .1) z Q) in
+    (A.Key _, _, insert-done S rest value when period d (D .1) z Q _ refl (P .2)))
+    (λ z. (A.No (D .0), s, insert-refused S rest value when period d (D .1) z)))
 
 pub insert-met : (s : QueueWords) (value when period : ℕ) → Met (InsertClaim s value when period)
-insert-met s value when period = judging-met s (λ S. insert-on S value when period)
+insert-met s value when period = freely-met s (λ S z. insert-on S z value when period)
 
-reset-on : {s : QueueWords} → Sound s → (key when : ℕ) → Met (ResetOn s key when)
-reset-on {s} S key when =
+reset-on : {s : QueueWords} → Sound s → AtRest s → (key when : ℕ) → Met (ResetOn s key when)
+reset-on {s} S rest key when =
     by-key S key
     (λ r p N.
     let K = names-key S key N in
     let D = deadline-met (elapsed s) when in
     by-cases (ℕ-discrete (D .0) 0)
     (λ z.
-    let L = leave-met (found-leaves S key when K) in
-    let P = place-met (reset-place S key when K (D .1) z (L .1)) in
-    (A.Done, _, reset-done S key when K (D .1) z (L .1) (P .2)))
-    (λ z. (A.No (D .0), s, reset-refused S key when K (D .1) z)))
-    (λ f. (A.No 6, s, reset-dead S key when (λ i K. f i (markOf s i) (key-names S key K))))
+    let L = leave-met (found-leaves S rest key when K) in
+    let P = place-met (reset-place S rest key when K (D .1) z (L .1)) in
+    (A.Done, _, reset-done S rest key when K (D .1) z (L .1) (P .2)))
+    (λ z. (A.No (D .0), s, reset-refused S rest key when K (D .1) z)))
+    (λ f. (A.No 6, s, reset-dead S rest key when (λ i K. f i (markOf s i) (key-names S key K))))
 
 pub reset-met : (s : QueueWords) (key when : ℕ) → Met (ResetClaim s key when)
-reset-met s key when = judging-met s (λ S. reset-on S key when)
+reset-met s key when = freely-met s (λ S z. reset-on S z key when)
 
-remove-on : {s : QueueWords} → Sound s → (key : ℕ) → Met (RemoveOn s key)
-remove-on {s} S key =
+remove-on : {s : QueueWords} → Sound s → AtRest s → (key : ℕ) → Met (RemoveOn s key)
+remove-on {s} S rest key =
     by-key S key
     (λ r p N.
     let K = names-key S key N in
-    let L = leave-met (found-leaves S key 0 K) in
-    let F = free-met (remove-frees S key 0 K (L .1)) in
-    (A.Gone _ _, _, remove-done S key 0 K (L .1) _ _ refl refl (F .2)))
-    (λ f. (A.No 6, s, remove-dead S key 0 (λ i K. f i (markOf s i) (key-names S key K))))
+    let L = leave-met (found-leaves S rest key 0 K) in
+    let F = free-met (remove-frees S rest key 0 K (L .1)) in
+    (A.Gone _ _, _, remove-done S rest key 0 K (L .1) _ _ refl refl (F .2)))
+    (λ f. (A.No 6, s, remove-dead S rest key 0 (λ i K. f i (markOf s i) (key-names S key K))))
 
 pub remove-met : (s : QueueWords) (key : ℕ) → Met (RemoveClaim s key)
-remove-met s key = judging-met s (λ S. remove-on S key)
+remove-met s key = freely-met s (λ S z. remove-on S z key)
 
 -- ---- the next slot
 
@@ -263,7 +271,11 @@ answer-met : {On : Answer → Type 0} (s : QueueWords) → (Sound s → (a : Ans
 answer-met s f = by-cases (sound-dec s) (λ S. let m = f S in (m .0, taken-up S (m .1))) (λ n. (A.No 2, unsound n))
 
 pub wake-met : (s : QueueWords) → (a : Answer) × WakeClaim s a
-wake-met s = answer-met s (λ S. wake-on s (view s .lists expired) refl)
+wake-met s =
+    answer-met s (λ S.
+    by-cases (ℕ-discrete (s .hand) nobody)
+    (λ z. let m = wake-on s (view s .lists expired) refl in (m .0, record { held = λ d. absurd (d z); free = λ _. m .1 }))
+    (λ d. (A.No 12, record { held = λ _. refuse 12 s; free = λ z. absurd (d z) })))
 
 pub length-met : (s : QueueWords) → (a : Answer) × LengthClaim s a
 length-met s = answer-met s (λ S. (A.Length (pendingIn (markOf s) (count s)), length-done S refl))
@@ -289,7 +301,7 @@ clear-first {s} S (suc k) h =
     (o .0, subst (λ i. ClearedSo s i (o .0)) (add-one k) (clear-turn C g (o .1)))
 
 pub clear-met : (s : QueueWords) → Met (ClearClaim s)
-clear-met s = judging-met s (λ S. let m = clear-first (S .standing) (count s) (omega arith) in (A.Done, _, clear-done (m .1) refl))
+clear-met s = judging-met s (λ S. let m = clear-first (S .standing) (count s) (omega arith) in (A.Done, _, clear-done (m .1) refl (s .hand) (s .until)))
 
 -- ---- poll: the loops of the code, by what is left to drain and to fall
 
@@ -313,91 +325,139 @@ move-met {t} {ds} {k} {s} C =
     (λ z. (Q .0, Q .1, moved-none C (Q .2) z))
     (λ d. let B = add-met (move-adds C (Q .2) d) (at ds (Q .0)) in (Q .0, B .0, moved-some C (Q .2) d (at ds (Q .0)) refl (B .1)))
 
-module _ {t₀ : WheelWords} {ds : List ℕ} {k s : ℕ} (C : CanMove t₀ ds k s) where
-  drain-loop : (fuel : ℕ) {t : WheelWords} {moves : ℕ} → DrainedSo (at ds) t₀ (k - 1) (slotPlace k s) moves t
-      → length (listsIn t (slotPlace k s)) < fuel
-      → (m : ℕ) × (u : WheelWords) × DrainsTo (at ds) t₀ (k - 1) (slotPlace k s) m u
+module _ {t₀ : WheelWords} {ds : List ℕ} {k s : ℕ} (C : CanMove t₀ ds k s) (limit : ℕ) where
+  abbrev Drained : Type 0
+  Drained = (left : ℕ) × (u : WheelWords) × DrainsTo (at ds) t₀ (k - 1) (slotPlace k s) limit left u
+
+  drain-loop : (fuel : ℕ) {t : WheelWords} {left : ℕ} → DrainedSo (at ds) t₀ (k - 1) (slotPlace k s) limit left t → left < fuel → Drained
   drain-loop zero S h = absurd (omega arith)
-  drain-loop (suc fuel) {t} {moves} S h =
+  drain-loop (suc fuel) {t} {left} S h =
+      by-cases (ℕ-discrete left 0)
+      (λ z. (left, t, turn-full C S z))
+      (λ n.
       let M = move-met (turn-can C S) in
       by-cases (ℕ-discrete (M .0) nobody)
-      (λ z. (moves, M .1, turn-done C S (M .2) z))
-      (λ d. let r = turn-more C S (M .2) d in drain-loop fuel (r .0) (omega arith))
+      (λ z. (left, M .1, turn-done C S (M .2) z))
+      (λ d. drain-loop fuel (turn-more C S (M .2) n d) (omega (arith, n, h))))
 
-  drain-met : (m : ℕ) × (u : WheelWords) × DrainsTo (at ds) t₀ (k - 1) (slotPlace k s) m u
-  drain-met = drain-loop (suc (length (listsIn t₀ (slotPlace k s)))) (turn-start C) (omega arith)
+  drain-met : Drained
+  drain-met = drain-loop (suc limit) (turn-start C limit) (omega arith)
 
-module _ {t₀ : WheelWords} {ds : List ℕ} {now : ℕ} (C : CanPoll t₀ ds now) where
+module _ {t₀ : WheelWords} {ds : List ℕ} {hand now : ℕ} (C : CanPoll t₀ ds hand now) (limit : ℕ) where
   -- what a poll of the wheel ends with
   abbrev Ended : Type 0
-  Ended = (item : ℕ) × (m : ℕ) × (n : ℕ) × (u : WheelWords) × PollsTo (at ds) now t₀ item m n u
+  Ended = (item : ℕ) × (to : ℕ) × (m : ℕ) × (n : ℕ) × (u : WheelWords) × PollsTo (at ds) now limit hand t₀ item to m n u
 
-  -- or it looks again, with less to fall
-  abbrev Again : WheelWords → Type 0
-  Again t = (u : WheelWords) × (m : ℕ) × (n : ℕ) × PolledSo (at ds) now t₀ m n u × (heights (listsIn u) < heights (listsIn t))
+  abbrev So : ℕ → ℕ → ℕ → ℕ → WheelWords → Type 0
+  So place left made drains t = PolledSo (at ds) now limit hand t₀ place left made drains t
 
-  poll-look : {t : WheelWords} {moves drains : ℕ} → PolledSo (at ds) now t₀ moves drains t → Ended ⊎ Again t
-  poll-look {t} {moves} {drains} S =
+  -- or it goes on, with lower heights
+  record Again (t : WheelWords) : Type 0 where
+    to : ℕ
+    left : ℕ
+    made : ℕ
+    drains : ℕ
+    after : WheelWords
+    so : So to left made drains after
+    less : heights (listsIn after) < heights (listsIn t)
+
+  poll-drains : {place left made drains : ℕ} {t : WheelWords} → So place left made drains t → place ≢ nobody → Ended ⊎ Again t
+  poll-drains {place} {left} {made} {drains} {t} S held =
+      let k : ℕ = levelAt place in
+      let j : ℕ = slotAt place in
+      let D = drain-met (drain-can C limit S held k j refl refl) left in
+      by-cases (ℕ-discrete (slotHead (D .1 .stack .heads) k j) nobody)
+      (λ z.
+      let r = poll-drained C limit S held k j refl refl (D .0) (D .2) (limit - D .0) refl z (startAt (t .elapsed) k j) refl in
+      inr (record {
+        to = nobody;
+        left = D .0;
+        made = limit - D .0;
+        drains = drains + 1;
+        after = wheelWords (startAt (t .elapsed) k j) (D .1 .occupied) (D .1 .stack);
+        so = r .0;
+        less = r .1;
+      }))
+      (λ d. inl (nobody, place, limit - D .0, drains, D .1, poll-yet C limit S held k j refl refl (D .0) (D .2) (limit - D .0) refl d))
+
+  poll-looks : {place left made drains : ℕ} {t : WheelWords} → So place left made drains t → place ≡ nobody → Ended ⊎ Again t
+  poll-looks {place} {left} {made} {drains} {t} S free =
       ⊎-elim
-      (λ E. inl (nobody, moves, drains, _, poll-idle C S E))
+      (λ E. inl (nobody, place, made, drains, _, poll-idle C limit S free E))
       (λ F.
       let c = startAt (t .elapsed) (F .0) (F .1) in
       by-cases (decLt now c)
-      (λ l. inl (nobody, moves, drains, _, poll-early C S (F .2) c refl l))
+      (λ l. inl (nobody, place, made, drains, _, poll-early C limit S free (F .2) c refl l))
       (λ l.
       let due : c ≤ now = omega arith in
+      let can = pop-can C limit S free (F .2) c refl in
       by-cases (ℕ-discrete (F .0) 0)
-      (λ z. let Q = pop-met (pop-can C S (F .2) c refl) in inl (Q .0, moves, drains, Q .1, poll-out C S (F .2) c refl z due (Q .0) (Q .2)))
       (λ z.
-      let D = drain-met (drain-can C S (F .2) c refl z) in
-      let r = poll-drain C S (F .2) c refl z due (D .0) (D .2) in
-      inr (wheelWords c (D .1 .occupied) (D .1 .stack), moves + D .0, drains + 1, r .0, r .1))))
+      let Q = pop-met can in
+      inl (Q .0, place, made, drains, Q .1, poll-out C limit S free (F .2) c refl z due (Q .0) (Q .2)))
+      (λ z.
+      poll-drains (poll-finds C limit S free (F .2) c refl z due (slotPlace (F .0) (F .1)) refl)
+      (λ w. omega (arith, w, can .level, can .slot)))))
       (next-met (t .elapsed) (listsIn t))
 
-  poll-loop : (fuel : ℕ) (t : WheelWords) (moves drains : ℕ) → PolledSo (at ds) now t₀ moves drains t → heights (listsIn t) < fuel → Ended
-  poll-loop zero t moves drains S h = absurd (omega arith)
-  poll-loop (suc fuel) t moves drains S h =
-      ⊎-elim (λ E. E) (λ G. poll-loop fuel (G .0) (G .1) (G .2) (G .3) (omega arith)) (poll-look S)
+  poll-loop : (fuel place left made drains : ℕ) (t : WheelWords) → So place left made drains t → heights (listsIn t) < fuel → Ended
+  poll-loop zero place left made drains t S h = absurd (omega arith)
+  poll-loop (suc fuel) place left made drains t S h =
+      ⊎-elim (λ E. E) (λ G. poll-loop fuel (G .to) (G .left) (G .made) (G .drains) (G .after) (G .so) (omega (arith, G .less, h)))
+      (by-cases (ℕ-discrete place nobody) (poll-looks S) (poll-drains S))
 
   wheel-met : Ended
-  wheel-met = poll-loop (suc (heights (listsIn t₀))) t₀ 0 0 (poll-start C) (omega arith)
+  wheel-met = poll-loop (suc (heights (listsIn t₀))) hand limit 0 0 t₀ (poll-start C limit) (omega arith)
 
 -- the record that was found is freed, or placed again
-out-met : {s : QueueWords} {i : ℕ} → SoundBut i s → LooseAt s i → (moves drains : ℕ) → Met (HandsOut s i moves drains)
+out-met : {s : QueueWords} {i : ℕ} → SoundBut i s → LooseAt s i → (moves drains : ℕ)
+    → (a : Answer) × ((t : QueueWords) × ((t .hand ≡ s .hand) × (t .until ≡ s .until)) × HandsOut s i moves drains a t)
 out-met {s} {i} S o moves drains =
     let F = free-met (out-frees S o) in
     by-cases (ℕ-discrete (periodAt (s .values) i) 0)
-    (λ z. (A.Out _ _ _ _ _, _, out-done S o moves drains refl z (F .2)))
+    (λ z. (A.Out _ _ _ _ _, (_, (refl, refl), out-done S o moves drains refl z (F .2))))
     (λ d.
     by-next
-    (λ f. (A.Last _ _ _ _ _, _, out-last S o moves drains refl d f (F .2)))
+    (λ f. (A.Last _ _ _ _ _, (_, (refl, refl), out-last S o moves drains refl d f (F .2))))
     (λ f.
     let P = place-met (out-places S o (refl, f)) in
-    (A.Out _ _ _ _ _, _, out-again S o moves drains refl d (refl, f) (P .2))))
+    (A.Out _ _ _ _ _, (_, (refl, refl), out-again S o moves drains refl d (refl, f) (P .2)))))
 
 -- who is due leaves its list, if anybody is
-idx-met : {t : WheelWords} {ds : List ℕ} {time : ℕ} → CanPollIdx t ds time
-    → (item : ℕ) × (m : ℕ) × (n : ℕ) × (u : WheelWords) × PollsIdx (at ds) time t item m n u
-idx-met {t} C =
+idx-met : {t : WheelWords} {ds : List ℕ} {hand time : ℕ} → CanPollIdx t ds hand time → (limit : ℕ)
+    → (item : ℕ) × (to : ℕ) × (m : ℕ) × (n : ℕ) × (u : WheelWords) × PollsIdx (at ds) time limit hand t item to m n u
+idx-met {t} C limit =
     let first = headAt t expired in
     let Q = pops-aside (C .whole) expired first refl refl (omega arith) in
     by-cases (ℕ-discrete first nobody)
-    (λ z. let R = wheel-met (wheel-can C Q z) in (R .0, R .1, R .2, R .3, of-wheel Q z (R .4)))
-    (λ d. (first, 0, 0, _, of-stack Q d))
+    (λ z. let R = wheel-met (wheel-can C Q z) limit in (R .0, R .1, R .2, R .3, R .4, of-wheel Q z (R .5)))
+    (λ d. (first, nobody, 0, 0, _, of-stack Q d))
 
-poll-on : {s : QueueWords} → Sound s → (time : ℕ) → Met (PollOn s time)
-poll-on {s} S time =
-    by-cases (decLt time (elapsed s))
-    (λ h. (A.No 7, s, poll-back S time h))
-    (λ h.
-    let g : elapsed s ≤ time = omega arith in
-    let P = idx-met (poll-can S time g) in
+number-met : (e hand until time : ℕ) → (n : ℕ) × PollNo e hand until time n
+number-met e hand until time =
+    by-cases (ℕ-discrete hand nobody)
+    (λ z. by-cases (decLt time e) (λ h. (7, no-back z h)) (λ h. (0, no-none z (omega (arith, h)))))
+    (λ d. by-cases (ℕ-discrete time until) (λ z. (0, no-same d z)) (λ n. (12, no-another d n)))
+
+some-on : {s : QueueWords} → Sound s → (time limit : ℕ) → Met (PollsOn s time limit)
+some-on {s} S time limit =
+    let N = number-met (elapsed s) (s .hand) (s .until) time in
+    by-cases (ℕ-discrete (N .0) 0)
+    (λ g.
+    let P = idx-met (poll-can S time limit (N .1) g) limit in
+    by-cases (ℕ-discrete (P .1) nobody)
+    (λ z.
     by-cases (ℕ-discrete (P .0) nobody)
-    (λ z. (A.Nothing (P .1) (P .2), _, poll-none S time g (P .4) z))
+    (λ w. (A.Nothing (P .2) (P .3), _, poll-none S time limit (N .1) g (P .5) z w))
     (λ d.
-    let l = poll-loose S time g (P .4) d in
-    let O = out-met (l .0) (l .1) (P .1) (P .2) in
-    (O .0, O .1, poll-handed S time g (P .4) d (O .2))))
+    let l = poll-loose S time limit (N .1) g (P .5) z d in
+    let O = out-met (l .0) (l .1) (P .2) (P .3) in
+    (O .0, O .1 .0, poll-handed S time limit (N .1) g (P .5) z d (O .1 .1 .0) (O .1 .1 .1) (O .1 .2))))
+    (λ d. (A.NotYet (P .2) (P .3), _, poll-yet-on S time limit (N .1) g (P .5) d)))
+    (λ d. (A.No (N .0), s, poll-refused S time limit (N .1) d))
+
+pub limited-met : (s : QueueWords) (now limit : ℕ) → Met (PollSomeClaim s now limit)
+limited-met s now limit = judging-met s (λ S. some-on S now limit)
 
 pub poll-met : (s : QueueWords) (now : ℕ) → Met (PollClaim s now)
-poll-met s now = judging-met s (λ S. poll-on S now)
+poll-met s now = let m = limited-met s now (2 ^ 64 - 1) in (m .0, m .1, whole-claim (m .2))

@@ -8,7 +8,7 @@ use native.Mathlib.Decide.{ℕ-discrete}
 use native.Mathlib.Omega.{arith}
 use Rattle.times.specs.Times.{width, slotOf, startAt, levelBelow, levelOf}
 use Rattle.times.proofs.laws.Levels.{levels-of-01}
-use Rattle.links.specs.Lists.{change}
+use Rattle.links.specs.Lists.{nobody, change}
 use Rattle.links.proofs.laws.Lists.{change-same, change-other}
 use Rattle.stack.specs.Places.{slotPlace, slots, expired, free, put}
 use Rattle.stack.proofs.laws.Places.{put-empty}
@@ -27,6 +27,7 @@ use Rattle.records.proofs.laws.Cases.{takes-so}
 use Rattle.queue.specs.Calls.{Refused}
 use Rattle.delay_queue.specs.Claims.{InsertClaim}
 use Rattle.promises.specs.Quiet.{Quiet}
+use Rattle.promises.proofs.laws.Quiet.{quiet-rest}
 use Rattle.promises.specs.Mornings.{polls, refused, wakes, Holds, starred, AllOf}
 
 -- ---- 4 and 5
@@ -35,14 +36,14 @@ same-so : {s t : QueueWords} {a : Answer} {k : ℕ} → Refused k s a t → (tol
 same-so R = (R .told, R .same)
 
 four-at : Holds (refused 0 68719476736 4)
-four-at s t a S e =
+four-at s t a S z e =
     let f : TooFar (elapsed s) 68719476736 = (omega arith, omega (arith, e)) in
-    (λ value period r l g I. same-so (I .good S .far r l g f), λ key r p N I. same-so (I .good S .far r p N f))
+    (λ value period r l g I. same-so (I .good S .free z .far r l g f), λ key r p N I. same-so (I .good S .free z .far r p N f))
 
 five-at : Holds (refused 1 68719476736 5)
-five-at s t a S e =
-    let f : OtherBlock (elapsed s) 68719476736 = (omega arith, omega (arith, e), rw e (λ z. omega arith)) in
-    (λ value period r l g I. same-so (I .good S .other r l g f), λ key r p N I. same-so (I .good S .other r p N f))
+five-at s t a S z e =
+    let f : OtherBlock (elapsed s) 68719476736 = (omega arith, omega (arith, e), rw e (λ y. omega arith)) in
+    (λ value period r l g I. same-so (I .good S .free z .other r l g f), λ key r p N I. same-so (I .good S .free z .other r p N f))
 
 -- ---- one timer on the wheel
 
@@ -104,6 +105,7 @@ one-polls {L} {x} d e O =
 
 -- what the insert leaves
 record Inserted (v : View) (x : ℕ) : Type 0 where
+  at-rest : v .hand ≡ nobody
   clock : v .elapsed ≡ 0
   stack : v .lists expired ≡ []
   only : Only (v .lists) 129 x
@@ -113,11 +115,12 @@ target-then : (e : ℕ) → e ≡ 0 → target e (max 4101 e) ≡ 129
 unfolding target placeFor levelOf levelBelow slotOf width
 target-then e z = rw z
 
-placed-then : (v : View) (x : ℕ) → v .elapsed ≡ 0 → ((p : ℕ) → p < free → v .lists p ≡ []) → Inserted (placed x 4101 v) x
+placed-then : (v : View) (x : ℕ) → v .hand ≡ nobody → v .elapsed ≡ 0 → ((p : ℕ) → p < free → v .lists p ≡ []) → Inserted (placed x 4101 v) x
 unfolding placed
-placed-then v x e E =
+placed-then v x z e E =
     let t : target (v .elapsed) (max 4101 (v .elapsed)) ≡ 129 = target-then (v .elapsed) e in
     record {
+      at-rest = z;
       clock = e;
       stack = rw t (change-other (v .lists) 129 (put 129 x (v .lists 129)) expired (omega arith) ∙ E expired (omega arith));
       only = rw t (only-put (v .lists) 129 x (omega arith) (λ q h. E q (omega arith)));
@@ -127,9 +130,9 @@ placed-then v x e E =
 inserted : {s s′ : QueueWords} {a : Answer} {value period : ℕ} → (Q : Quiet s 0) → InsertClaim s value 4101 period a s′
     → Sound s′ × Inserted (view s′) (Q .item)
 inserted {s} {s′} {a} {value} Q I =
-    let A = I .good (Q .sound) .done (Q .item) (Q .rest) (Q .first) (takes-so (omega (arith, Q .clock)) (λ h. rw (Q .clock))) in (
+    let A = I .good (Q .sound) .free (quiet-rest Q) .done (Q .item) (Q .rest) (Q .first) (takes-so (omega (arith, Q .clock)) (λ h. rw (Q .clock))) in (
       A .sound,
-      rw (A .view) (placed-then _ (Q .item) (Q .clock)
+      rw (A .view) (placed-then _ (Q .item) (quiet-rest Q) (Q .clock)
           (λ p h. change-other (view s .lists) free (Q .rest) p (omega arith) ∙ Q .empty p h)),
     )
 
@@ -142,7 +145,7 @@ wakes-one v x R (from-wheel e (starts {k} {s} F)) =
     rw (R .clock, q .0, q .1) refl
 
 wakes-then : Holds (wakes 0 4101 4096)
-wakes-then s s′ a b value period Q I W = let R = inserted Q I in wakes-one (view s′) (Q .item) (R .1) (W .good (R .0) .done)
+wakes-then s s′ a b value period Q I W = let R = inserted Q I in wakes-one (view s′) (Q .item) (R .1) (W .good (R .0) .free (R .1 .at-rest) .done)
 
 polls-so : (v : View) (x : ℕ) → Inserted v x → {y : Told} {u : View} → QueuePolls v 4096 y u → (y ≡ T.none 2 2) × (u .elapsed ≡ 4096)
 polls-so v x R (handed (popped e) G) = absurd (nil≢cons (sym (R .stack) ∙ e))
@@ -156,7 +159,7 @@ polls-so v x R (nothing (polled e P)) =
 polls-then : Holds (polls 0 4101 4096 2 2)
 polls-then s s′ s″ a b value period Q I P =
     let R = inserted Q I in
-    polls-so (view s′) (Q .item) (R .1) (P .good (R .0) .done (omega arith) .1)
+    polls-so (view s′) (Q .item) (R .1) (P .good (R .0) .free (R .1 .at-rest) .done (omega (arith, R .1 .clock)) .1)
 
 -- ---- all of them
 

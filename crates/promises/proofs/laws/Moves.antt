@@ -19,17 +19,20 @@ use Rattle.queue.specs.declared.Answer.{Answer}
 use Rattle.queue.specs.Told.{Told, told, timer}
 use Rattle.records.specs.View.{View, withValue, upd, withPeriod}
 use Rattle.records.specs.Records.{taken, left, target, placed, freed, At, keyOf, numberIn}
-use Rattle.queue.specs.Steps.{sleeps, starts, NextWake, at-once, from-wheel, Clears, begun, kept, gave, GoesOn, QueuePolls, TakesOut, nothing, once, again, handed, ended}
-use Rattle.records.specs.Words.{QueueWords, elapsed, view, Sound}
+use Rattle.queue.specs.Steps.{sleeps, starts, NextWake, at-once, from-wheel, Clears, begun, kept, gave, GoesOn, PollsSome, TakesSome, nothing-some, not-yet, once, again, handed-some, ended}
+use Rattle.records.specs.Words.{QueueWords, view, Sound}
+use Rattle.wheel.specs.Limited.{ended as stopped}
+use Rattle.pausing.specs.Pausing.{PollTaken}
 use Rattle.queue.specs.Calls.{Answered}
 use Rattle.delay_queue.specs.declared.Call.{Call}
-use Rattle.delay_queue.specs.Claims.{Formatted, PollClaim}
+use Rattle.delay_queue.specs.Claims.{Formatted, CallClaim}
 use Rattle.promises.specs.Does.{Does, refused, formatted, inserted, replaced, removed, polled, woke, measured, cleared}
-use Rattle.promises.proofs.laws.Does.{does}
+use Rattle.promises.specs.Polls.{PollAt}
+use Rattle.promises.proofs.laws.Does.{does, poll-done}
 use Rattle.promises.specs.OneCall.{isNo}
 use Rattle.promises.proofs.laws.OneCall.{call-sound}
 use Rattle.promises.specs.Runs.{Asked, Runs, rest, next, isPlacing, tally, movesOf, moves, resetting, resettings}
-use Rattle.promises.proofs.laws.Polling.{freed-beside, poll-parts, poll-counts, takes-works, goes-on-counts, goes-on-says, none-out, no-last, placed-else}
+use Rattle.promises.proofs.laws.Polling.{freed-beside, takes-works, goes-on-counts, goes-on-says, none-out, no-last, placed-else}
 use Rattle.promises.specs.Polling.{Finished}
 use Rattle.promises.specs.Bounded.{heightAt, IsSetAgain}
 use Rattle.promises.proofs.laws.TakesOut.{key-of-names, taken-out}
@@ -160,24 +163,24 @@ set-is {s} S {r} {p} {m} {n} {y} a G (k, v, d, m₁, n₁, z, e, f) =
     let c : keyOf (view s) r ≡ k = cc in
     e ∙ ap (λ i. numberIn i) (sym c) ∙ sym (key-of-names S a .number)
 
--- "The moves a poll reports are the heights before less the heights after": "Each poll reports as many moves as the pending timers lost in levels", where the
--- height of a timer that is set again is added after
-pub moves-are-heights : {s : QueueWords} → Sound s → {now : ℕ} → elapsed s ≤ now → {a : Answer} {t : QueueWords} → PollClaim s now a t
-    → (added : ℕ) × (movesOf (told a) + heights (view t .lists) ≡ heights (view s .lists) + added)
-    × (((y : ℕ) → IsSetAgain (view s) (told a) y → ⊥) → added ≡ 0) × ((y q : ℕ) → IsSetAgain (view s) (told a) y → At (view t) y q → added ≡ heightAt q)
-moves-are-heights {s} S {now} h {a} {t} P = of (P .good S .done h .1)
+-- by the moves the heights are less, where the height of a timer that is set again is added after
+pub view-heights : {s : QueueWords} → Sound s → {now limit : ℕ} → PollTaken (view s) now → {x : Told} {w : View} → PollsSome (view s) now limit x w
+    → (added : ℕ) × (movesOf x + heights (w .lists) ≡ heights (view s .lists) + added)
+    × (((y : ℕ) → IsSetAgain (view s) x y → ⊥) → added ≡ 0) × ((y q : ℕ) → IsSetAgain (view s) x y → At w y q → added ≡ heightAt q)
+view-heights {s} S {now} {limit} h P = of P
   where
     Adds : Told → View → Type 0
     Adds x w =
         (added : ℕ) × (movesOf x + heights (w .lists) ≡ heights (view s .lists) + added)
         × (((y : ℕ) → IsSetAgain (view s) x y → ⊥) → added ≡ 0) × ((y q : ℕ) → IsSetAgain (view s) x y → At w y q → added ≡ heightAt q)
 
-    on : {r m n : ℕ} {u : View} {x : Told} {w : View} → TakesOut (view s) now (some r) m n u → GoesOn (view s) r m n u x w → Risen (view s) r u x w
+    on : {r m n : ℕ} {u : View} {x : Told} {w : View} → TakesSome (view s) now limit (stopped (some r)) m n u → GoesOn (view s) r m n u x w
+        → Risen (view s) r u x w
         → Adds x w
     on {r} {u = u} {x = x} T G (stays d e) =
         let O = taken-out S h T in (
           0,
-          omega (arith, takes-works (view s) (S .rule) h T .counted, e, goes-on-counts G .0),
+          omega (arith, takes-works S h T .counted, e, goes-on-counts G .0),
           λ f. refl,
           λ y q z c. absurd (z .7 (rw (set-is S (O .out r refl .1) G z) d)),
         )
@@ -187,7 +190,7 @@ moves-are-heights {s} S {now} h {a} {t} P = of (P .good S .done h .1)
         let o : IsSetAgain (view s) x r = (_, _, _, _, _, goes-on-says G, N .number, d) in
         let added = heightAt (target (u .elapsed) (max (view s .deadline r + view s .period r) (u .elapsed))) in (
           added,
-          omega (arith, takes-works (view s) (S .rule) h T .counted, e, goes-on-counts G .0),
+          omega (arith, takes-works S h T .counted, e, goes-on-counts G .0),
           λ f. absurd (f r o),
           λ y p z c.
               let is : y ≡ r = set-is S (O .out r refl .1) G z in
@@ -195,14 +198,25 @@ moves-are-heights {s} S {now} h {a} {t} P = of (P .good S .done h .1)
               ap (λ (j : ℕ). heightAt j) (sym (placed-at (view s .deadline r + view s .period r) u (O .gone r refl) there)),
         )
 
-    of : {x : Told} {w : View} → QueuePolls (view s) now x w → Adds x w
-    of (nothing T) =
-        (0, omega (arith, takes-works (view s) (S .rule) h T .counted), λ f. refl, λ y q z c. absurd (none-out (z .5)))
-    of (handed T G) = on T G (goes-on-heights G)
+    of : {x : Told} {w : View} → PollsSome (view s) now limit x w → Adds x w
+    of (nothing-some T) =
+        (0, omega (arith, takes-works S h T .counted), λ f. refl, λ y q z c. absurd (none-out (z .5)))
+    of (not-yet T) =
+        (0, omega (arith, takes-works S h T .counted), λ f. refl, λ y q z c. absurd (none-out (z .5)))
+    of (handed-some T G) = on T G (goes-on-heights G)
+
+-- "The moves a poll reports are the heights before less the heights after": "Each poll reports as many moves as the pending timers lost in levels"; of every
+-- poll that is taken, whole or with a limit, begun or gone on with
+pub moves-are-heights : {s : QueueWords} → Sound s → {c : Call} {now : ℕ} → PollAt c now → PollTaken (view s) now → (a : Answer) (t : QueueWords)
+    → CallClaim c s a t
+    → (added : ℕ) × (movesOf (told a) + heights (view t .lists) ≡ heights (view s .lists) + added)
+    × (((y : ℕ) → IsSetAgain (view s) (told a) y → ⊥) → added ≡ 0)
+    × ((y q : ℕ) → IsSetAgain (view s) (told a) y → At (view t) y q → added ≡ heightAt q)
+moves-are-heights S p K a t P = view-heights S K (poll-done S p K a t P .1)
 
 -- whoever is not set again keeps its deadline
-pub goes-deadline : {s : QueueWords} (S : Sound s) {now : ℕ} (h : elapsed s ≤ now) {r m n : ℕ} {u : View} {x : Told} {w : View}
-    → TakesOut (view s) now (some r) m n u → GoesOn (view s) r m n u x w → (y : ℕ) → (IsSetAgain (view s) x y → ⊥)
+pub goes-deadline : {s : QueueWords} (S : Sound s) {now limit : ℕ} (h : PollTaken (view s) now) {r m n : ℕ} {u : View} {x : Told} {w : View}
+    → TakesSome (view s) now limit (stopped (some r)) m n u → GoesOn (view s) r m n u x w → (y : ℕ) → (IsSetAgain (view s) x y → ⊥)
     → w .deadline y ≡ view s .deadline y
 goes-deadline S h {r} {u = u} T (once z) y f = ap (λ g. g y) (freed-beside r u .deadline ∙ taken-out S h T .deadline)
 goes-deadline {s} S h {r} {m} {n} {u} T (again p g) y f =
@@ -214,13 +228,14 @@ goes-deadline {s} S h {r} {m} {n} {u} T (again p g) y f =
 goes-deadline S h {r} {u = u} T (ended p g) y f = ap (λ k. k y) (freed-beside r u .deadline ∙ taken-out S h T .deadline)
 
 -- the moves are paid for by the heights lost, and five for a timer that is set again
-poll-paid : {s : QueueWords} → Sound s → {now : ℕ} → elapsed s ≤ now → {x : Told} {w : View} → QueuePolls (view s) now x w
+poll-paid : {s : QueueWords} → Sound s → {now limit : ℕ} → PollTaken (view s) now → {x : Told} {w : View} → PollsSome (view s) now limit x w
     → movesOf x + heights (w .lists) ≤ heights (view s .lists) + 5 * resetting s x
-poll-paid {s} S h (nothing T) = omega (arith, takes-works (view s) (S .rule) h T .counted)
-poll-paid {s} S h {x} {w} (handed {r} {m} {n} {u} T G) = by (goes-on-heights G)
+poll-paid {s} S h (nothing-some T) = omega (arith, takes-works S h T .counted)
+poll-paid {s} S h (not-yet T) = omega (arith, takes-works S h T .counted)
+poll-paid {s} S h {x} {w} (handed-some {r} {m} {n} {u} T G) = by (goes-on-heights G)
   where
     B : m + heights (u .lists) ≡ heights (view s .lists)
-    B = takes-works (view s) (S .rule) h T .counted
+    B = takes-works S h T .counted
 
     by : Risen (view s) r u x w → movesOf x + heights (w .lists) ≤ heights (view s .lists) + 5 * resetting s x
     by (stays d e) = omega (arith, B, e, goes-on-counts G .0)
@@ -266,7 +281,7 @@ module _ (s : QueueWords) (a : Answer) (t : QueueWords) where
       answered-paid c A refl (omega (arith, placed-heights r when (left p r (view s)), left-heights p r (view s)))
   does-paid c S (removed {key} {r} {p} N A) =
       answered-paid c A refl (omega (arith, freed-heights r (left p r (view s)), left-heights p r (view s)))
-  does-paid c S (polled h P) = omega (arith, poll-paid S h (P .good S .done h .1))
+  does-paid c S (polled at h P) = omega (arith, poll-paid S h P)
   does-paid c S (woke W e) = same-paid c e (wakes-moves W)
   does-paid c S (measured m e) = same-paid c e (ap movesOf m)
   does-paid c S (cleared K) = answered-paid c (K .done) refl (omega (arith, clears-heights (K .clears)))

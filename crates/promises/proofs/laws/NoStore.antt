@@ -33,12 +33,14 @@ no-store-once {w} {w′} A B =
         expired = (A .expired ∙ sym (B .expired)) i;
         free = (A .free ∙ sym (B .free)) i;
       };
+      hand = (A .hand ∙ sym (B .hand)) i;
+      until = (A .until ∙ sym (B .until)) i;
     }
 
 pub no-store-met : (w : Wheel) × NoStoreClaim w
 no-store-met = (
-  record { elapsed = 0; occupied = replicate 6 0; stacks = record { n = 0; expired = nobody; free = nobody } },
-  record { elapsed = refl; occupied = refl; records = refl; expired = refl; free = refl },
+  record { elapsed = 0; occupied = replicate 6 0; stacks = record { n = 0; expired = nobody; free = nobody }; hand = nobody; until = 0 },
+  record { elapsed = refl; occupied = refl; records = refl; expired = refl; free = refl; hand = refl; until = refl },
 )
 
 -- ---- a store that is not sound

@@ -4,8 +4,9 @@ use mathlib.Core.Logic.{by-cases}
 use mathlib.Core.List.{List, [], _∷_, nil≢cons}
 use mathlib.Core.Option.{Option, some, Option·some-injective, Option·some-ne-none}
 use Prim.Native.Nat.{ℕ, _≤_, _<_}
-use native.Mathlib.Decide.{decLt}
+use native.Mathlib.Decide.{ℕ-discrete, decLt}
 use native.Mathlib.Omega.{arith}
+use Rattle.links.specs.Lists.{nobody}
 use Rattle.links.specs.Whole.{Kept}
 use Rattle.stack.specs.Places.{free}
 use Rattle.wheel.proofs.laws.Next.{first-one, first-not-empty}
@@ -18,15 +19,16 @@ use Rattle.queue.specs.Told as T
 use Rattle.records.specs.View.{View}
 use Rattle.records.specs.Records.{At, freed, left}
 use Rattle.queue.specs.Steps.{TakesOut, GoesOn, once, again, ended, QueuePolls, polled, popped, handed, nothing, Wakes, sleeps, starts, NextWake, at-once, from-wheel, Clears, begun, kept, gave}
-use Rattle.records.specs.Words.{QueueWords, words, count, elapsed, view, Sound, PastKept, Standing}
+use Rattle.records.specs.Words.{QueueWords, words, count, elapsed, view, AtRest, Sound, PastKept, Standing}
 use Rattle.records.proofs.laws.Words.{view-fixed}
 use Rattle.records.proofs.laws.Inner.{mark-at, left-size, placed-size, freed-size}
-use Rattle.queue.specs.Calls.{Refused, Answered, InsertOn, ResetOn, RemoveOn, PollOn, ClearOn}
+use Rattle.queue.specs.Calls.{Refused, Answered, InsertOn, ResetOn, RemoveOn, PollOn, Freely, Resuming, RestOn, SomeOn, PollSomeOn, ClearOn}
+use Rattle.pausing.proofs.laws.Pausing.{polls-one as polls-some-one, rest-one}
 use Rattle.records.proofs.laws.Cases.{by-deadline, by-key}
 use Rattle.promises.proofs.laws.Decided.{sound-dec, fits-dec, range-dec}
 use Rattle.promises.proofs.laws.Met.{clear-one}
-use Rattle.delay_queue.specs.Claims.{Formatted, FormatClaim, Judging, InsertClaim, ResetClaim, RemoveClaim, PollClaim, WakeClaim, LengthClaim, ClearClaim}
-use Rattle.queue.proofs.laws.Polls.{polls-size, clears-size}
+use Rattle.delay_queue.specs.Claims.{Formatted, FormatClaim, Judging, InsertClaim, ResetClaim, RemoveClaim, PollClaim, PollSomeClaim, WakeClaim, LengthClaim, ClearClaim}
+use Rattle.queue.proofs.laws.Polls.{polls-size, some-size, rest-size, clears-size}
 use Rattle.promises.specs.Once.{Lent}
 
 -- ---- an answer is what it tells: `told` loses nothing
@@ -38,6 +40,7 @@ untold (T.gone v d) = A.Gone v d
 untold (T.out k v d m n) = A.Out k v d m n
 untold (T.last k v d m n) = A.Last k v d m n
 untold (T.none m n) = A.Nothing m n
+untold (T.yet m n) = A.NotYet m n
 untold (T.wake t) = A.Wake t
 untold T.never = A.NoWake
 untold (T.len n) = A.Length n
@@ -51,6 +54,7 @@ untold-told (A.Gone v d) = refl
 untold-told (A.Out k v d m n) = refl
 untold-told (A.Last k v d m n) = refl
 untold-told (A.Nothing m n) = refl
+untold-told (A.NotYet m n) = refl
 untold-told (A.Wake t) = refl
 untold-told A.NoWake = refl
 untold-told (A.Length n) = refl
@@ -66,7 +70,13 @@ pub words-one : (w : Wheel) (hh : List (List ℕ)) (vs ds ns ps ts ms : List ℕ
     → words w hh vs ds ns ps ts ms ≡ words w′ hh′ vs′ ds′ ns′ ps′ ts′ ms′ → Lent w hh vs ds ns ps ts ms w′ hh′ vs′ ds′ ns′ ps′ ts′ ms′
 words-one w hh vs ds ns ps ts ms w′ hh′ vs′ ds′ ns′ ps′ ts′ ms′ e =
     record {
-      state = λ i. record { elapsed = e i .wheel .elapsed; occupied = e i .wheel .occupied; stacks = e i .wheel .stack .stacks };
+      state = λ i. record {
+        elapsed = e i .wheel .elapsed;
+        occupied = e i .wheel .occupied;
+        stacks = e i .wheel .stack .stacks;
+        hand = e i .hand;
+        until = e i .until;
+      };
       heads = λ i. e i .wheel .stack .heads;
       values = λ i. e i .values;
       deadlines = λ i. e i .deadlines;
@@ -89,7 +99,7 @@ one-refusal {a = a} {a′ = a′} R Q = (told-one a a′ (R .told ∙ sym (Q .to
 kept-from : {n : ℕ} {l m k : List ℕ} → Kept n l m → Kept n l k → Kept n m k
 kept-from A B = record { size = B .size ∙ sym (A .size); past = λ j h. B .past j h ∙ sym (A .past j h) }
 
-past-from : {n : ℕ} {s t u : QueueWords} → PastKept n s t → PastKept n s u → PastKept n t u
+pub past-from : {n : ℕ} {s t u : QueueWords} → PastKept n s t → PastKept n s u → PastKept n t u
 past-from A B =
     record {
       links = record {
@@ -103,7 +113,7 @@ past-from A B =
     }
 
 -- the view and the words past N leave no choice
-kept-once : {n : ℕ} {s t u : QueueWords} → Sound t → Sound u → view u ≡ view t → count t ≡ n → PastKept n s t → PastKept n s u → u ≡ t
+pub kept-once : {n : ℕ} {s t u : QueueWords} → Sound t → Sound u → view u ≡ view t → count t ≡ n → PastKept n s t → PastKept n s u → u ≡ t
 kept-once {t = t} {u = u} S U e n A B = view-fixed S U e (subst (λ m. PastKept m t u) (sym n) (past-from A B))
 
 -- and so with the answer
@@ -118,6 +128,12 @@ judging-once : {s t t′ : QueueWords} {a a′ : Answer} {On On′ : Type 0} →
     → (Sound s → On → On′ → Same a t a′ t′)
     → Same a t a′ t′
 judging-once {s} J K f = by-cases (sound-dec s) (λ S. f S (J .good S) (K .good S)) (λ n. one-refusal (J .bad n) (K .bad n))
+
+-- while a poll is in hand they are refused with 12
+freely-once : {s t t′ : QueueWords} {a a′ : Answer} {On On′ : Type 0} → Freely s a t On → Freely s a′ t′ On′ → (AtRest s → On → On′ → Same a t a′ t′)
+    → Same a t a′ t′
+freely-once {s} J K f =
+    by-cases (ℕ-discrete (s .hand) nobody) (λ z. f z (J .free z) (K .free z)) (λ d. one-refusal (J .held d) (K .held d))
 
 -- ---- insert, reset, remove
 
@@ -136,7 +152,7 @@ module _ {s t t′ : QueueWords} {a a′ : Answer} where
             (λ f. answered-once (placed-size r when _) (C .done r l e f) (D .done r l e f))
 
     pub insert-once : InsertClaim s value when period a t → InsertClaim s value when period a′ t′ → (a ≡ a′) × (t ≡ t′)
-    insert-once C D = judging-once C D (λ S. insert-on)
+    insert-once C D = judging-once C D (λ S x y. freely-once x y (λ z. insert-on))
 
   module _ {key when : ℕ} where
     reset-on : Sound s → ResetOn s key when a t → ResetOn s key when a′ t′ → Same a t a′ t′
@@ -151,7 +167,7 @@ module _ {s t t′ : QueueWords} {a a′ : Answer} where
         (λ f. one-refusal (C .dead f) (D .dead f))
 
     pub reset-once : ResetClaim s key when a t → ResetClaim s key when a′ t′ → (a ≡ a′) × (t ≡ t′)
-    reset-once C D = judging-once C D reset-on
+    reset-once C D = judging-once C D (λ S x y. freely-once x y (λ z. reset-on S))
 
   module _ {key : ℕ} where
     remove-on : Sound s → RemoveOn s key a t → RemoveOn s key a′ t′ → Same a t a′ t′
@@ -159,7 +175,7 @@ module _ {s t t′ : QueueWords} {a a′ : Answer} where
         (λ f. one-refusal (C .dead f) (D .dead f))
 
     pub remove-once : RemoveClaim s key a t → RemoveClaim s key a′ t′ → (a ≡ a′) × (t ≡ t′)
-    remove-once C D = judging-once C D remove-on
+    remove-once C D = judging-once C D (λ S x y. freely-once x y (λ z. remove-on S))
 
 -- ---- poll
 
@@ -216,8 +232,39 @@ module _ {s t t′ : QueueWords} {a a′ : Answer} where
         let q = queue-polls-one (c .1) (d .1) in
         (told-one a a′ (q .0), kept-once (d .0) (c .0) (q .1) (polls-size (d .1)) (d .2) (c .2)))
 
+    -- it goes on with the poll in hand
+    rest-on : RestOn s time a t → RestOn s time a′ t′ → Same a t a′ t′
+    rest-on c d =
+        let q = rest-one (c .1) (d .1) in
+        (told-one a a′ (q .0), kept-once (d .0) (c .0) (q .1) (rest-size (d .1)) (d .2) (c .2))
+
+    some-on : {limit : ℕ} → SomeOn s time limit a t → SomeOn s time limit a′ t′ → Same a t a′ t′
+    some-on c d =
+        let q = polls-some-one (c .1) (d .1) in
+        (told-one a a′ (q .0), kept-once (d .0) (c .0) (q .1) (some-size (d .1)) (d .2) (c .2))
+
+    begin-on : {limit : ℕ} → PollSomeOn s time limit a t → PollSomeOn s time limit a′ t′ → Same a t a′ t′
+    begin-on C D =
+        by-cases (decLt time (elapsed s))
+        (λ h. one-refusal (C .back h) (D .back h))
+        (λ h. some-on (C .done (omega arith)) (D .done (omega arith)))
+
+    resuming-once : {On On′ Rest Rest′ : Type 0} → Resuming s time a t On Rest → Resuming s time a′ t′ On′ Rest′
+        → (AtRest s → On → On′ → Same a t a′ t′) → (Rest → Rest′ → Same a t a′ t′) → Same a t a′ t′
+    resuming-once C D f g =
+        by-cases (ℕ-discrete (s .hand) nobody)
+        (λ z. f z (C .free z) (D .free z))
+        (λ d.
+        by-cases (ℕ-discrete time (s .until))
+        (λ e. g (C .same d e) (D .same d e))
+        (λ n. one-refusal (C .other d n) (D .other d n)))
+
+    -- 02 [10]: one with a limit, of any words
+    pub limited-once : {limit : ℕ} → PollSomeClaim s time limit a t → PollSomeClaim s time limit a′ t′ → (a ≡ a′) × (t ≡ t′)
+    limited-once C D = judging-once C D (λ S x y. resuming-once x y (λ z. begin-on) some-on)
+
     pub poll-once : PollClaim s time a t → PollClaim s time a′ t′ → (a ≡ a′) × (t ≡ t′)
-    poll-once C D = judging-once C D (λ S. poll-on)
+    poll-once C D = judging-once C D (λ S x y. resuming-once x y (λ z. poll-on) rest-on)
 
 -- ---- next wake and length
 
@@ -239,7 +286,8 @@ module _ {s : QueueWords} {a a′ : Answer} where
   answer-once J K f = judging-once J K (λ S x y. (told-one a a′ (f x y), refl)) .0
 
   pub wake-once : WakeClaim s a → WakeClaim s a′ → a ≡ a′
-  wake-once C D = answer-once C D (λ x y. next-one (x .done) (y .done))
+  wake-once C D =
+      judging-once C D (λ S x y. freely-once x y (λ z u v. (told-one a a′ (next-one (u .done) (v .done)), refl))) .0
 
   pub length-once : LengthClaim s a → LengthClaim s a′ → a ≡ a′
   length-once C D = answer-once C D (λ x y. x .done ∙ sym (y .done))

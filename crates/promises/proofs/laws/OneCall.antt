@@ -5,8 +5,9 @@ use mathlib.Core.Logic.{by-cases}
 use mathlib.Core.Bool.{false, true≢false}
 use mathlib.Core.List.{List, [], _∷_}
 use Prim.Native.Nat.{ℕ}
-use native.Mathlib.Decide.{decLt}
+use native.Mathlib.Decide.{ℕ-discrete, decLt}
 use native.Mathlib.Omega.{arith}
+use Rattle.links.specs.Lists.{nobody}
 use Rattle.links.proofs.laws.Lists.{change-same}
 use Rattle.stack.specs.Places.{free}
 use Rattle.stack.specs.Format.{over, range}
@@ -15,10 +16,11 @@ use Rattle.queue.specs.declared.Answer.the-variants as A
 use Rattle.queue.specs.Told.{Told, told}
 use Rattle.queue.specs.Told as T
 use Rattle.records.specs.View.{View}
-use Rattle.queue.specs.Steps.{QueuePolls, polled, popped, handed, nothing, sleeps, starts, NextWake, at-once, from-wheel, once, again, ended}
+use Rattle.queue.specs.Steps.{PollsSome, handed-some, nothing-some, not-yet, PollsRest, handed-rest, nothing-rest, GoesOn}
+use Rattle.queue.specs.Steps.{QueuePolls, polled, handed, nothing, sleeps, starts, NextWake, at-once, from-wheel, once, again, ended}
 use Rattle.records.specs.Words.{QueueWords, count, elapsed, view, Sound, slices, PastKept}
 use Rattle.records.proofs.laws.Words.{past-refl}
-use Rattle.queue.specs.Calls.{Answered, InsertOn, ResetOn, RemoveOn, PollOn}
+use Rattle.queue.specs.Calls.{Answered, InsertOn, ResetOn, RemoveOn, PollOn, Freely, Resuming, RestOn, SomeOn, PollSomeOn}
 use Rattle.delay_queue.specs.declared.Call.{Call}
 use Rattle.delay_queue.specs.declared.Call.the-variants as C
 use Rattle.delay_queue.specs.Claims.{Formatted, FormatClaim, Judging, InsertClaim, CallClaim}
@@ -26,8 +28,8 @@ use Rattle.records.proofs.laws.Cases.{by-deadline, takes-so, by-key}
 use Rattle.promises.proofs.laws.Decided.{sound-dec, fits-dec, range-dec}
 use Rattle.delay_queue.proofs.laws.Format.{formats}
 use Rattle.promises.specs.Met.{Met}
-use Rattle.promises.proofs.laws.Met.{format-met, insert-met, reset-met, remove-met, poll-met, wake-met, length-met, clear-met}
-use Rattle.promises.proofs.laws.Once.{told-one, format-once, insert-once, reset-once, remove-once, poll-once, wake-once, length-once, clear-once}
+use Rattle.promises.proofs.laws.Met.{format-met, insert-met, reset-met, remove-met, poll-met, limited-met, wake-met, length-met, clear-met}
+use Rattle.promises.proofs.laws.Once.{told-one, format-once, insert-once, reset-once, remove-once, poll-once, limited-once, wake-once, length-once, clear-once}
 use Rattle.records.specs.Slices.{Fits}
 use Rattle.promises.specs.OneCall.{reach, isNo, Ends, accepted, refused, blank, one}
 
@@ -39,6 +41,7 @@ call-once (C.Insert value when period) s a a′ t t′ A B = insert-once A B
 call-once (C.Reset key when) s a a′ t t′ A B = reset-once A B
 call-once (C.Remove key) s a a′ t t′ A B = remove-once A B
 call-once (C.Poll now) s a a′ t t′ A B = poll-once A B
+call-once (C.PollSome now limit) s a a′ t t′ A B = limited-once A B
 call-once C.Wake s a a′ t t′ A B = (wake-once (A .0) (B .0), A .1 ∙ sym (B .1))
 call-once C.Length s a a′ t t′ A B = (length-once (A .0) (B .0), A .1 ∙ sym (B .1))
 call-once C.Clear s a a′ t t′ A B = clear-once A B
@@ -50,6 +53,7 @@ call-met (C.Insert value when period) s = insert-met s value when period
 call-met (C.Reset key when) s = reset-met s key when
 call-met (C.Remove key) s = remove-met s key
 call-met (C.Poll now) s = poll-met s now
+call-met (C.PollSome now limit) s = limited-met s now limit
 call-met C.Wake s = let m = wake-met s in (m .0, s, (m .1, refl))
 call-met C.Length s = let m = length-met s in (m .0, s, (m .1, refl))
 call-met C.Clear s = clear-met s
@@ -71,6 +75,20 @@ polls-says (handed T (once z)) = refl
 polls-says (handed T (again p f)) = refl
 polls-says (handed T (ended p f)) = refl
 polls-says (nothing (polled e P)) = refl
+
+goes-says : {v : View} {r m n : ℕ} {u : View} {x : Told} {w : View} → GoesOn v r m n u x w → isNo x ≡ false
+goes-says (once z) = refl
+goes-says (again p f) = refl
+goes-says (ended p f) = refl
+
+pub some-says : {v : View} {now limit : ℕ} {x : Told} {u : View} → PollsSome v now limit x u → isNo x ≡ false
+some-says (handed-some T G) = goes-says G
+some-says (nothing-some T) = refl
+some-says (not-yet T) = refl
+
+pub rest-says : {v : View} {now : ℕ} {x : Told} {u : View} → PollsRest v now x u → isNo x ≡ false
+rest-says (handed-rest T G) = goes-says G
+rest-says (nothing-rest T) = refl
 
 pub wakes-says : {v : View} {x : Told} → NextWake v x → isNo x ≡ false
 wakes-says (at-once e) = refl
@@ -122,13 +140,34 @@ module _ {s t : QueueWords} {a : Answer} where
       (λ h. refused 7 (P .back h))
       (λ h. let d = P .done (omega arith) in accepted (record { says = polls-says (d .1); sound = d .0; kept = d .2 }))
 
+  -- while a poll is in hand
+  freely-ends : {On : Type 0} → Freely s a t On → (On → Ends (count s) s a t) → Ends (count s) s a t
+  freely-ends J f = by-cases (ℕ-discrete (s .hand) nobody) (λ z. f (J .free z)) (λ d. refused 12 (J .held d))
+
+  resuming-ends : {time : ℕ} {On Rest : Type 0} → Resuming s time a t On Rest → (On → Ends (count s) s a t) → (Rest → Ends (count s) s a t)
+      → Ends (count s) s a t
+  resuming-ends {time} J f g =
+      by-cases (ℕ-discrete (s .hand) nobody)
+      (λ z. f (J .free z))
+      (λ d. by-cases (ℕ-discrete time (s .until)) (λ e. g (J .same d e)) (λ n. refused 12 (J .other d n)))
+
+  rest-ends : {time : ℕ} → RestOn s time a t → Ends (count s) s a t
+  rest-ends d = accepted (record { says = rest-says (d .1); sound = d .0; kept = d .2 })
+
+  some-ends : {time limit : ℕ} → SomeOn s time limit a t → Ends (count s) s a t
+  some-ends d = accepted (record { says = some-says (d .1); sound = d .0; kept = d .2 })
+
+  begin-ends : {time limit : ℕ} → PollSomeOn s time limit a t → Ends (count s) s a t
+  begin-ends {time} P = by-cases (decLt time (elapsed s)) (λ h. refused 7 (P .back h)) (λ h. some-ends (P .done (omega arith)))
+
 pub call-ends : (c : Call) (s : QueueWords) (a : Answer) (t : QueueWords) → CallClaim c s a t → Ends (reach c s) s a t
 call-ends (C.Format n turn) s a t A = format-ends A
-call-ends (C.Insert value when period) s a t A = judging-ends A (λ S. insert-ends)
-call-ends (C.Reset key when) s a t A = judging-ends A reset-ends
-call-ends (C.Remove key) s a t A = judging-ends A remove-ends
-call-ends (C.Poll now) s a t A = judging-ends A (λ S. poll-ends)
-call-ends C.Wake s a t A = left-so (A .1) (judging-ends (A .0) (λ S W. looks S (wakes-says (W .done))))
+call-ends (C.Insert value when period) s a t A = judging-ends A (λ S F. freely-ends F insert-ends)
+call-ends (C.Reset key when) s a t A = judging-ends A (λ S F. freely-ends F (reset-ends S))
+call-ends (C.Remove key) s a t A = judging-ends A (λ S F. freely-ends F (remove-ends S))
+call-ends (C.Poll now) s a t A = judging-ends A (λ S F. resuming-ends F poll-ends rest-ends)
+call-ends (C.PollSome now limit) s a t A = judging-ends A (λ S F. resuming-ends F begin-ends some-ends)
+call-ends C.Wake s a t A = left-so (A .1) (judging-ends (A .0) (λ S F. freely-ends F (λ W. looks S (wakes-says (W .done)))))
 call-ends C.Length s a t A = left-so (A .1) (judging-ends (A .0) (λ S W. looks S (ap isNo (W .done))))
 call-ends C.Clear s a t A = judging-ends A (λ S K. answered refl (K .done))
 
@@ -177,7 +216,7 @@ fits =
 pub one-made : Formatted blank 1 1 A.Done one
 one-made =
     formats blank fits (record { some = omega arith; last = omega arith })
-    (record { wheel = refl; values = refl; deadlines = refl; turns = refl }) refl
+    (record { wheel = refl; values = refl; deadlines = refl; turns = refl; hand = refl; until = refl }) refl
 
 pub one-sound : Sound one
 one-sound = one-made .sound
@@ -191,6 +230,6 @@ pub insert-shown : (t : QueueWords) × InsertClaim one 7 70 0 (A.Key 65536) t ×
 unfolding over
 insert-shown =
     let m = insert-met one 7 70 0 in
-    let D = m .2 .good one-sound .done 0 [] one-free (takes-so (omega arith) (λ h. refl)) in
+    let D = m .2 .good one-sound .free refl .done 0 [] one-free (takes-so (omega arith) (λ h. refl)) in
     let e : m .0 ≡ A.Key 65536 = told-one (m .0) (A.Key 65536) (D .told) in
     (m .1, rw e at (m .2), D .sound)

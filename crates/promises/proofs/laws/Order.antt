@@ -23,13 +23,14 @@ use Rattle.wheel.proofs.laws.Drain.{move-rest, drains-law, drain-law}
 use Rattle.queue.specs.declared.Answer.{Answer}
 use Rattle.queue.specs.Told.{Told, told, Hands, timer}
 use Rattle.queue.specs.Told as T
-use Rattle.records.specs.View.{View, withElapsed, withLists, upd}
+use Rattle.records.specs.View.{View, upd}
 use Rattle.records.specs.Records.{keyOf, At, Names, placed, target, freed}
 use Rattle.queue.proofs.laws.Calls.{names-one}
 use Rattle.queue.specs.Steps.{QueuePolls, polled, popped, handed, nothing, GoesOn, once, ended, again}
-use Rattle.records.specs.Words.{QueueWords, elapsed, view, Sound}
+use Rattle.records.specs.Words.{QueueWords, AtRest, elapsed, view, Sound}
 use Rattle.delay_queue.specs.Claims.{PollClaim}
-use Rattle.promises.proofs.laws.Polling.{none-out, freed-beside, goes-on-says, goes-on-clock, clock-before}
+use Rattle.promises.proofs.laws.Polling.{taken-from-rest, none-out, freed-beside, goes-on-says, goes-on-clock, clock-before}
+use Rattle.promises.proofs.laws.Does.{whole-takes}
 use Rattle.promises.specs.Order.{keep, ofDeadline, goesTo, PollOrder}
 use Rattle.promises.proofs.laws.TakesOut.{one-list, key-of-names, taken-out}
 use Rattle.times.proofs.laws.Levels.{level-is}
@@ -265,12 +266,13 @@ module _ {s : QueueWords} (S : Sound s) where
   pub names-it : {i q k r p : ℕ} → At (view s) i q → keyOf (view s) i ≡ k → Names (view s) k r p → (i ≡ r) × (q ≡ p)
   names-it a e N = names-one S (rw e at (key-of-names S a)) N
 
-  module _ {now : ℕ} (not-back : elapsed s ≤ now) where
+  -- a whole poll, with no poll in hand
+  module _ (z₀ : AtRest s) {now : ℕ} (not-back : elapsed s ≤ now) where
     order-of : {x : Told} {u : View} → QueuePolls (view s) now x u → PollOrder (view s) x u
     order-of {x} {u = w} (handed {r} {m} {n} (popped {l = l} e) G) =
         let v = view s in
         let a : At v r expired = record { timed = omega arith; member = rw e (inl refl) } in
-        let late : v .elapsed ≤ v .deadline r = omega (arith, S .rule .stack r (a .member)) in
+        let late : v .elapsed ≤ v .deadline r = omega (arith, S .rule .free z₀ .stack r (a .member)) in
         let z = goes-on-says G in
         let away : (k y d m n i p : ℕ) → Hands x k y d m n → Names v k i p → p < slots → ⊥
         = λ k y d m n i p is N h. omega (arith, names-it a (same-key x z is .0) N .1) in
@@ -287,10 +289,12 @@ module _ {s : QueueWords} (S : Sound s) where
         }
     order-of {x} {u = w} (handed {r} {m} {n} (polled {e = e} {L = L} empty P) G) =
         let v = view s in
-        let O = polls-order (rule-between (S .rule)) P in
+        let O = polls-order (rule-between (S .rule .free z₀)) P in
         let a : At v r (O .place) = record { timed = omega arith; member = O .member } in
-        let T = taken-out S not-back (polled empty P) in
-        let late : e ≤ v .deadline r = clock-before S not-back (polled empty P) in
+        let K = taken-from-rest s z₀ not-back in
+        let W = whole-takes S z₀ (polled empty P) .1 in
+        let T = taken-out S K W in
+        let late : e ≤ v .deadline r = clock-before S K W in
         let z = goes-on-says G in
         record {
           stack = λ i j f. absurd (nil≢cons (sym empty ∙ f));
@@ -298,7 +302,7 @@ module _ {s : QueueWords} (S : Sound s) where
               let q : r ≡ i = names-it a (same-key x z is .0) N .0 in
               let b : At v r p = rw q (N .pending) in
               let H = polls-head P p h (b .member) (λ o c. one-list S r o p c (b .member)) in
-              let on = S .rule .wheel p r (omega arith) (b .member) in
+              let on = S .rule .free z₀ .wheel p r (omega arith) (b .member) in
               let still : w .lists p ≡ L p
               = goes-list late G p (omega (arith, h))
               (λ some f.
@@ -323,4 +327,4 @@ module _ {s : QueueWords} (S : Sound s) where
         }
 
     pub poll-order : {a : Answer} {t : QueueWords} → PollClaim s now a t → PollOrder (view s) (told a) (view t)
-    poll-order P = order-of (P .good S .done not-back .1)
+    poll-order P = order-of (P .good S .free z₀ .done not-back .1)

@@ -20,8 +20,9 @@ use Rattle.records.specs.View.{View, withValue, upd, withPeriod}
 use Rattle.records.specs.Records.{keyOf, At, Names, taken, left, target, placed, freed, packed, numberIn}
 use Rattle.records.proofs.laws.Cases.{by-key}
 use Rattle.queue.proofs.laws.Polls.{left-less}
-use Rattle.queue.specs.Steps.{QueuePolls, handed, nothing, GoesOn, once, again, ended}
+use Rattle.queue.specs.Steps.{PollsSome, handed-some, nothing-some, not-yet, GoesOn, once, again, ended}
 use Rattle.records.specs.Words.{QueueWords, view, Sound, slices}
+use Rattle.pausing.specs.Pausing.{PollTaken}
 use Rattle.delay_queue.specs.declared.Call.{Call}
 use Rattle.delay_queue.specs.declared.Call.the-variants as C
 use Rattle.delay_queue.specs.Claims.{InRange, CallClaim}
@@ -83,8 +84,8 @@ module _ {s : QueueWords} (S : Sound s) where
   was-taken : {o : Option ℕ} {u : View} → TakenOut (view s) o u → (r : ℕ) → Was (view s) u r
   was-taken T r = record { was = λ p a. (ap (λ f. f r) (T .turn), T .was r p a) }
 
-  poll-was : {now : ℕ} {x : Told} {w : View} → view s .elapsed ≤ now → QueuePolls (view s) now x w → (r : ℕ) → Was (view s) w r
-  poll-was h (handed {r = i} T G) r = goes-was (taken-out S h T) G
+  poll-was : {now limit : ℕ} {x : Told} {w : View} → PollTaken (view s) now → PollsSome (view s) now limit x w → (r : ℕ) → Was (view s) w r
+  poll-was h (handed-some {r = i} T G) r = goes-was (taken-out S h T) G
     where
       goes-was : {i m n : ℕ} {u : View} {x : Told} {w : View} → TakenOut (view s) (some i) u → GoesOn (view s) i m n u x w → Was (view s) w r
       goes-was {i} {u = u} O (once z) = was-then (was-taken O r) (was-freed i u (O .gone i refl) r)
@@ -95,7 +96,8 @@ module _ {s : QueueWords} (S : Sound s) where
                 (b .0 ∙ ap (λ g. g r) (O .turn), ⊎-elim (λ (z : r ≡ i). rw z (O .out i refl)) (λ c. O .was r p c) (b .1));
           }
       goes-was {i} {u = u} O (ended q f) = was-then (was-taken O r) (was-freed i u (O .gone i refl) r)
-  poll-was h (nothing T) r = was-taken (taken-out S h T) r
+  poll-was h (nothing-some T) r = was-taken (taken-out S h T) r
+  poll-was h (not-yet T) r = was-taken (taken-out S h T) r
 
   named-so : {w : View} {k r p q : ℕ} → Names w k r p → w .turn r ≡ view s .turn r → At (view s) r q → Names (view s) k r q
   named-so {r = r} {q = q} N t a =
@@ -132,7 +134,7 @@ module _ {s : QueueWords} (S : Sound s) where
       (b .1)
   does-was (removes {r = i} {p = q} M) empty {r = r} N =
       inr (named-was (was-then (was-left q i (view s) r) (was-freed i (left q i (view s)) (left-out S (M .pending)) r)) N)
-  does-was (polls h Q) empty {r = r} N = inr (named-was (poll-was h Q r) N)
+  does-was (polls c h Q) empty {r = r} N = inr (named-was (poll-was h Q r) N)
   does-was (wakes W) empty {p = p} N = inr (p, N)
   does-was counts empty {p = p} N = inr (p, N)
   does-was (clears c) empty {r = r} {p = p} N = absurd (empty refl r p (N .pending))
@@ -153,6 +155,7 @@ kind k (T.out j v d m n) =
 kind k (T.last j v d m n) =
     by-cases (ℕ-discrete j k) (λ e. hands (v, d, m, n, ap (λ i. timer i v d m n) e)) (λ z. other refl (rw (ne-eqb j k z)))
 kind k (T.none m n) = other refl refl
+kind k (T.yet m n) = other refl refl
 kind k (T.wake t) = other refl refl
 kind k T.never = other refl refl
 kind k (T.len n) = other refl refl
@@ -170,6 +173,7 @@ hands-counts k (T.out j v d m n) o = let e : timer j v d m n ≡ timer k (o .0) 
 hands-counts k (T.last j v d m n) o = let e : timer j v d m n ≡ timer k (o .0) (o .1) (o .2) (o .3) = o .4 in
     let z : j ≡ k = cc in (refl, rw (eq-eqb j k z))
 hands-counts k (T.none m n) o = absurd (none-out (o .4))
+hands-counts k (T.yet m n) o = absurd (none-out (o .4))
 hands-counts k (T.wake t) o = absurd (none-out (o .4))
 hands-counts k T.never o = absurd (none-out (o .4))
 hands-counts k (T.len n) o = absurd (none-out (o .4))
@@ -188,6 +192,7 @@ set-counts s {k} {r} (T.out j v d m n) N o f =
     rw (lt-ltb 0 (view s .period (numberIn j)) (omega arith))
 set-counts s (T.last j v d m n) N o f = absurd (f (inr (_, _, _, _, _, refl)))
 set-counts s (T.none m n) N o f = absurd (none-out (o .4))
+set-counts s (T.yet m n) N o f = absurd (none-out (o .4))
 set-counts s (T.wake t) N o f = absurd (none-out (o .4))
 set-counts s T.never N o f = absurd (none-out (o .4))
 set-counts s (T.len n) N o f = absurd (none-out (o .4))
@@ -206,6 +211,7 @@ done-dec v r x = by-cases (ℕ-discrete (v .period r) 0) (λ z. yes (inl z)) (λ
     last-dec (T.gone w d) z = no (not-last v r z (λ y. let e = y .5 in let q : _≡_ {A = ℕ} 0 1 = cc in omega arith))
     last-dec (T.out j w d m n) z = no (not-last v r z (λ y. let e = y .5 in let q : _≡_ {A = ℕ} 0 1 = cc in omega arith))
     last-dec (T.none m n) z = no (not-last v r z (λ y. let e = y .5 in let q : _≡_ {A = ℕ} 0 1 = cc in omega arith))
+    last-dec (T.yet m n) z = no (not-last v r z (λ y. let e = y .5 in let q : _≡_ {A = ℕ} 0 1 = cc in omega arith))
     last-dec (T.wake t) z = no (not-last v r z (λ y. let e = y .5 in let q : _≡_ {A = ℕ} 0 1 = cc in omega arith))
     last-dec T.never z = no (not-last v r z (λ y. let e = y .5 in let q : _≡_ {A = ℕ} 0 1 = cc in omega arith))
     last-dec (T.len n) z = no (not-last v r z (λ y. let e = y .5 in let q : _≡_ {A = ℕ} 0 1 = cc in omega arith))

@@ -1,36 +1,43 @@
 -- One poll: what it hands out, what stays, the clock and the drains.
-use mathlib.Core.Path.{_≡_, refl, sym, ap, _∙_}
+use mathlib.Core.Path.{_≡_, refl, sym, ap, _∙_, subst}
 use mathlib.Core.Logic.{_↔_, _≢_, inl, by-cases, _⊎_, inr, ⊎-elim}
-use mathlib.Core.List.{List, [], _∷_}
 use mathlib.Core.Option.{Option, none, some}
-use Prim.Native.Nat.{ℕ, zero, suc, _+_, _≤_, _<_, max}
-use native.Mathlib.Decide.{ℕ-discrete, decLt}
+use Prim.Native.Nat.{ℕ, suc, _+_, _≤_, _<_, max}
+use native.Mathlib.Decide.{ℕ-discrete}
 use native.Mathlib.Omega.{arith}
 use borrow.Author.Tests.{eq-eqb, ne-eqb}
-use Rattle.links.specs.Lists.{Mem, change}
-use Rattle.links.proofs.laws.Lists.{Nodup, change-other, change-same}
-use Rattle.stack.specs.Places.{slots, expired, free, put, levelAt, slotAt}
+use Rattle.links.specs.Lists.{nobody}
+use Rattle.links.proofs.laws.Lists.{change-other, change-same}
+use Rattle.stack.specs.Places.{expired, free, put}
 use Rattle.stack.proofs.laws.Whole as stack-laws
-use Rattle.wheel.specs.Wheel.{Lists, Rule, Polls, placeFor}
+use Rattle.wheel.specs.Wheel.{Lists, placeFor}
 use Rattle.wheel.specs.Sums.{sumOf, total}
-use Rattle.wheel.proofs.laws.Sums.{total-ext, total-less, hits, mem-sum, lies-times, times-lies, total-more, mem-joined, mem-kept, put-mem}
+use Rattle.wheel.proofs.laws.Sums.{total-ext, hits, lies-times, times-lies, total-more, mem-joined, mem-kept, put-mem}
 use Rattle.wheel.proofs.laws.Between.{rule-between}
 use Rattle.wheel.specs.Drain.{heights}
 use Rattle.wheel.proofs.laws.Drain.{amount}
-use Rattle.wheel.specs.Poll.{Fair, clockAfter}
+use Rattle.wheel.specs.Limited.{Outcome, ended as stopped, yet}
+use Rattle.wheel.proofs.laws.Passed.{givenBy}
 use Rattle.wheel.proofs.laws.Poll.{given, poll-law}
 use Rattle.queue.specs.declared.Answer.{Answer}
 use Rattle.queue.specs.Told.{Told, told, Handed, timer, no-timer, handing, Hands}
 use Rattle.queue.specs.Told as T
-use Rattle.records.specs.View.{View, withElapsed, withLists}
+use Rattle.records.specs.View.{View}
 use Rattle.records.specs.Records.{lastTurn, keyOf, At, Names, freed, numberIn, target, placed}
 use Rattle.queue.specs.Steps.{QueuePolls, polled, popped, handed, nothing, pending, TakesOut, GoesOn, once, again, ended}
-use Rattle.records.specs.Words.{QueueWords, elapsed, view, Sound}
+use Rattle.queue.specs.Steps.{TakesSome, PollsSome, handed-some, nothing-some, not-yet, PollsRest, handed-rest, nothing-rest}
+use Rattle.records.specs.Words.{QueueWords, elapsed, view, AtRest, Sound}
 use Rattle.records.proofs.laws.Words.{upd-other, upd-same}
-use Rattle.delay_queue.specs.Claims.{PollClaim}
+use Rattle.delay_queue.specs.declared.Call.{Call}
+use Rattle.delay_queue.specs.Claims.{PollClaim, CallClaim}
+use Rattle.pausing.specs.Pausing.{SaysYet, PollTaken}
+use Rattle.pausing.specs.Works.{FairlyBy, ClockBy}
+use Rattle.pausing.proofs.laws.Works.{takes-some-works}
+use Rattle.promises.specs.Polls.{PollAt, whole}
+use Rattle.promises.proofs.laws.Does.{poll-done}
 use Rattle.promises.specs.Runs.{movesOf}
-use Rattle.promises.specs.Polling.{IsPending, SameRecord, Beside, PollLeast, PollClock, drainsOf, SaysLast, Finished, Gone, SetAgain, HandsLeast}
-use Rattle.promises.proofs.laws.TakesOut.{TakenOut, taken-out, Other, key-of-names}
+use Rattle.promises.specs.Polling.{IsPending, SameRecord, Beside, AllStay, PollLeast, PollClock, drainsOf, SaysLast, Finished, Gone, SetAgain, HandsLeast}
+use Rattle.promises.proofs.laws.TakesOut.{TakenOut, taken-out, none-before, gotBy, key-of-names}
 use Rattle.times.proofs.laws.Quotients.{slot-lt}
 use Rattle.times.specs.Times.{levelOf}
 use Rattle.times.proofs.laws.Levels.{level-is}
@@ -76,34 +83,34 @@ abbrev pub saysOf : View → Option ℕ → ℕ → ℕ → Handed
 saysOf v none m n = no-timer
 saysOf v (some r) m n = timer (keyOf v r) (v .value r) (v .deadline r) m n
 
-abbrev pub Fairly : View → ℕ → Option ℕ → Type 0
-Fairly v now none = (y : ℕ) → IsPending v y → now < v .deadline y
-Fairly v now (some r) = IsPending v r × (v .deadline r ≤ now) × ((y : ℕ) → IsPending v y → v .deadline r ≤ v .deadline y)
+abbrev pub Fairly : View → ℕ → Outcome → Type 0
+Fairly v now (stopped none) = (y : ℕ) → IsPending v y → now < v .deadline y
+Fairly v now (stopped (some r)) = IsPending v r × (v .deadline r ≤ now) × ((y : ℕ) → IsPending v y → v .deadline r ≤ v .deadline y)
+Fairly v now (yet q) = Unit {0}
 
 -- who is taken out is fair, every weight of the others is kept, and so on: u is the view with it in no list
-pub record TakenBy (v : View) (now : ℕ) (got : Option ℕ) (m n : ℕ) (u : View) : Type 0 where
-  pub fair : Fairly v now got
-  pub kept : (w : ℕ → ℕ) → weigh w (u .lists) + given w got ≡ weigh w (v .lists)
-  pub clock : u .elapsed ≡ clockAfter (v .deadline) now (v .elapsed) got
+pub record TakenBy (v : View) (now : ℕ) (o : Outcome) (m n : ℕ) (u : View) : Type 0 where
+  pub fair : Fairly v now o
+  pub kept : (w : ℕ → ℕ) → weigh w (u .lists) + given w (gotBy o) ≡ weigh w (v .lists)
+  pub clock : ClockBy v now o (u .elapsed)
   pub counted : m + heights (u .lists) ≡ heights (v .lists)
   pub few : n ≤ m
-  pub idle : n ≡ 0 → m ≡ 0
 
 -- what became of it
-abbrev pub Became : View → Option ℕ → ℕ → ℕ → View → Told → View → Type 0
-Became v none m n u x w = (x ≡ T.none m n) × (w ≡ u)
-Became v (some r) m n u x w = GoesOn v r m n u x w
+abbrev pub Became : View → Outcome → ℕ → ℕ → View → Told → View → Type 0
+Became v (stopped none) m n u x w = (x ≡ T.none m n) × (w ≡ u)
+Became v (stopped (some r)) m n u x w = GoesOn v r m n u x w
+Became v (yet q) m n u x w = (x ≡ T.yet m n) × (w ≡ u)
 
 pub record Polled (v : View) (now : ℕ) (x : Told) (w : View) : Type 0 where
-  pub got : Option ℕ
+  pub outcome : Outcome
   pub moves : ℕ
   pub drains : ℕ
   pub taken : View
-  pub takes : TakesOut v now got moves drains taken
-  pub by : TakenBy v now got moves drains taken
-  pub became : Became v got moves drains taken x w
-  pub is : handing x ≡ saysOf v got moves drains
-  pub clock : w .elapsed ≡ clockAfter (v .deadline) now (v .elapsed) got
+  pub by : TakenBy v now outcome moves drains taken
+  pub became : Became v outcome moves drains taken x w
+  pub is : handing x ≡ saysOf v (gotBy outcome) moves drains
+  pub clock : ClockBy v now outcome (w .elapsed)
 
 pub goes-on-says : {v : View} {r m n : ℕ} {u : View} {x : Told} {w : View} → GoesOn v r m n u x w → handing x ≡ saysOf v (some r) m n
 goes-on-says (once z) = refl
@@ -119,74 +126,46 @@ goes-on-clock {r = r} {u = u} (once z) = freed-beside r u .elapsed
 goes-on-clock {v} {r} {u = u} (again p f) = placed-clock r (v .deadline r + v .period r) u
 goes-on-clock {r = r} {u = u} (ended p f) = freed-beside r u .elapsed
 
-module _ (v : View) (R : Rule (v .deadline) (v .elapsed) (v .lists)) {now : ℕ} (not-back : v .elapsed ≤ now) where
-  -- nothing is pending before elapsed
-  pub none-before : (y : ℕ) → IsPending v y → v .elapsed ≤ v .deadline y
-  none-before y k =
-      by-cases (ℕ-discrete (k .0) expired)
-      (λ e. omega (arith, R .stack y (rw e at (k .1 .member))))
-      (λ d. R .wheel (k .0) y (omega arith) (k .1 .member) .late)
+module _ {s : QueueWords} (S : Sound s) {now : ℕ} (K : PollTaken (view s) now) where
+  fairly : (o : Outcome) → FairlyBy (view s) now o → Fairly (view s) now o
+  fairly (stopped none) f = λ y k. f y (k .0) (k .1)
+  fairly (stopped (some r)) f = (f .0, f .1, λ y k. f .2 y (k .0) (k .1))
+  fairly (yet q) f = tt
 
-  module _ (empty : v .lists expired ≡ []) where
-    -- where the expired stack is empty, all that is pending waits in a slot
-    in-slot : (y : ℕ) → IsPending v y → (p : ℕ) × (p < slots) × Mem y (v .lists p)
-    in-slot y k =
-        by-cases (ℕ-discrete (k .0) expired)
-        (λ e. absurd (rw (e, empty) at (k .1 .member)))
-        (λ d. (k .0, omega arith, k .1 .member))
+  given-by : (w : ℕ → ℕ) (o : Outcome) → givenBy w o ≡ given w (gotBy o)
+  given-by w (stopped none) = refl
+  given-by w (stopped (some r)) = refl
+  given-by w (yet q) = refl
 
-    fairly : (o : Option ℕ) → Fair (v .deadline) now (v .lists) o → Fairly v now o
-    fairly none f = λ y k. f y (in-slot y k)
-    fairly (some r) f = (
-      (f .0 .0, record { timed = omega arith; member = f .0 .2 }),
-      f .1,
-      λ y k. f .2 y (in-slot y k),
-    )
-
-  pub takes-works : {got : Option ℕ} {m n : ℕ} {u : View} → TakesOut v now got m n u → TakenBy v now got m n u
-  unfolding heights
-  takes-works (popped {r} {l} e) =
-      let L = change (v .lists) expired l in
-      let m : Mem r (v .lists expired) = rw e (inl refl) in
-      let d = R .stack r m in
+  pub takes-works : {limit m n : ℕ} {o : Outcome} {u : View} → TakesSome (view s) now limit o m n u → TakenBy (view s) now o m n u
+  takes-works {o = o} T =
+      let P = takes-some-works S K T in
       record {
-        fair = ((expired, record { timed = omega arith; member = m }), omega arith, λ y k. omega (arith, d, none-before y k));
-        kept = λ w. omega (arith, total-less (λ p x. w x) free (v .lists) expired r l (omega arith) e);
-        clock = omega arith;
-        counted = omega (arith, total-ext (λ p x. levelAt p) slots L (v .lists) (λ p h. change-other (v .lists) expired l p (omega (arith, h))));
-        few = omega arith;
-        idle = λ z. refl;
-      }
-  takes-works (polled {got} {L = L} empty P) =
-      let Q = poll-law (rule-between R) empty not-back P in
-      record {
-        fair = fairly empty got (Q .fair);
-        kept = λ w.
-            let aside = ap (sumOf w) (Q .aside expired (omega arith)) in
-            omega (arith, weigh-split w L, weigh-split w (v .lists), Q .kept w);
-        clock = Q .clock;
-        counted = Q .counted;
-        few = Q .few;
-        idle = Q .none;
+        fair = fairly o (P .fair);
+        kept = λ w. omega (arith, P .kept w, given-by w o);
+        clock = P .clock;
+        counted = P .counted;
+        few = P .few;
       }
 
-  pub poll-works : {x : Told} {w : View} → QueuePolls v now x w → Polled v now x w
-  poll-works (handed {r} {m} {n} {u} T G) =
+  pub poll-works : {limit : ℕ} {x : Told} {w : View} → PollsSome (view s) now limit x w → Polled (view s) now x w
+  poll-works (handed-some {r} {m} {n} {u} T G) =
       let B = takes-works T in
       record {
-        got = some r;
+        outcome = stopped (some r);
         moves = m;
         drains = n;
         taken = u;
-        takes = T;
         by = B;
         became = G;
         is = goes-on-says G;
         clock = goes-on-clock G ∙ B .clock;
       }
-  poll-works (nothing {m} {n} {u} T) =
+  poll-works (nothing-some {m} {n} {u} T) =
       let B = takes-works T in
-      record { got = none; moves = m; drains = n; taken = u; takes = T; by = B; became = (refl, refl); is = refl; clock = B .clock }
+      record { outcome = stopped none; moves = m; drains = n; taken = u; by = B; became = (refl, refl); is = refl; clock = B .clock }
+  poll-works (not-yet {p} {m} {n} {u} T) =
+      record { outcome = yet p; moves = m; drains = n; taken = u; by = takes-works T; became = (refl, refl); is = refl; clock = tt }
 
 -- ---- an answer that hands out nothing
 
@@ -269,15 +248,16 @@ placed-else r when u y d = (upd-other (u .deadline) r (max when (u .elapsed)) y 
 pub no-last : {k w d m n : ℕ} → SaysLast (T.out k w d m n) → ⊥
 no-last x = let e = x .5 in let z : _≡_ {A = ℕ} 0 1 = cc in omega arith
 
-module _ {s : QueueWords} (S : Sound s) {now : ℕ} (not-back : elapsed s ≤ now) {r m n : ℕ} {u : View} (T : TakesOut (view s) now (some r) m n u) where
+module _ {s : QueueWords} (S : Sound s) {now : ℕ} (not-back : PollTaken (view s) now) {limit r m n : ℕ} {u : View}
+    (T : TakesSome (view s) now limit (stopped (some r)) m n u) where
   abbrev at-call : View
   at-call = view s
 
   O : TakenOut at-call (some r) u
   O = taken-out S not-back T
 
-  B : TakenBy at-call now (some r) m n u
-  B = takes-works at-call (S .rule) not-back T
+  B : TakenBy at-call now (stopped (some r)) m n u
+  B = takes-works S not-back T
 
   one-fewer : pending u + 1 ≡ pending at-call
   unfolding pending
@@ -287,7 +267,7 @@ module _ {s : QueueWords} (S : Sound s) {now : ℕ} (not-back : elapsed s ≤ no
   pub clock-before : u .elapsed ≤ view s .deadline r
   clock-before =
       let a = O .out r refl in
-      omega (arith, B .clock, none-before at-call (S .rule) not-back r a)
+      omega (arith, B .clock, none-before S r (a .0) (a .1))
 
   -- the record r is freed
   freed-gone : {k : ℕ} → Names at-call k r (O .out r refl .0) → Gone at-call k r (freed r u)
@@ -394,17 +374,19 @@ out-or-last (T.gone v d) z = absurd (none-out z)
 out-or-last (T.out k v d m n) z = inl (ap plainly z)
 out-or-last (T.last k v d m n) z = inr (ap lastly z)
 out-or-last (T.none m n) z = absurd (none-out z)
+out-or-last (T.yet m n) z = absurd (none-out z)
 out-or-last (T.wake t) z = absurd (none-out z)
 out-or-last T.never z = absurd (none-out z)
 out-or-last (T.len n) z = absurd (none-out z)
 out-or-last (T.no n) z = absurd (none-out z)
 
 -- an answer that hands out a timer which does not repeat is a plain one
-pub plain-out : {s : QueueWords} → Sound s → {now : ℕ} → elapsed s ≤ now → {x : Told} {w : View} → QueuePolls (view s) now x w
+pub plain-out : {s : QueueWords} → Sound s → {now limit : ℕ} → PollTaken (view s) now → {x : Told} {w : View} → PollsSome (view s) now limit x w
     → {k a d m n r : ℕ} → Hands x k a d m n → r ≡ numberIn k → view s .period r ≡ 0 → x ≡ T.out k a d m n
 unfolding plainly
-plain-out S h (nothing T) z e f = absurd (none-out z)
-plain-out {s} S h (handed {r = i} {m} {n} O G) {k} {a} {d} {m = m₁} {n = n₁} {r} z e f = by G z
+plain-out S h (nothing-some T) z e f = absurd (none-out z)
+plain-out S h (not-yet T) z e f = absurd (none-out z)
+plain-out {s} S h (handed-some {r = i} {m} {n} O G) {k} {a} {d} {m = m₁} {n = n₁} {r} z e f = by G z
   where
     place : (p : ℕ) × At (view s) i p
     place = taken-out S h O .out i refl
@@ -421,70 +403,150 @@ plain-out {s} S h (handed {r = i} {m} {n} O G) {k} {a} {d} {m = m₁} {n = n₁}
 
 -- ---- the promises of one poll
 
-module _ {s : QueueWords} (S : Sound s) {now : ℕ} (not-back : elapsed s ≤ now) {a : Answer} {t : QueueWords} (P : PollClaim s now a t) where
-  pub poll-parts : Polled (view s) now (told a) (view t)
-  poll-parts = poll-works (view s) (S .rule) not-back (P .good S .done not-back .1)
+-- all that was pending stays
+stays-all : {s : QueueWords} (S : Sound s) {now limit m n : ℕ} {o : Outcome} {u : View} → PollTaken (view s) now → TakesSome (view s) now limit o m n u
+    → gotBy o ≡ none → AllStay (view s) u
+unfolding pending
+stays-all {s} S {o = o} {u = u} K T z =
+    let O : TakenOut (view s) none u = subst (λ (g : Option ℕ). TakenOut (view s) g u) z (taken-out S K T) in
+    let k = takes-works S K T .kept (λ x. 1) in
+    record {
+      stay = λ y h. (
+        O .stays y tt (h .0) (h .1),
+        record {
+          value = ap (λ f. f y) (O .value);
+          period = ap (λ f. f y) (O .period);
+          deadline = ap (λ f. f y) (O .deadline);
+          turn = ap (λ f. f y) (O .turn);
+        },
+      );
+      only = λ y h. O .was y (h .0) (h .1);
+      same = omega (arith, k, ap (given (λ x. 1)) z);
+    }
 
-  pub poll-least : PollLeast (view s) now (told a) (view t)
-  unfolding pending
-  poll-least = of (P .good S .done not-back .1)
+module _ {s : QueueWords} (S : Sound s) {now : ℕ} (not-back : PollTaken (view s) now) {x : Told} {w : View} {limit : ℕ}
+    (P : PollsSome (view s) now limit x w) where
+  pub view-parts : Polled (view s) now x w
+  view-parts = poll-works S not-back P
+
+  -- 02 [10]: "Demand 2's hand-out is claimed of polls answered neither "not yet" nor 12"
+  pub view-least : (SaysYet x → ⊥) → PollLeast (view s) now x w
+  view-least = of P
     where
-      of : {x : Told} {w : View} → QueuePolls (view s) now x w → PollLeast (view s) now x w
-      of (nothing T) =
-          let O = taken-out S not-back T in
-          let F = takes-works (view s) (S .rule) not-back T in
+      of : {x : Told} {w : View} → PollsSome (view s) now limit x w → (SaysYet x → ⊥) → PollLeast (view s) now x w
+      of (nothing-some T) f =
+          let F = takes-works S not-back T in
           record {
             hands-out = (λ o. absurd (none-out (o .5)), λ d. absurd (omega (arith, F .fair (d .0) (d .1))));
             otherwise = λ d. (_, _, refl);
             out = λ k w d m n e. absurd (none-out e);
-            rest = λ m n e. record {
-              stay = λ y h. (
-                O .stays y tt (h .0) (h .1),
-                record {
-                  value = ap (λ f. f y) (O .value);
-                  period = ap (λ f. f y) (O .period);
-                  deadline = ap (λ f. f y) (O .deadline);
-                  turn = ap (λ f. f y) (O .turn);
-                },
-              );
-              only = λ y h. O .was y (h .0) (h .1);
-              same = omega (arith, F .kept (λ x. 1));
-            };
+            rest = λ m n e. stays-all S not-back T refl;
           }
-      of (handed T G) =
-          let F = takes-works (view s) (S .rule) not-back T .fair in
+      of (handed-some T G) f =
+          let F = takes-works S not-back T .fair in
           record {
             hands-out = (λ o. (_, F .0, F .1), λ d. (_, _, _, _, _, goes-on-says G));
             otherwise = λ d. absurd (d (_, F .0, F .1));
             out = least-of S not-back T G;
             rest = λ m n e. absurd (none-out (ap handing (sym e) ∙ goes-on-says G));
           }
+      of (not-yet {m = m} {n = n} T) f = absurd (f (m, n, refl))
 
-  pub poll-clock : PollClock (view s) now (told a) (view t)
-  poll-clock = by (poll-parts .got) (poll-parts .is) (poll-parts .clock)
+  -- what is answered "not yet" leaves all that was pending
+  pub yet-stays : SaysYet x → AllStay (view s) w
+  yet-stays = of P
     where
-      by : (o : Option ℕ) → handing (told a) ≡ saysOf (view s) o (poll-parts .moves) (poll-parts .drains)
-          → elapsed t ≡ clockAfter (view s .deadline) now (elapsed s) o
-          → PollClock (view s) now (told a) (view t)
-      by none is c = record { out = λ k w d m n e. absurd (none-out (sym is ∙ e)); rest = λ m n e. c }
-      by (some r) is c =
+      of : {x : Told} {w : View} → PollsSome (view s) now limit x w → SaysYet x → AllStay (view s) w
+      of (nothing-some T) y = let e = y .2 in let z : _≡_ {A = ℕ} 0 1 = cc in absurd (omega arith)
+      of (handed-some T G) y = absurd (none-out (ap handing (sym (y .2)) ∙ goes-on-says G))
+      of (not-yet T) y = stays-all S not-back T refl
+
+  pub view-clock : PollClock (view s) now x w
+  view-clock = by (view-parts .outcome) (view-parts .is) (view-parts .became) (view-parts .clock)
+    where
+      by : (o : Outcome) → handing x ≡ saysOf (view s) (gotBy o) (view-parts .moves) (view-parts .drains)
+          → Became (view s) o (view-parts .moves) (view-parts .drains) (view-parts .taken) x w
+          → ClockBy (view s) now o (w .elapsed)
+          → PollClock (view s) now x w
+      by (stopped none) is b c = record { out = λ k w d m n e. absurd (none-out (sym is ∙ e)); rest = λ m n e. c }
+      by (stopped (some r)) is b c =
           record {
             out = λ k w d m n e. let b : view s .deadline r ≡ d = cc in rw b at c;
             rest = λ m n e. absurd (none-out (ap handing (sym e) ∙ is));
           }
+      by (yet q) is b c =
+          record {
+            out = λ k w d m n e. absurd (none-out (sym is ∙ e));
+            rest = λ m n e. let f = sym (b .0) ∙ e in let z : _≡_ {A = ℕ} 0 1 = cc in absurd (omega arith);
+          }
 
   -- the moves and drains of the answer are those of the wheel
-  pub poll-counts : (movesOf (told a) ≡ poll-parts .moves) × (drainsOf (told a) ≡ poll-parts .drains)
-  poll-counts = by (poll-parts .got) (poll-parts .became)
+  pub view-counts : (movesOf x ≡ view-parts .moves) × (drainsOf x ≡ view-parts .drains)
+  view-counts = by (view-parts .outcome) (view-parts .became)
     where
-      by : (o : Option ℕ) → Became (view s) o (poll-parts .moves) (poll-parts .drains) (poll-parts .taken) (told a) (view t)
-          → (movesOf (told a) ≡ poll-parts .moves) × (drainsOf (told a) ≡ poll-parts .drains)
-      by none is = (ap movesOf (is .0), ap drainsOf (is .0))
-      by (some r) G = goes-on-counts G
+      by : (o : Outcome) → Became (view s) o (view-parts .moves) (view-parts .drains) (view-parts .taken) x w
+          → (movesOf x ≡ view-parts .moves) × (drainsOf x ≡ view-parts .drains)
+      by (stopped none) is = (ap movesOf (is .0), ap drainsOf (is .0))
+      by (stopped (some r)) G = goes-on-counts G
+      by (yet q) is = (ap movesOf (is .0), ap drainsOf (is .0))
 
-  -- "Drains are the drained slots: at most the moves, and 0 exactly when moves are 0."
-  pub poll-drains : (drainsOf (told a) ≤ movesOf (told a)) × ((drainsOf (told a) ≡ 0) ↔ (movesOf (told a) ≡ 0))
-  poll-drains =
-      let c = poll-counts in
-      let B = poll-parts .by in
-      (omega (arith, B .few), (λ z. c .0 ∙ B .idle (sym (c .1) ∙ z), λ z. omega (arith, B .few)))
+module _ {s : QueueWords} (S : Sound s) {c : Call} {now : ℕ} (at : PollAt c now) (not-back : PollTaken (view s) now) (a : Answer) (t : QueueWords)
+    (P : CallClaim c s a t) where
+  pub poll-parts : Polled (view s) now (told a) (view t)
+  poll-parts = view-parts S not-back (poll-done S at not-back a t P .1)
+
+  pub poll-least : (SaysYet (told a) → ⊥) → PollLeast (view s) now (told a) (view t)
+  poll-least f = view-least S not-back (poll-done S at not-back a t P .1) f
+
+  pub poll-clock : PollClock (view s) now (told a) (view t)
+  poll-clock = view-clock S not-back (poll-done S at not-back a t P .1)
+
+  -- "Drains are the drained slots: at most the moves": of every call
+  pub poll-drains-few : drainsOf (told a) ≤ movesOf (told a)
+  poll-drains-few =
+      let Q = poll-done S at not-back a t P .1 in
+      let c = view-counts S not-back Q in
+      omega (arith, c .0, c .1, view-parts S not-back Q .by .few)
+
+-- a whole poll drains a slot if it moves
+whole-idle : {s : QueueWords} → Sound s → AtRest s → {now m n : ℕ} {got : Option ℕ} {u : View} → elapsed s ≤ now → TakesOut (view s) now got m n u
+    → n ≡ 0 → m ≡ 0
+whole-idle S rest h (popped e) z = refl
+whole-idle S rest h (polled empty P) z = poll-law (rule-between (S .rule .free rest)) empty h P .none z
+
+-- "and 0 exactly when moves are 0": "01's line on drains speaks of whole polls"
+pub poll-drains : {s : QueueWords} → Sound s → AtRest s → {now : ℕ} → elapsed s ≤ now → {a : Answer} {t : QueueWords} → PollClaim s now a t
+    → (drainsOf (told a) ≤ movesOf (told a)) × ((drainsOf (told a) ≡ 0) ↔ (movesOf (told a) ≡ 0))
+poll-drains {s} S rest {now} h {a} {t} P =
+    let few = poll-drains-few S whole (record { same = λ d. absurd (d rest); later = λ _. h }) a t P in
+    (few, (of (P .good S .free rest .done h .1), λ z. omega (arith, few)))
+  where
+    of : {x : Told} {w : View} → QueuePolls (view s) now x w → drainsOf x ≡ 0 → movesOf x ≡ 0
+    of (nothing T) z = whole-idle S rest h T z
+    of (handed T G) z = goes-on-counts G .0 ∙ whole-idle S rest h T (sym (goes-on-counts G .1) ∙ z)
+
+-- a whole poll ends
+pub whole-no-yet : {s : QueueWords} → Sound s → {now : ℕ} → PollTaken (view s) now → {a : Answer} {t : QueueWords} → PollClaim s now a t
+    → SaysYet (told a) → ⊥
+whole-no-yet {s} S {now} K {a} {t} P =
+    by-cases (ℕ-discrete (s .hand) nobody)
+    (λ z. whole-on (P .good S .free z .done (K .later z) .1))
+    (λ d. rest-on (P .good S .same d (K .same d) .1))
+  where
+    goes-no-yet : {r m n : ℕ} {u : View} {x : Told} {w : View} → GoesOn (view s) r m n u x w → SaysYet x → ⊥
+    goes-no-yet G y = none-out (ap handing (sym (y .2)) ∙ goes-on-says G)
+
+    none-no-yet : {m n : ℕ} → SaysYet (T.none m n) → ⊥
+    none-no-yet y = let e = y .2 in let z : _≡_ {A = ℕ} 0 1 = cc in omega arith
+
+    whole-on : {x : Told} {w : View} → QueuePolls (view s) now x w → SaysYet x → ⊥
+    whole-on (handed T G) = goes-no-yet G
+    whole-on (nothing T) = none-no-yet
+
+    rest-on : {x : Told} {w : View} → PollsRest (view s) now x w → SaysYet x → ⊥
+    rest-on (handed-rest T G) = goes-no-yet G
+    rest-on (nothing-rest T) = none-no-yet
+
+-- with no poll in hand
+pub taken-from-rest : (s : QueueWords) → AtRest s → {now : ℕ} → elapsed s ≤ now → PollTaken (view s) now
+taken-from-rest s z h = record { same = λ d. absurd (d z); later = λ _. h }

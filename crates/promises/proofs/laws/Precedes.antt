@@ -1,10 +1,10 @@
--- One record before another in a list, and what a drain and a poll of the wheel make of it: who stands first leaves first (`polls-first`).
-use mathlib.Core.Path.{_≡_, refl, sym, ap, _∙_}
+-- One record before another in a list, and what a call of the wheel makes of it: who stands first leaves first (`limited-first`). A call may stop inside a
+-- drain, where the first was moved and the other was not.
+use mathlib.Core.Path.{_≡_, refl, sym, ap, _∙_, subst}
 use mathlib.Core.Logic.{_≢_, _⊎_, inl, inr, ⊎-elim, by-cases}
-use mathlib.Core.Bool.{Bool, true, false, cond, true≢false}
 use mathlib.Core.List.{List, [], _∷_, _++_}
-use mathlib.Core.Option.{Option, some, Option·some-injective}
-use Prim.Native.Nat.{ℕ, suc, _/_, _≤_, _<_}
+use mathlib.Core.Option.{Option, none, some, Option·some-injective}
+use Prim.Native.Nat.{ℕ, _-_, _≤_, _<_}
 use native.Mathlib.Decide.{ℕ-discrete}
 use native.Mathlib.Omega.{arith}
 use borrow.Author.Tests.{eq-eqb, ne-eqb}
@@ -13,16 +13,13 @@ use Rattle.times.proofs.laws.Quotients.{slot-lt}
 use Rattle.links.specs.Lists.{Mem, without, change}
 use Rattle.links.proofs.laws.Lists.{mem-left, mem-right, change-same, change-other}
 use Rattle.records.proofs.laws.Inner.{mem-other}
-use Rattle.stack.specs.Places.{slotPlace, slots}
-use Rattle.wheel.specs.Wheel.{Lists, FirstSlot, Drains, Polls, idle, early, out, drain}
-use Rattle.wheel.specs.Between.{Between}
-use Rattle.wheel.proofs.laws.Between.{place-level}
-use Rattle.wheel.proofs.laws.Next.{slot-below, here-below}
+use Rattle.stack.specs.Places.{slotPlace, slots, put, levelAt}
+use Rattle.stack.proofs.laws.Places.{put-tail}
+use Rattle.wheel.specs.Wheel.{Lists, arrive}
+use Rattle.wheel.specs.Limited.{Outcome, ended as stopped, yet, Limited, rests, waits, hands, finds, stops, moves, empties}
 use Rattle.wheel.specs.Sums.{total}
-use Rattle.wheel.proofs.laws.Sums.{total-less, hits, lies-times}
-use Rattle.wheel.proofs.laws.Drain.{amount, drain-law}
-use Rattle.promises.specs.Order.{keep, goesTo}
-use Rattle.promises.proofs.laws.Order.{drain-order}
+use Rattle.wheel.proofs.laws.Sums.{total-less, total-more, hits, lies-times, mem-kept, put-mem}
+use Rattle.promises.proofs.laws.TakesOut.{gotBy}
 
 -- r stands before s in the list
 abbrev pub Precedes : ℕ → ℕ → List ℕ → Type 0
@@ -59,27 +56,6 @@ module _ (r s : ℕ) where
   prec-end (x ∷ a) (inl e) = inl (e, mem-right s a (s ∷ []) (inl refl))
   prec-end (x ∷ a) (inr m) = inr (prec-end a m)
 
-  mem-keeps : (f : ℕ → Bool) → f s ≡ true → (l : List ℕ) → Mem s l → Mem s (keep f l)
-  mem-keeps f h [] m = absurd m
-  mem-keeps f h (x ∷ l) m = by (f x) refl m (mem-keeps f h l)
-    where
-      by : (b : Bool) → f x ≡ b → Mem s (x ∷ l) → (Mem s l → Mem s (keep f l)) → Mem s (cond b (x ∷ keep f l) (keep f l))
-      by true e (inl z) ih = inl z
-      by true e (inr k) ih = inr (ih k)
-      by false e (inl z) ih = absurd (true≢false (sym h ∙ ap f z ∙ e))
-      by false e (inr k) ih = ih k
-
-  prec-keep : (f : ℕ → Bool) → f r ≡ true → f s ≡ true → (l : List ℕ) → Precedes r s l → Precedes r s (keep f l)
-  prec-keep f hr hs [] p = absurd p
-  prec-keep f hr hs (x ∷ l) p = by (f x) refl p (prec-keep f hr hs l)
-    where
-      by : (b : Bool) → f x ≡ b → Precedes r s (x ∷ l) → (Precedes r s l → Precedes r s (keep f l))
-          → Precedes r s (cond b (x ∷ keep f l) (keep f l))
-      by true e (inl z) ih = inl (z .0, mem-keeps f hs l (z .1))
-      by true e (inr k) ih = inr (ih k)
-      by false e (inl z) ih = absurd (true≢false (sym hr ∙ ap f (z .0) ∙ e))
-      by false e (inr k) ih = ih k
-
   pub prec-without : (i : ℕ) → r ≢ i → s ≢ i → (l : List ℕ) → Precedes r s l → Precedes r s (without i l)
   prec-without i a b [] p = absurd p
   prec-without i a b (x ∷ l) p =
@@ -97,45 +73,6 @@ gone-then s n L one p l hp e q hq m =
     omega (arith, total-less (λ q₁ x. hits s x) n L p s l hp e, lies-times n (change L p l) s q hq m, own)
 
 module _ {d : ℕ → ℕ} {r s : ℕ} where
-  -- a drain keeps their order
-  drain-first : {e : ℕ} {L : Lists} → Between d e L → {k c : ℕ} → FirstSlot e L (suc k) c → {m : ℕ} {M : Lists}
-      → Drains d k (slotPlace (suc k) c) L m M → Leads slots d L r s → Leads slots d M r s
-  drain-first {e} {L} B {k} {c} F {m} {M} D O = by (ℕ-discrete (O .place) h)
-    where
-      h : ℕ
-      h = slotPlace (suc k) c
-
-      level : h / 64 ≡ suc k
-      level = place-level (suc k) c (slot-below B F)
-
-      below : h < slots
-      below = here-below B F
-
-      q : ℕ
-      q = slotPlace k (slotOf (d r) k)
-
-      by : Dec (O .place ≡ h) → Leads slots d M r s
-      by (yes z) =
-          let sl = slot-lt (d r) k in
-          let g = goesTo d k q in
-          let is : M q ≡ L q ++ keep g (L h) = drain-order d k h level below D q (omega (arith, level, sl)) in
-          let gr : g r ≡ true = eq-eqb q q refl in
-          let gs : g s ≡ true = eq-eqb (slotPlace k (slotOf (d s) k)) q (ap (λ w. slotPlace k (slotOf w k)) (sym (O .equal))) in
-          record {
-            place = q;
-            within = omega (arith, level, below, sl);
-            order = rw is (prec-right r s (L q) (keep g (L h)) (prec-keep r s g gr gs (L h) (rw z at (O .order))));
-            equal = O .equal;
-          }
-      by (no z) =
-          let p = O .place in
-          record {
-            place = p;
-            within = O .within;
-            order = rw (drain-order d k h level below D p z) (prec-left r s (L p) (keep (goesTo d k p) (L h)) (O .order));
-            equal = O .equal;
-          }
-
   -- the head x of a list leaves: it is r, or r still stands before s; and s waits still
   pub leave-first : {b : ℕ} {L : Lists} (p x : ℕ) (l : List ℕ) → p < b → L p ≡ x ∷ l → Leads b d L r s
       → ((q : ℕ) × (q < b) × Mem s (change L p l q)) × ((r ≡ x) ⊎ Leads b d (change L p l) r s)
@@ -156,22 +93,152 @@ module _ {d : ℕ → ℕ} {r s : ℕ} where
             inr (record { place = O .place; within = O .within; order = rw e (O .order); equal = O .equal }),
           )
 
-  -- a poll does not hand out s, and r it hands out or leaves before s
-  pub polls-first : {now e : ℕ} {L : Lists} {got : Option ℕ} {m n c : ℕ} {N : Lists} → Between d e L
-      → total (λ q x. hits s x) slots L ≤ 1 → Polls d now e L got m n c N → Leads slots d L r s
-      → (got ≡ some s → ⊥) × ((got ≡ some r) ⊎ Leads slots d N r s)
-  unfolding amount
-  polls-first B one (idle E) O = (λ z. let y : _≡_ {A = ℕ} 0 1 = cc in omega arith, inr O)
-  polls-first B one (early F h) O = (λ z. let y : _≡_ {A = ℕ} 0 1 = cc in omega arith, inr O)
-  polls-first B one (out {s = c} {x = x} {L = L} {l = l} F due is) O =
+-- ---- a call of the wheel, which may stop inside a drain
+
+-- the same while p is drained: r was moved down already, and s, which goes to the same slot, is still to be moved
+pub record Split (d : ℕ → ℕ) (p : ℕ) (L : Lists) (r s : ℕ) : Type 0 where
+  pub high : 0 < levelAt p
+  pub below : p < slots
+  pub place : ℕ
+  pub is : place ≡ slotPlace (levelAt p - 1) (slotOf (d r) (levelAt p - 1))
+  pub front : Mem r (L place)
+  pub back : Mem s (L p)
+  pub equal : d r ≡ d s
+
+-- in one list, or so
+abbrev pub Apart : (ℕ → ℕ) → ℕ → Lists → ℕ → ℕ → Type 0
+Apart d p L r s = Leads slots d L r s ⊎ Split d p L r s
+
+abbrev pub Ahead : (ℕ → ℕ) → Option ℕ → Lists → ℕ → ℕ → Type 0
+Ahead d none L r s = Leads slots d L r s
+Ahead d (some p) L r s = Apart d p L r s
+
+abbrev pub After : (ℕ → ℕ) → Outcome → Lists → ℕ → ℕ → Type 0
+After d (stopped g) L r s = Leads slots d L r s
+After d (yet p) L r s = Apart d p L r s
+
+abbrev pub High : Option ℕ → Type 0
+High none = Unit {0}
+High (some p) = (0 < levelAt p) × (p < slots)
+
+-- one move
+module _ (d : ℕ → ℕ) (r s p x : ℕ) (l : List ℕ) (L : Lists) (high : 0 < levelAt p) (below : p < slots) (is : L p ≡ x ∷ l) where
+  abbrev k : ℕ
+  k = levelAt p - 1
+
+  abbrev to : ℕ
+  to = slotPlace k (slotOf (d x) k)
+
+  abbrev M : Lists
+  M = change L p l
+
+  abbrev W : Lists
+  W = change M to (put to x (M to))
+
+  to-other : to ≢ p
+  to-other = omega (arith, high, slot-lt (d x) k)
+
+  to-below : to < slots
+  to-below = omega (arith, high, below, slot-lt (d x) k)
+
+  rest-is : W p ≡ l
+  rest-is = change-other M to (put to x (M to)) p (λ z. to-other (sym z)) ∙ change-same L p l
+
+  tail-is : W to ≡ M to ++ x ∷ []
+  tail-is = change-same M to (put to x (M to)) ∙ put-tail to x (M to) (omega (arith, to-below))
+
+  arrive-leads : Leads slots d M r s → Leads slots d W r s
+  arrive-leads O =
+      record {
+        place = O .place;
+        within = O .within;
+        order = by-cases (ℕ-discrete (O .place) to)
+            (λ (z : O .place ≡ to). rw (z, tail-is) (prec-left r s (M to) (x ∷ []) (rw z at (O .order))))
+            (λ z. rw (change-other M to (put to x (M to)) (O .place) z) (O .order));
+        equal = O .equal;
+      }
+
+  -- from its list
+  leads-moves : Leads slots d L r s → Apart d p W r s
+  leads-moves O = by-cases (ℕ-discrete (O .place) p) (λ (z : O .place ≡ p). here (rw (z, is) at (O .order))) elsewhere
+    where
+      here : Precedes r s (x ∷ l) → Apart d p W r s
+      here (inl z) =
+          inr (record {
+            high = high;
+            below = below;
+            place = to;
+            is = ap (λ (y : ℕ). slotPlace k (slotOf (d y) k)) (sym (z .0));
+            front = rw tail-is (mem-right r (M to) (x ∷ []) (inl (z .0)));
+            back = rw rest-is (z .1);
+            equal = O .equal;
+          })
+      here (inr q) = inl (arrive-leads (record { place = p; within = below; order = rw (change-same L p l) q; equal = O .equal }))
+
+      elsewhere : O .place ≢ p → Apart d p W r s
+      elsewhere z =
+          inl (arrive-leads (record {
+            place = O .place;
+            within = O .within;
+            order = rw (change-other L p l (O .place) z) (O .order);
+            equal = O .equal;
+          }))
+
+  -- or r is there already
+  split-moves : Split d p L r s → Apart d p W r s
+  split-moves O = by-cases (ℕ-discrete x s) comes stays
+    where
+      place-other : O .place ≢ p
+      place-other = omega (arith, O .is, high, slot-lt (d r) k)
+
+      there : Mem r (M (O .place))
+      there = rw (change-other L p l (O .place) place-other) (O .front)
+
+      comes : x ≡ s → Apart d p W r s
+      comes e =
+          let same : O .place ≡ to = O .is ∙ ap (λ (w : ℕ). slotPlace k (slotOf w k)) (O .equal ∙ ap d (sym e)) in
+          inl (record {
+            place = to;
+            within = to-below;
+            order = rw tail-is (subst (λ (y : ℕ). Precedes r s (M to ++ y ∷ [])) (sym e) (prec-end r s (M to) (rw same at there)));
+            equal = O .equal;
+          })
+
+      stays : x ≢ s → Apart d p W r s
+      stays n =
+          inr (record {
+            high = high;
+            below = below;
+            place = O .place;
+            is = O .is;
+            front = mem-kept M to (put to x (M to)) (O .place) r (λ m. put-mem to x r (M to) (inr m)) there;
+            back = rw rest-is (⊎-elim (λ z. absurd (n (sym z))) (λ m. m) (rw is at (O .back)));
+            equal = O .equal;
+          })
+
+  move-once : total (λ q y. hits s y) slots W ≡ total (λ q y. hits s y) slots L
+  move-once = omega (arith, total-less (λ q y. hits s y) slots L p x l below is, total-more (λ q y. hits s y) slots M to x to-below)
+
+module _ {d : ℕ → ℕ} {now r s : ℕ} where
+  -- a call of the wheel does not hand out s, and r it hands out or leaves before s
+  pub limited-first : {h : Option ℕ} {b e m n c : ℕ} {L N : Lists} {o : Outcome} → Limited d now h b e L o m n c N → High h
+      → total (λ q x. hits s x) slots L ≤ 1 → Ahead d h L r s → (gotBy o ≡ some s → ⊥) × ((gotBy o ≡ some r) ⊎ After d o N r s)
+  unfolding arrive
+  limited-first (rests E) h one O = (λ z. let y : _≡_ {A = ℕ} 0 1 = cc in omega arith, inr O)
+  limited-first (waits F g) h one O = (λ z. let y : _≡_ {A = ℕ} 0 1 = cc in omega arith, inr O)
+  limited-first (hands {s = c} {x = x} {L = L} {l = l} F due is) h one O =
       let p = slotPlace 0 c in
-      let hp = here-below B F in
+      let hp : p < slots = omega (arith, F .is) in
       let A = leave-first p x l hp is O in (
         λ z.
             let y : x ≡ s = Option·some-injective x s z in
             gone-then s slots L one p l hp (rw y at is) (A .0 .0) (A .0 .1) (A .0 .2),
         ⊎-elim (λ z. inl (ap some (sym z))) inr (A .1),
       )
-  polls-first B one (drain F due D R) O =
-      let C = drain-law B F D in
-      polls-first (C .rule) (rw (C .kept (hits s)) one) R (drain-first B F D O)
+  limited-first (finds {k = k} {s = c} F due R) h one O =
+      limited-first R (omega (arith, F .is), omega (arith, F .is, F .within)) one (inl O)
+  limited-first (stops i) h one O = (λ z. let y : _≡_ {A = ℕ} 0 1 = cc in omega arith, inr O)
+  limited-first (moves {p = p} {x = x} {L = L} {l = l} i R) h one O =
+      limited-first R h (rw (move-once d r s p x l L (h .0) (h .1) i) one)
+      (⊎-elim (leads-moves d r s p x l L (h .0) (h .1) i) (split-moves d r s p x l L (h .0) (h .1) i) O)
+  limited-first (empties {p = p} {L = L} i R) h one O = limited-first R tt one (⊎-elim (λ y. y) (λ y. absurd (rw i at (y .back))) O)

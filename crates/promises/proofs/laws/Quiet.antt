@@ -3,12 +3,13 @@
 use mathlib.Core.Path.{_≡_, refl, sym, ap, _∙_, subst}
 use mathlib.Core.List.{List, [], _∷_, nil≢cons}
 use mathlib.Core.Option.{Option·some-ne-none}
-use mathlib.Core.Logic.{_≢_, inl}
+use mathlib.Core.Logic.{_≢_, inl, by-cases}
 use Prim.Native.Nat.{ℕ, _≤_, _<_, max}
 use native.Mathlib.Omega.{arith}
+use native.Mathlib.Decide.{ℕ-discrete}
 use borrow.Author.Tests.{eq-eqb}
 use Rattle.times.specs.Times.{width, slotOf, levelBelow, levelOf}
-use Rattle.links.specs.Lists.{Mem, change}
+use Rattle.links.specs.Lists.{nobody, Mem, change}
 use Rattle.links.proofs.laws.Lists.{change-same, change-other}
 use Rattle.stack.specs.Places.{expired, free, put}
 use Rattle.stack.proofs.laws.Places.{put-empty}
@@ -22,7 +23,7 @@ use Rattle.queue.specs.Told.{Told}
 use Rattle.records.specs.View.{withPeriod, View, withValue, upd}
 use Rattle.records.specs.Records.{Takes, taken, target, placed}
 use Rattle.queue.specs.Steps.{QueuePolls, polled, popped, handed, nothing}
-use Rattle.records.specs.Words.{QueueWords, words, slices, count, elapsed, view, Sound}
+use Rattle.records.specs.Words.{QueueWords, words, slices, count, elapsed, view, AtRest, Sound}
 use Rattle.records.specs.Slices.{Fits}
 use Rattle.records.proofs.laws.Cases.{takes-so}
 use Rattle.delay_queue.specs.Claims.{InsertClaim, PollClaim}
@@ -39,9 +40,15 @@ quiet-polls E (handed (popped e) G) = absurd (nil≢cons (sym (E expired (omega 
 quiet-polls E (handed (polled e P) G) = absurd (Option·some-ne-none _ (polls-one P (idle (λ q h. E q (omega arith))) .got))
 quiet-polls E (nothing (polled e P)) = let S = polls-one P (idle (λ q h. E q (omega arith))) in (S .elapsed, S .lists)
 
+-- no poll is in hand: it would have something to drain
+pub quiet-rest : {s : QueueWords} {e : ℕ} → Quiet s e → AtRest s
+quiet-rest {s} Q =
+    by-cases (ℕ-discrete (s .hand) nobody) (λ z. z)
+    (λ d. let H = Q .sound .rule .inside d in absurd (nil≢cons (sym (Q .empty (s .hand) (omega (arith, H .below))) ∙ H .filled .2)))
+
 pub quiet-poll : {s t : QueueWords} {a : Answer} {e now : ℕ} → Quiet s e → e ≤ now → PollClaim s now a t → Quiet t now
 quiet-poll {s} {t} Q h P =
-    let D = P .good (Q .sound) .done (omega arith) in
+    let D = P .good (Q .sound) .free (quiet-rest Q) .done (omega arith) in
     let r = quiet-polls (Q .empty) (D .1) in
     record {
       sound = D .0;
@@ -95,7 +102,7 @@ placed-expired v x when h e =
 pub quiet-expired : {s t : QueueWords} {a : Answer} {value when period e : ℕ} (Q : Quiet s e) → when ≤ e → Takes (elapsed s) when
     → InsertClaim s value when period a t → Sound t × (elapsed t ≡ e) × (view t .lists expired ≡ Q .item ∷ [])
 quiet-expired {s} {t} {value = value} {when = when} {period = period} Q h k I =
-    let A = I .good (Q .sound) .done (Q .item) (Q .rest) (Q .first) k in
+    let A = I .good (Q .sound) .free (quiet-rest Q) .done (Q .item) (Q .rest) (Q .first) k in
     let v =
     withPeriod (upd (view s .period) (Q .item) period) (withValue (upd (view s .value) (Q .item) value) (taken (Q .rest) (view s))) in
     let e = change-other (view s .lists) free (Q .rest) expired (omega arith) ∙ Q .empty expired (omega arith) in
@@ -121,23 +128,30 @@ placed-clock : (x when : ℕ) (v : View) → placed x when v .elapsed ≡ v .ela
 unfolding placed
 placed-clock x when v = refl
 
+placed-hand : (x when : ℕ) (v : View) → placed x when v .hand ≡ v .hand
+unfolding placed
+placed-hand x when v = refl
+
 -- x has come from the head of the free list, of which l is left, to the place p
 record Came (s t : QueueWords) (x p : ℕ) (l : List ℕ) : Type 0 where
   sound : Sound t
+  at-rest : AtRest t
   clock : elapsed t ≡ elapsed s
   left : view t .lists free ≡ l
   member : Mem x (view t .lists p)
   else : (q : ℕ) → q < free → q ≢ p → view t .lists q ≡ view s .lists q
 
-came : {s t : QueueWords} {a : Answer} {value when period p x : ℕ} {l : List ℕ} → InsertClaim s value when period a t → Sound s → view s .lists free ≡ x ∷ l
+came : {s t : QueueWords} {a : Answer} {value when period p x : ℕ} {l : List ℕ} → InsertClaim s value when period a t → Sound s → AtRest s
+    → view s .lists free ≡ x ∷ l
     → Takes (elapsed s) when → target (elapsed s) (max when (elapsed s)) ≡ p → p < free → Came s t x p l
-came {s} {t} {value = value} {when = when} {period = period} {p = p} {x = x} {l = l} I S f k e h =
-    let A = I .good S .done x l f k in
+came {s} {t} {value = value} {when = when} {period = period} {p = p} {x = x} {l = l} I S z f k e h =
+    let A = I .good S .free z .done x l f k in
     let v = withPeriod (upd (view s .period) x period) (withValue (upd (view s .value) x value) (taken l (view s))) in
     let L = change (view s .lists) free l in
     let is : view t .lists ≡ change L p (put p x (L p)) = ap (λ u. u .lists) (A .view) ∙ placed-lists x when v p e in
     record {
       sound = A .sound;
+      at-rest = ap (λ u. u .hand) (A .view) ∙ placed-hand x when v ∙ z;
       clock = ap (λ u. u .elapsed) (A .view) ∙ placed-clock x when v;
       left = ap (λ M. M free) is ∙ change-other L p (put p x (L p)) free (omega arith) ∙ change-same (view s .lists) free l;
       member = subst (λ M. Mem x (M p)) (sym is) (rw (change-same L p (put p x (L p))) (put-mem p x x (L p) (inl refl)));
@@ -154,7 +168,8 @@ abbrev pair : List ℕ
 pair = 0 ∷ 0 ∷ []
 
 abbrev blank : QueueWords
-blank = words (record { elapsed = 0; occupied = []; stacks = record { n = 0; expired = 0; free = 0 } }) [] (0 ∷ 0 ∷ pair) pair pair pair pair pair
+blank = words (record { elapsed = 0; occupied = []; stacks = record { n = 0; expired = 0; free = 0 }; hand = 0; until = 0 }) []
+    (0 ∷ 0 ∷ pair) pair pair pair pair pair
 
 fits : Fits (slices blank) 2
 fits =
@@ -172,6 +187,7 @@ fits =
 -- a store at the time 0 with nothing but two records to take
 pub record Fresh (s : QueueWords) : Type 0 where
   pub sound : Sound s
+  pub at-rest : AtRest s
   pub size : view s .n ≡ 2
   pub clock : elapsed s ≡ 0
   pub room : view s .lists free ≡ 0 ∷ 1 ∷ []
@@ -184,6 +200,7 @@ fresh-two =
       m .1,
       record {
         sound = D .sound;
+        at-rest = ap (λ v. v .hand) (D .view);
         size = ap (λ v. v .n) (D .view);
         clock = ap (λ v. v .elapsed) (D .view);
         room = ap (λ v. v .lists free) (D .view) ∙ change-same (λ p. []) free (range 2 0);
@@ -192,7 +209,7 @@ fresh-two =
 
 -- ---- one has expired, another lies on the wheel
 
-target-70 : (e : ℕ) → e ≡ 0 → target e (max 70 e) ≡ 65
+pub target-70 : (e : ℕ) → e ≡ 0 → target e (max 70 e) ≡ 65
 unfolding target placeFor levelOf levelBelow slotOf width
 target-70 e z = rw z
 
@@ -206,9 +223,9 @@ both-shown =
     let F = fresh-two .1 in
     let m = insert-met (fresh-two .0) 0 70 0 in
     let k : Takes (elapsed (fresh-two .0)) 70 = takes-so (omega (arith, F .clock)) (λ h. rw (F .clock)) in
-    let A = came (m .2) (F .sound) (F .room) k (target-70 (elapsed (fresh-two .0)) (F .clock)) (omega arith) in
+    let A = came (m .2) (F .sound) (F .at-rest) (F .room) k (target-70 (elapsed (fresh-two .0)) (F .clock)) (omega arith) in
     let n = insert-met (m .1) 0 0 0 in
     let j : Takes (elapsed (m .1)) 0 = takes-so (omega (arith, A .clock, F .clock)) (λ h. absurd (omega arith)) in
-    let B = came (n .2) (A .sound) (A .left) j (target-0 (elapsed (m .1))) (omega arith) in
+    let B = came (n .2) (A .sound) (A .at-rest) (A .left) j (target-0 (elapsed (m .1))) (omega arith) in
     let on : Mem 0 (view (n .1) .lists 65) = rw (B .else 65 (omega arith) (omega arith)) (A .member) in
     (n .1, B .sound, some-first 1 (view (n .1) .lists expired) (B .member), record { slot = omega arith; member = on })

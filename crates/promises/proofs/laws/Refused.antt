@@ -2,8 +2,8 @@
 use mathlib.Core.Path.{_≡_, refl, sym, ap, _∙_}
 use mathlib.Core.Logic.{_≢_, _⊎_, inl, inr, ⊎-elim, by-cases}
 use mathlib.Core.Bool.{false, true≢false}
-use mathlib.Core.List.{List, [], _∷_}
-use Prim.Native.Nat.{ℕ, _<_}
+use mathlib.Core.List.{List, [], _∷_, nil≢cons}
+use Prim.Native.Nat.{ℕ, _≤_, _<_}
 use native.Mathlib.Decide.{ℕ-discrete, decLt}
 use native.Mathlib.Omega.{arith}
 use Rattle.links.specs.Links.{at}
@@ -14,22 +14,22 @@ use Rattle.queue.specs.Told.{Told, told}
 use Rattle.queue.specs.Told as T
 use Rattle.records.specs.View.{View}
 use Rattle.records.specs.Records.{Names, TooOld, TooFar, OtherBlock, Takes, numberIn, turnIn}
-use Rattle.records.specs.Words.{QueueWords, count, elapsed, markOf, view, slices, Sound, PastKept}
+use Rattle.records.specs.Words.{QueueWords, count, elapsed, markOf, view, slices, AtRest, MidPoll, Sound, PastKept}
 use Rattle.records.specs.Slices.{Room}
 use Rattle.records.proofs.laws.Words.{past-refl}
-use Rattle.queue.specs.Calls.{Refused, Answered, InsertOn}
+use Rattle.queue.specs.Calls.{Refused, Answered, InsertOn, Freely, Resuming}
 use Rattle.records.proofs.laws.Found.{key-names}
 use Rattle.records.proofs.laws.Inner.{mark-at, left-size, placed-size, freed-size}
 use Rattle.delay_queue.specs.declared.Call.{Call}
 use Rattle.delay_queue.specs.declared.Call.the-variants as C
-use Rattle.delay_queue.specs.Claims.{InRange, FormatClaim, Judging, ResetClaim, PollClaim, CallClaim}
+use Rattle.delay_queue.specs.Claims.{InRange, FormatClaim, Judging, InsertClaim, ResetClaim, PollClaim, CallClaim}
 use Rattle.records.proofs.laws.Cases.{by-deadline}
 use Rattle.promises.proofs.laws.Decided.{sound-dec, fits-dec, range-dec}
 use Rattle.promises.proofs.laws.Quiet.{expired-shown}
 use Rattle.promises.specs.OneCall.{isNo, reach}
 use Rattle.promises.specs.Runs.{isFormat}
-use Rattle.promises.proofs.laws.OneCall.{polls-says, wakes-says, refusal-same}
-use Rattle.queue.proofs.laws.Polls.{polls-size, clears-size}
+use Rattle.promises.proofs.laws.OneCall.{polls-says, some-says, rest-says, wakes-says, refusal-same}
+use Rattle.queue.proofs.laws.Polls.{polls-size, some-size, rest-size, clears-size}
 use Rattle.promises.specs.Refused.{NoSuchKey, absent, beyond, stale, Lines, end, line, deadlineLines, linesOf, First, numbers, RefusedBy, Settled, accepted, refused, whenOf}
 
 -- ---- the table
@@ -90,6 +90,28 @@ module _ {s t : QueueWords} {a : Answer} where
       → Settled (count s) s a t (line 2 (Sound s → ⊥) l)
   judged J f = by-cases (sound-dec s) (λ S. pass (λ n. n S) (f S (J .good S))) (λ n. stop n (J .bad n))
 
+  -- "judged after 2": 12
+  freely : {On : Type 0} {l : Lines} → Freely s a t On → (On → Settled (count s) s a t l) → Settled (count s) s a t (line 12 (MidPoll s) l)
+  freely J f = by-cases (ℕ-discrete (s .hand) nobody) (λ z. pass (λ d. d z) (f (J .free z))) (λ d. stop d (J .held d))
+
+  -- 12 and 7 of a poll: the now of a poll in hand is not below elapsed
+  polling : {now : ℕ} {On Rest : Type 0} → Sound s → Resuming s now a t On Rest → (On → now < elapsed s → Refused 7 s a t)
+      → (On → elapsed s ≤ now → Settled (count s) s a t end) → (Rest → Settled (count s) s a t end)
+      → Settled (count s) s a t (line 12 (MidPoll s × (now ≢ s .until)) (line 7 (now < elapsed s) end))
+  polling {now} S J back done rest =
+      by-cases (ℕ-discrete (s .hand) nobody)
+      (λ z.
+      pass (λ x. x .0 z)
+      (by-cases (decLt now (elapsed s))
+      (λ h. stop h (back (J .free z) h))
+      (λ h. pass h (done (J .free z) (omega arith)))))
+      (λ d.
+      by-cases (ℕ-discrete now (s .until))
+      (λ e.
+      let I = S .rule .inside d in
+      pass (λ x. x .1 e) (pass (λ h. omega (arith, h, I .late, I .due, e)) (rest (J .same d e))))
+      (λ n. stop (d, n) (J .other d n)))
+
   -- 11, 4 and 5
   by-when : (w : ℕ) → (TooOld (elapsed s) w → Refused 11 s a t) → (TooFar (elapsed s) w → Refused 4 s a t)
       → (OtherBlock (elapsed s) w → Refused 5 s a t) → (Takes (elapsed s) w → Settled (count s) s a t end)
@@ -116,8 +138,8 @@ module _ {s t : QueueWords} {a : Answer} where
       (λ f. stop f (F .outside x f))))
       (λ f. stop f (F .short f))
 
-  insert-settled : {value when period : ℕ} → Judging s a t (InsertOn s value when period a t) → Settled (count s) s a t (linesOf (C.Insert value when period) s)
-  insert-settled {value} {when} {period} J = judged J (λ S I. by I (view s .lists free) refl)
+  insert-settled : {value when period : ℕ} → InsertClaim s value when period a t → Settled (count s) s a t (linesOf (C.Insert value when period) s)
+  insert-settled {value} {when} {period} J = judged J (λ S F. freely F (λ I. by I (view s .lists free) refl))
     where
       some : {r : ℕ} {l : List ℕ} → view s .lists free ≡ r ∷ l → view s .lists free ≡ [] → ⊥
       some e f = let z : _≡_ {A = ℕ} 0 1 = cc in omega arith
@@ -148,16 +170,21 @@ settled : (c : Call) (s : QueueWords) (a : Answer) (t : QueueWords) → CallClai
 settled (C.Format n turn) s a t A = format-settled A
 settled (C.Insert value when period) s a t A = insert-settled A
 settled (C.Reset key when) s a t A =
-    judged A (λ S R. by-names S key (R .dead) (λ r p N. by-when when (R .old r p N) (R .far r p N) (R .other r p N)
-    (λ x. done-so refl (placed-size r when _ ∙ left-size p r (view s)) (R .done r p N x))))
-settled (C.Remove key) s a t A = judged A (λ S R. by-names S key (R .dead)
-    (λ r p N. done-so refl (freed-size r _ ∙ left-size p r (view s)) (R .done r p N)))
+    judged A (λ S F. freely F (λ R. by-names S key (R .dead) (λ r p N. by-when when (R .old r p N) (R .far r p N) (R .other r p N)
+    (λ x. done-so refl (placed-size r when _ ∙ left-size p r (view s)) (R .done r p N x)))))
+settled (C.Remove key) s a t A = judged A (λ S F. freely F (λ R. by-names S key (R .dead)
+    (λ r p N. done-so refl (freed-size r _ ∙ left-size p r (view s)) (R .done r p N))))
 settled (C.Poll now) s a t A =
-    judged A (λ S P.
-    by-cases (decLt now (elapsed s))
-    (λ h. stop h (P .back h))
-    (λ h. pass h (let d = P .done (omega arith) in accepted (λ k x. x) (polls-says (d .1)) (polls-size (d .1)) (d .2))))
-settled C.Wake s a t A = looks (A .1) (judged (A .0) (λ S W. looked (wakes-says (W .done))))
+    judged A (λ S F.
+    polling S F (λ P h. P .back h)
+    (λ P h. let d = P .done h in accepted (λ k x. x) (polls-says (d .1)) (polls-size (d .1)) (d .2))
+    (λ d. accepted (λ k x. x) (rest-says (d .1)) (rest-size (d .1)) (d .2)))
+settled (C.PollSome now limit) s a t A =
+    judged A (λ S F.
+    polling S F (λ P h. P .back h)
+    (λ P h. let d = P .done h in accepted (λ k x. x) (some-says (d .1)) (some-size (d .1)) (d .2))
+    (λ d. accepted (λ k x. x) (some-says (d .1)) (some-size (d .1)) (d .2)))
+settled C.Wake s a t A = looks (A .1) (judged (A .0) (λ S F. freely F (λ W. looked (wakes-says (W .done)))))
 settled C.Length s a t A = looks (A .1) (judged (A .0) (λ S W. looked (ap isNo (W .done))))
 settled C.Clear s a t A = judged A (λ S K. done-so refl (clears-size (K .clears)) (K .done))
 
@@ -203,6 +230,7 @@ two (C.Insert value when period) s e f = inl (refl, f)
 two (C.Reset key when) s e f = inl (refl, f)
 two (C.Remove key) s e f = inl (refl, f)
 two (C.Poll now) s e f = inl (refl, f)
+two (C.PollSome now limit) s e f = inl (refl, f)
 two C.Wake s e f = inl (refl, f)
 two C.Length s e f = inl (refl, f)
 two C.Clear s e f = inl (refl, f)
@@ -224,17 +252,19 @@ one-at-the-limit s turn = (
     passed-eight x = ⊎-elim (λ y. omega (arith, y .0)) (λ y. y .1) x
 
 -- 02 [5]: "record number 65,535 means nobody": a key with it is refused with 6 by every reset and remove, whatever N and its turn
-pub nobody-refused : {s : QueueWords} → Sound s → (key : ℕ) → numberIn key ≡ nobody
+pub nobody-refused : {s : QueueWords} → Sound s → AtRest s → (key : ℕ) → numberIn key ≡ nobody
     → RefusedBy (C.Remove key) s 6 × ((when : ℕ) → RefusedBy (C.Reset key when) s 6)
-nobody-refused {s} S key e =
+nobody-refused {s} S rest key e =
     let x : NoSuchKey (view s) key = beyond (omega (arith, S .standing .fits .few, e)) in
-    (inr (λ f. f S, inl (refl, x)), λ when. inr (λ f. f S, inl (refl, x)))
+    (inr (λ f. f S, inr (λ d. d rest, inl (refl, x))), λ when. inr (λ f. f S, inr (λ d. d rest, inl (refl, x))))
 
 -- "Number 7 is judged even with an expired timer waiting."
 pub seven-though-waiting : {s t : QueueWords} {a : Answer} {now : ℕ} → PollClaim s now a t → Sound s → {r : ℕ} {l : List ℕ}
     → view s .lists expired ≡ r ∷ l
     → now < elapsed s → (told a ≡ T.no 7) × (t ≡ s)
-seven-though-waiting {s} {t} {a} {now} P S e h = refused-exactly (C.Poll now) s a t P 7 .0 (inr (λ f. f S, inl (refl, h)))
+seven-though-waiting {s} {t} {a} {now} P S e h =
+    let rest : AtRest s = by-cases (ℕ-discrete (s .hand) nobody) (λ z. z) (λ d. absurd (nil≢cons (sym (S .rule .inside d .stack) ∙ e))) in
+    refused-exactly (C.Poll now) s a t P 7 .0 (inr (λ f. f S, inr (λ x. x .0 rest, inl (refl, h))))
 
 -- a store where that happens
 pub seven-shown : (s : QueueWords) × Sound s × (0 < elapsed s) × ((r : ℕ) × (l : List ℕ) × (view s .lists expired ≡ r ∷ l))
@@ -252,11 +282,12 @@ far h x = ⊎-elim (λ y. y .1 .0) (λ y. ⊎-elim (λ z. z .1 .0) (λ z. absurd
 
 later : (c : Call) (s : QueueWords) (k : ℕ) → 3 < k → k < 6 → RefusedBy c s k → elapsed s < whenOf c
 later (C.Format n turn) s k h g x = absurd (passed (omega arith) (passed (omega arith) x))
-later (C.Insert value when period) s k h g x = far g (passed (omega arith) (passed (omega arith) x))
-later (C.Reset key when) s k h g x = far g (passed (omega arith) (passed (omega arith) x))
-later (C.Remove key) s k h g x = absurd (passed (omega arith) (passed (omega arith) x))
-later (C.Poll now) s k h g x = absurd (passed (omega arith) (passed (omega arith) x))
-later C.Wake s k h g x = absurd (passed (omega arith) x)
+later (C.Insert value when period) s k h g x = far g (passed (omega arith) (passed (omega arith) (passed (omega arith) x)))
+later (C.Reset key when) s k h g x = far g (passed (omega arith) (passed (omega arith) (passed (omega arith) x)))
+later (C.Remove key) s k h g x = absurd (passed (omega arith) (passed (omega arith) (passed (omega arith) x)))
+later (C.Poll now) s k h g x = absurd (passed (omega arith) (passed (omega arith) (passed (omega arith) x)))
+later (C.PollSome now limit) s k h g x = absurd (passed (omega arith) (passed (omega arith) (passed (omega arith) x)))
+later C.Wake s k h g x = absurd (passed (omega arith) (passed (omega arith) x))
 later C.Length s k h g x = absurd (passed (omega arith) x)
 later C.Clear s k h g x = absurd (passed (omega arith) x)
 

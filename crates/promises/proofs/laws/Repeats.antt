@@ -1,12 +1,14 @@
 -- Timers that repeat (02 [7]): a key keeps its period (`period-kept`), the timer is set again exactly if it repeats and this was not the last time
 -- (`repeats-same-key`), when it is (`last-exactly`), and how far apart two hand-outs of one key are (`second-out`).
 use mathlib.Core.Path.{_≡_, refl, sym, ap, _∙_, subst}
-use mathlib.Core.Logic.{_≢_, _⊎_, _↔_, inl, inr, ⊎-elim, by-cases}
+use mathlib.Core.Logic.{_≢_, _↔_, inl, inr, ⊎-elim, by-cases}
+use mathlib.Core.Bool.{Bool, false, not, _&&_}
 use mathlib.Core.List.{List, []}
 use mathlib.Core.Option.{some}
 use Prim.Native.Nat.{ℕ, _+_, _-_, _<_, _≤_}
-use native.Mathlib.Decide.{decLt}
+use native.Mathlib.Decide.{ℕ-discrete, decLt}
 use native.Mathlib.Omega.{arith}
+use Rattle.links.specs.Lists.{nobody}
 use Rattle.links.proofs.laws.Lists.{change-other}
 use Rattle.times.specs.Times.{block}
 use Rattle.stack.specs.Places.{slots, expired, free}
@@ -15,31 +17,37 @@ use Rattle.queue.specs.declared.Answer.{Answer}
 use Rattle.queue.specs.declared.Answer.the-variants as A
 use Rattle.queue.specs.Told.{Told, told, Hands, timer, handing}
 use Rattle.queue.specs.Told as T
-use Rattle.queue.specs.Steps.{TakesOut, QueuePolls, GoesOn, once, again, ended, handed, nothing}
+use Rattle.queue.specs.Steps.{TakesSome, PollsSome, GoesOn, once, again, ended, handed-some, nothing-some, not-yet}
 use Rattle.records.specs.View.{View}
 use Rattle.records.specs.Records.{keyOf, At, Names, left, placed, freed, numberIn, NoMore}
-use Rattle.records.specs.Words.{QueueWords, elapsed, view, Sound}
+use Rattle.records.specs.Words.{QueueWords, AtRest, MidPoll, elapsed, view, Sound}
+use Rattle.wheel.specs.Limited.{ended as stopped}
+use Rattle.wheel.proofs.laws.Sums.{hits, lies-times, times-lies}
+use Rattle.wheel.proofs.laws.Drain.{amount}
+use Rattle.wheel.proofs.laws.Midway.{hand-comes, comes-kept}
+use Rattle.pausing.specs.Pausing.{SaysYet, PollTaken}
+use Rattle.promises.specs.Polls.{PollAt, whole, limited}
 use Rattle.records.proofs.laws.Words.{upd-other}
 use Rattle.records.proofs.laws.Cases.{takes-so}
 use Rattle.delay_queue.specs.declared.Call.{Call}
 use Rattle.delay_queue.specs.declared.Call.the-variants as C
 use Rattle.delay_queue.specs.Claims.{CallClaim}
-use Rattle.promises.specs.Runs.{Asked, Runs, rest, next, All, NoFormat, Each}
+use Rattle.promises.specs.Runs.{Asked, Runs, rest, next, All, NoFormat, Each, isFormat}
 use Rattle.promises.specs.KeysStay.{Out}
 use Rattle.promises.specs.KeysReach.{Reaches}
 use Rattle.promises.specs.Polling.{IsPending, Due, SaysLast, Finished, SetAgain}
-use Rattle.promises.specs.OneCall.{one}
+use Rattle.promises.specs.OneCall.{one, isNo}
 use Rattle.promises.specs.First.{NotSet}
 use Rattle.promises.specs.Repeats.{NoNextTime, NotReset, ThreeTimes}
 use Rattle.promises.proofs.laws.OneCall.{call-sound, one-sound, one-free}
 use Rattle.promises.proofs.laws.Met.{insert-met, poll-met}
 use Rattle.promises.proofs.laws.Once.{told-one}
 use Rattle.promises.proofs.laws.Runs.{run-sound}
-use Rattle.promises.proofs.laws.Views.{ViewGoes, refuses, formats, inserts, resets, removes, polls, wakes, counts, clears, call-goes}
-use Rattle.promises.proofs.laws.TakesOut.{one-list, taken-out, key-of-names}
-use Rattle.promises.proofs.laws.Polling.{freed-beside, poll-least, poll-clock, clock-before, goes-on-says, placed-clock, none-out, no-last, out-or-last}
+use Rattle.promises.proofs.laws.Views.{ViewGoes, refuses, formats, inserts, resets, removes, polls, wakes, counts, clears, call-goes, out-polls, goes-rest}
+use Rattle.promises.proofs.laws.TakesOut.{one-list, taken-out, none-before, key-of-names}
+use Rattle.promises.proofs.laws.Polling.{freed-beside, poll-least, poll-clock, view-least, view-clock, whole-no-yet, taken-from-rest, clock-before, goes-on-says, placed-clock, none-out, no-last, out-or-last}
 use Rattle.promises.proofs.laws.KeysOne.{does-onward}
-use Rattle.promises.proofs.laws.KeysGone.{Given, names-given, given-onward, given-kept, out-spent, spent-unnamed}
+use Rattle.promises.proofs.laws.KeysGone.{Given, names-given, given-onward, given-kept, out-spent}
 use Rattle.promises.proofs.laws.KeysReach.{insert-reaches, reaches-on, out-tells, key-one}
 use Rattle.promises.proofs.laws.Outs.{does-was, emptied, done-dec}
 use Rattle.promises.proofs.laws.First.{run-was}
@@ -85,10 +93,13 @@ module _ {s : QueueWords} (S : Sound s) where
       own-then (record { value = upd-other (v .value) i value r d; period = upd-other (v .period) i period r d }) (placed-own i when _ r)
   call-own (resets {when = when} {r = i} {p = p} N) none {r} b a = own-then (left-own p i v r) (placed-own i when (left p i v) r)
   call-own (removes {r = i} {p = p} N) none {r} b a = own-then (left-own p i v r) (freed-own i (left p i v) r)
-  call-own (polls h (handed T G)) none {r} b a =
+  call-own (polls c h (handed-some T G)) none {r} b a =
       let O = taken-out S h T in
       own-then (record { value = ap (λ f. f r) (O .value); period = ap (λ f. f r) (O .period) }) (goes-own G r)
-  call-own (polls h (nothing T)) none {r} b a =
+  call-own (polls c h (nothing-some T)) none {r} b a =
+      let O = taken-out S h T in
+      record { value = ap (λ f. f r) (O .value); period = ap (λ f. f r) (O .period) }
+  call-own (polls c h (not-yet T)) none {r} b a =
       let O = taken-out S h T in
       record { value = ap (λ f. f r) (O .value); period = ap (λ f. f r) (O .period) }
   call-own (wakes W) none b a = record { value = refl; period = refl }
@@ -130,10 +141,9 @@ period-kept {s} {t} {value = value} {when} {period} {k} {a} S A e R f =
 
 -- ---- set again, or for the last time
 
--- a poll that hands out was not refused
-poll-then : {v : View} {now k w d m n : ℕ} {x : Told} {z : View} → ViewGoes v (C.Poll now) x z → Hands x k w d m n → (v .elapsed ≤ now) × QueuePolls v now x z
-poll-then refuses y = absurd (none-out y)
-poll-then (polls e Q) y = (e, Q)
+-- what hands out has ended
+out-ended : {x : Told} {k w d m n : ℕ} → Hands x k w d m n → SaysYet x → ⊥
+out-ended o y = none-out (ap handing (sym (y .2)) ∙ o)
 
 -- the numbers are those of refusals 4 and 5
 next-time : (e w : ℕ) → e < w → NoMore e w ↔ NoNextTime e w
@@ -156,22 +166,45 @@ next-same e f b (inl y) = inl y
 next-same e f b (inr (inl y)) = inr (inr (λ z. omega (arith, b, z, y)))
 next-same e f b (inr (inr y)) = inr (inr (λ z. y (z ∙ sym b)))
 
--- a pending deadline is not before elapsed, and in its block
-pending-block : {s : QueueWords} → Sound s → {r p : ℕ} → At (view s) r p → (elapsed s ≤ view s .deadline r) × (block (view s .deadline r) ≡ block (elapsed s))
-pending-block {s} S {r} {p} a =
-    by-cases (decLt p slots)
-    (λ g. let O = S .rule .wheel p r g (a .member) in (O .late, O .near))
-    (λ g.
-    let x : p ≡ expired = omega (arith, g, a .timed) in
-    let e : view s .deadline r ≡ elapsed s = S .rule .stack r (rw x at (a .member)) in
-    (omega arith, ap (λ w. block w) e))
+-- a pending deadline is in the block of elapsed: with a poll in hand since it was so where that poll began, and elapsed has only risen
+pending-block : {s : QueueWords} → Sound s → {r p : ℕ} → At (view s) r p → block (view s .deadline r) ≡ block (elapsed s)
+unfolding amount
+pending-block {s} S {r} {p} a = by-cases (ℕ-discrete (s .hand) nobody) at-rest in-hand
+  where
+    at-rest : AtRest s → block (view s .deadline r) ≡ block (elapsed s)
+    at-rest z =
+        by-cases (decLt p slots)
+        (λ g. S .rule .free z .wheel p r g (a .member) .near)
+        (λ g. let x : p ≡ expired = omega (arith, g, a .timed) in ap (λ w. block w) (S .rule .free z .stack r (rw x at (a .member))))
 
-module _ {s t : QueueWords} {now : ℕ} {a : Answer} (S : Sound s) (A : CallClaim (C.Poll now) s a t) (h : elapsed s ≤ now) {k w d m n : ℕ}
-    (o : Hands (told a) k w d m n) where
+    in-hand : MidPoll s → block (view s .deadline r) ≡ block (elapsed s)
+    in-hand d =
+        let I = S .rule .inside d in
+        let O = hand-comes (view s .deadline) (s .until) I in
+        let Q = comes-kept (view s .deadline) (s .until) O in
+        let away : p ≢ expired = λ e. absurd (rw (e, I .stack) at (a .member)) in
+        let l = times-lies slots (O .lists) r
+        (omega (arith, Q .kept (hits r), lies-times slots (view s .lists) r p (omega (arith, a .timed, away)) (a .member))) in
+        omega (arith, O .rule .wheel (l .0) r (l .1) (l .2) .near, Q .rises, none-before S r p a)
+
+-- a call that hands out a timer: a poll, whole or not
+module _ {s : QueueWords} (S : Sound s) (c : Call) (a : Answer) (t : QueueWords) (A : CallClaim c s a t) {k w d m n : ℕ} (o : Hands (told a) k w d m n) where
+  abbrev now : ℕ
+  now = out-polls (call-goes c s a t S A) o .0
+
+  abbrev limit : ℕ
+  limit = out-polls (call-goes c s a t S A) o .2 .0
+
+  h : PollTaken (view s) now
+  h = out-polls (call-goes c s a t S A) o .1
+
+  Q : PollsSome (view s) now limit (told a) (view t)
+  Q = out-polls (call-goes c s a t S A) o .2 .1
+
   -- "the same poll places it at w plus period under the same key": exactly if it repeats and the answer does not say that it was the last time
   pub repeats-same-key : ((0 < view s .period (numberIn k)) × (SaysLast (told a) → ⊥)) ↔ SetAgain (view s) k (numberIn k) (view t)
   repeats-same-key =
-      let H = poll-least S h A .out k w d m n o in
+      let H = view-least S h Q (out-ended o) .out k w d m n o in
       let is : H .timer ≡ numberIn k = H .names .number in (
         λ y. rw (← is) (H .again (⊎-elim (λ z. omega (arith, y .0, z, ap (view s .period) is)) (y .1))),
         λ y.
@@ -181,7 +214,7 @@ module _ {s t : QueueWords} {now : ℕ} {a : Answer} (S : Sound s) (A : CallClai
       )
 
   -- it is the last time exactly if there is no next one, seen from elapsed after the hand-out
-  goes-last : {i m₁ n₁ : ℕ} {u : View} {x : Told} {z : View} → TakesOut (view s) now (some i) m₁ n₁ u → GoesOn (view s) i m₁ n₁ u x z
+  goes-last : {i m₁ n₁ : ℕ} {u : View} {x : Told} {z : View} → TakesSome (view s) now limit (stopped (some i)) m₁ n₁ u → GoesOn (view s) i m₁ n₁ u x z
       → i ≡ numberIn k → view s .deadline i ≡ d
       → SaysLast x ↔ ((0 < view s .period (numberIn k)) × NoNextTime (z .elapsed) (d + view s .period (numberIn k)))
   goes-last {i} T (once f) is due = (λ y. absurd (no-last y), λ y. absurd (omega (arith, y .0, f, ap (view s .period) is)))
@@ -203,10 +236,11 @@ module _ {s t : QueueWords} {now : ℕ} {a : Answer} (S : Sound s) (A : CallClai
         λ y. (_, _, _, _, _, refl),
       )
 
-  last-of : {x : Told} {z : View} → QueuePolls (view s) now x z → Hands x k w d m n
+  last-of : {x : Told} {z : View} → PollsSome (view s) now limit x z → Hands x k w d m n
       → SaysLast x ↔ ((0 < view s .period (numberIn k)) × NoNextTime (z .elapsed) (d + view s .period (numberIn k)))
-  last-of (nothing T) y = absurd (none-out y)
-  last-of (handed {r = i} {m = m₁} {n = n₁} T G) y =
+  last-of (nothing-some T) y = absurd (none-out y)
+  last-of (not-yet T) y = absurd (none-out y)
+  last-of (handed-some {r = i} {m = m₁} {n = n₁} T G) y =
       let e : timer (keyOf (view s) i) (view s .value i) (view s .deadline i) m₁ n₁ ≡ timer k w d m n = sym (goes-on-says G) ∙ y in
       let q : keyOf (view s) i ≡ k = cc in
       let due : view s .deadline i ≡ d = cc in
@@ -215,21 +249,22 @@ module _ {s t : QueueWords} {now : ℕ} {a : Answer} (S : Sound s) (A : CallClai
   -- "If refusals 4 or 5 would meet that deadline at the elapsed time after the hand-out, or it passes 2^64-1, the record is freed and the answer says it
   -- was the last time."
   pub last-exactly : SaysLast (told a) ↔ ((0 < view s .period (numberIn k)) × NoNextTime (elapsed t) (d + view s .period (numberIn k)))
-  last-exactly = last-of (poll-then (call-goes (C.Poll now) s a t S A) o .1) o
+  last-exactly = last-of Q o
 
   -- elapsed before the hand-out, elapsed after it and w lie in one block
   pub one-block : (block (elapsed s) ≡ block d) × (block (elapsed t) ≡ block d)
   one-block =
-      let H = poll-least S h A .out k w d m n o in
+      let H = view-least S h Q (out-ended o) .out k w d m n o in
       let b = pending-block S (H .names .pending) in
-      let c = poll-clock S h A .out k w d m n o in
-      (omega (arith, b .1, H .deadline), omega (arith, b .0, b .1, H .deadline, c))
+      let e = none-before S (H .timer) (H .place) (H .names .pending) in
+      let c = view-clock S h Q .out k w d m n o in
+      (omega (arith, b, H .deadline), omega (arith, b, e, H .deadline, c))
 
   -- so that 4 and 5 would meet the next deadline alike at any of the three, and at whatever time of that block
   pub last-wherever : (e : ℕ) → block e ≡ block d
       → SaysLast (told a) ↔ ((0 < view s .period (numberIn k)) × NoNextTime e (d + view s .period (numberIn k)))
   last-wherever e b = (
-    λ y. let z = last-exactly .0 y in (z .0, next-same (elapsed t) e (one-block .1 ∙ sym b) (z .1)),
+    λ y. let q = last-exactly .0 y in (q .0, next-same (elapsed t) e (one-block .1 ∙ sym b) (q .1)),
     λ y. last-exactly .1 (y .0, next-same e (elapsed t) (b ∙ sym (one-block .1)) (y .1)),
   )
 
@@ -249,26 +284,31 @@ each-unset k S G (next {s} {t} {x = x} A R) f g o =
     unset when (inr (inl z)) = g .0 when (z .0) (z .1)
     unset when (inr (inr z)) = o .0 (_, _, _, _, ap handing (z .6))
 
+polls-format : {c : Call} {now : ℕ} → PollAt c now → (b : Bool) → (isFormat c && b) ≡ false
+polls-format whole b = refl
+polls-format limited b = refl
+
 -- of two hand-outs of k in succession, with no accepted reset of k or format in between, the second shows the first's value, and its deadline plus the
 -- period
-pub second-out : {s t u z : QueueWords} {k now later w d m n w₂ d₂ m₂ n₂ : ℕ} {a b : Answer} {l : List Asked} → Sound s
-    → CallClaim (C.Poll now) s a t → Hands (told a) k w d m n → Runs t l u → NoFormat l → All (NotReset k) l → All (λ x. Out k (told (x .answer)) → ⊥) l
-    → CallClaim (C.Poll later) u b z → Hands (told b) k w₂ d₂ m₂ n₂ → (w₂ ≡ w) × (d₂ ≡ d + view s .period (numberIn k))
-second-out {s} {t} {u} {z} {k} {now} {later} {w} {d} {m} {n} {a = a} {b} S A o R f g none B o₂ =
-    let T = call-sound (C.Poll now) s a t A S in
+pub second-out : {s u : QueueWords} {k w d m n w₂ d₂ m₂ n₂ : ℕ} {l : List Asked} → Sound s → (c : Call) (a : Answer) (t : QueueWords)
+    → CallClaim c s a t → Hands (told a) k w d m n → Runs t l u → NoFormat l → All (NotReset k) l → All (λ x. Out k (told (x .answer)) → ⊥) l
+    → (c₂ : Call) (b : Answer) (z : QueueWords) → CallClaim c₂ u b z → Hands (told b) k w₂ d₂ m₂ n₂ → (w₂ ≡ w) × (d₂ ≡ d + view s .period (numberIn k))
+second-out {s} {u} {k} {w} {d} {m} {n} S c a t A o R f g none c₂ b z B o₂ =
+    let T = call-sound c s a t A S in
     let U = run-sound T R in
-    let D = call-goes (C.Poll now) s a t S A in
+    let D = call-goes c s a t S A in
+    let P = out-polls D o in
     let H = out-spent S D o in
-    let H₂ = out-spent U (call-goes (C.Poll later) u b z U B) o₂ in
-    let G = given-onward (does-onward S D refl (numberIn k)) (names-given S (H .names)) in
+    let H₂ = out-spent U (call-goes c₂ u b z U B) o₂ in
+    let G = given-onward (does-onward S D (polls-format (P .3) (not (isNo (told a)))) (numberIn k)) (names-given S (H .names)) in
     let W = run-was T R (each-unset k T G R f g none) (H₂ .names) in
-    let L = poll-least S (poll-then D o .0) A .out k w d m n o in
+    let L = view-least S (P .1) (P .2 .1) (out-ended o) .out k w d m n o in
     by-cases (done-dec (view s) (L .timer) (told a)) (λ y. absurd (L .gone y .dead _ (W .place) (W .names)))
     (λ y.
     let Q = L .again y in
     let K : Reaches (view t) k (view s .value (L .timer)) (view s .period (L .timer)) (view s .deadline (L .timer) + view s .period (L .timer))
     = record { number = L .timer; place = Q .place; names = Q .names; value = Q .value; period = Q .period; deadline = Q .deadline } in
-    let E = out-tells U (reaches-on T K R (W .spared)) B o₂ in
+    let E = out-tells U c₂ b z B (reaches-on T K R (W .spared)) o₂ in
     (E .0 ∙ sym (L .value), omega (arith, E .1, L .deadline, ap (view s .period) (L .names .number))))
 
 -- ---- such runs there are
@@ -276,6 +316,7 @@ second-out {s} {t} {u} {z} {k} {now} {later} {w} {d} {m} {n} {a = a} {b} S A o R
 -- the timer of k waits alone, with the value x, the period q and the deadline d
 record Alone (s : QueueWords) (k x q d : ℕ) : Type 0 where
   sound : Sound s
+  at-rest : AtRest s
   before : elapsed s ≤ d
   reaches : Reaches (view s) k x q d
   only : (y : ℕ) → IsPending (view s) y → y ≡ reaches .number
@@ -295,7 +336,9 @@ turn {s} {k} {x} {q} {d} W more low =
     let m = poll-met s d in
     let R = W .reaches in
     let S = W .sound in
-    let fair = poll-least S (W .before) (m .2) in
+    let K₀ = taken-from-rest s (W .at-rest) (W .before) in
+    let no-yet = whole-no-yet S K₀ (m .2) in
+    let fair = poll-least S whole K₀ (m .0) (m .1) (m .2) no-yet in
     let due : Due (view s) d = (R .number, (R .place, R .names .pending), omega (arith, R .deadline)) in
     let o = fair .hands-out .1 due in
     let H = fair .out (o .0) (o .1) (o .2) (o .3) (o .4) (o .5) in
@@ -306,12 +349,12 @@ turn {s} {k} {x} {q} {d} W more low =
     let hands : Hands (told (m .0)) k x d (o .3) (o .4)
     = o .5 ∙ (let same : timer (o .0) (o .1) (o .2) (o .3) (o .4) ≡ timer k x d (o .3) (o .4) = cc in same) in
     let period : view s .period (numberIn k) ≡ q = ap (view s .period) (sym (R .names .number)) ∙ R .period in
-    let clock = poll-clock S (W .before) (m .2) .out k x d (o .3) (o .4) hands in
+    let clock = poll-clock S whole K₀ (m .0) (m .1) (m .2) .out k x d (o .3) (o .4) hands in
     let again : SaysLast (told (m .0)) → ⊥
     = λ y.
-    let n = last-exactly S (m .2) (W .before) hands .0 y .1 in
+    let n = last-exactly S (C.Poll d) (m .0) (m .1) (m .2) hands .0 y .1 in
     none-next (elapsed (m .1)) (d + view s .period (numberIn k)) (omega (arith, clock, W .before)) (omega (arith, period)) n in
-    let Q = repeats-same-key S (m .2) (W .before) hands .0 (omega (arith, period), again) in
+    let Q = repeats-same-key S (C.Poll d) (m .0) (m .1) (m .2) hands .0 (omega (arith, period), again) in
     let L = fair .out k x d (o .3) (o .4) hands in
     record {
       answer = m .0;
@@ -322,6 +365,7 @@ turn {s} {k} {x} {q} {d} W more low =
       out = ⊎-elim (λ y. y) (λ y. absurd (again (_, _, _, _, _, y))) (out-or-last (told (m .0)) hands);
       then = record {
         sound = call-sound (C.Poll d) s (m .0) (m .1) (m .2) S;
+        at-rest = goes-rest (call-goes (C.Poll d) s (m .0) (m .1) S (m .2)) no-yet (W .at-rest);
         before = omega (arith, clock, W .before);
         reaches = record {
           number = numberIn k;
@@ -344,7 +388,7 @@ pub three-times : ThreeTimes
 unfolding over placed
 three-times =
     let m = insert-met one 7 2400000 2400000 in
-    let D = m .2 .good one-sound .done 0 [] one-free (takes-so (omega arith) (λ h. refl)) in
+    let D = m .2 .good one-sound .free refl .done 0 [] one-free (takes-so (omega arith) (λ h. refl)) in
     let e : m .0 ≡ A.Key 65536 = told-one (m .0) (A.Key 65536) (D .told) in
     let I : CallClaim (C.Insert 7 2400000 2400000) one (A.Key 65536) (m .1)
     = subst (λ a. CallClaim (C.Insert 7 2400000 2400000) one a (m .1)) e (m .2) in
@@ -352,6 +396,7 @@ three-times =
     let W : Alone (m .1) 65536 7 2400000 2400000
     = record {
       sound = D .sound;
+      at-rest = ap (λ v. v .hand) (D .view);
       before = omega (arith, ap (λ v. v .elapsed) (D .view));
       reaches = R;
       only = λ y p. omega (arith, key-of-names (D .sound) (p .1) .below, R .names .below, ap (λ v. v .n) (D .view));

@@ -1,6 +1,6 @@
 -- What a poll takes out, by its lists: who was pending stays pending but the one taken out, which is in no list, and nobody comes (`taken-out`). It does not
 -- matter whether it came from the expired stack or from the wheel.
-use mathlib.Core.Path.{_≡_, refl, sym, _∙_}
+use mathlib.Core.Path.{_≡_, refl, sym, _∙_, subst}
 use mathlib.Core.Logic.{_≢_, inl, ⊎-elim, by-cases}
 use mathlib.Core.List.{List, [], _∷_}
 use mathlib.Core.Option.{Option, none, some, Option·some-injective, Option·some-ne-none}
@@ -8,20 +8,24 @@ use Prim.Native.Nat.{ℕ, zero, suc, _≤_, _<_}
 use native.Mathlib.Decide.{ℕ-discrete, decLt}
 use native.Mathlib.Omega.{arith}
 use borrow.Author.Tests.{eq-eqb, ne-eqb}
-use Rattle.links.specs.Lists.{Mem, change}
+use Rattle.times.proofs.laws.Quotients.{lies-late}
+use Rattle.links.specs.Lists.{nobody, Mem, change}
 use Rattle.links.proofs.laws.Lists.{Nodup, change-same, change-other}
-use Rattle.stack.specs.Places.{slots, expired, free}
+use Rattle.stack.specs.Places.{slots, expired, free, levelAt}
 use Rattle.stack.proofs.laws.Whole as stack-laws
-use Rattle.wheel.specs.Wheel.{Lists, Polls}
+use Rattle.wheel.specs.Wheel.{Lists}
 use Rattle.wheel.specs.Sums.{sumOf, total}
 use Rattle.wheel.proofs.laws.Sums.{mem-change, mem-kept, mem-left, mem-sum, hits, lies-times, times-lies}
-use Rattle.wheel.proofs.laws.Between.{rule-between}
 use Rattle.wheel.proofs.laws.Drain.{amount}
-use Rattle.wheel.proofs.laws.Poll.{Promise, given, waits-on, poll-law}
+use Rattle.wheel.specs.Limited.{Outcome, ended as stopped, yet, start}
+use Rattle.wheel.proofs.laws.Passed.{Passed, givenBy, limited-passed, passed-on}
 use Rattle.records.specs.View.{View}
 use Rattle.records.specs.Records.{keyOf, At, Names}
-use Rattle.queue.specs.Steps.{TakesOut, polled, popped}
+use Rattle.queue.specs.Steps.{TakesSome, polled-some, popped-some}
 use Rattle.records.specs.Words.{QueueWords, view, Sound}
+use Rattle.pausing.specs.Pausing.{PollTaken}
+use Rattle.pausing.proofs.laws.Pausing.{rule-now}
+use Rattle.pausing.proofs.laws.Works.{takes-some-works}
 
 -- ---- on a sound store every record is in one list at most
 
@@ -61,6 +65,11 @@ module _ {s : QueueWords} (S : Sound s) where
 
 -- ---- what is taken out
 
+-- who is: "not yet" takes out nobody
+abbrev pub gotBy : Outcome → Option ℕ
+gotBy (stopped got) = got
+gotBy (yet p) = none
+
 -- y is not the one
 abbrev pub Other : Option ℕ → ℕ → Type 0
 Other none y = Unit {0}
@@ -88,12 +97,29 @@ module _ {s : QueueWords} (S : Sound s) where
   pub moved-out : (i p : ℕ) → Mem i (v .lists p) → (l : List ℕ) → (Mem i l → ⊥) → (q : ℕ) → Mem i (change (v .lists) p l q) → ⊥
   moved-out i p m l out q k = ⊎-elim (λ a. out (a .1)) (λ a. a .0 (one-list S i q p (a .1) m)) (mem-change (v .lists) p l q i k)
 
-  pub wheel-promise : {now m n e : ℕ} {o : Option ℕ} {L : Lists} → v .lists expired ≡ [] → v .elapsed ≤ now
-      → Polls (v .deadline) now (v .elapsed) (v .lists) o m n e L → Promise (v .deadline) now (v .elapsed) (v .lists) o m n e L
-  wheel-promise x h P = poll-law (rule-between (S .rule)) x h P
+  -- a poll that is taken is not before elapsed, whatever is in hand
+  pub taken-later : {now : ℕ} → PollTaken v now → v .elapsed ≤ now
+  taken-later K =
+      by-cases (ℕ-discrete (s .hand) nobody) (K .later)
+      (λ d. let I = S .rule .inside d in omega (arith, I .late, I .due, K .same d))
 
-  module _ {now m n e : ℕ} {o : Option ℕ} {N : Lists} (P : Promise (v .deadline) now (v .elapsed) (v .lists) o m n e N)
-      (empty : v .lists expired ≡ []) where
+  -- nothing is pending before elapsed
+  pub none-before : (y p : ℕ) → At v y p → v .elapsed ≤ v .deadline y
+  none-before y p a =
+      by-cases (ℕ-discrete (s .hand) nobody)
+      (λ z.
+      by-cases (ℕ-discrete p expired)
+      (λ e. omega (arith, S .rule .free z .stack y (rw e at (a .member))))
+      (λ d. S .rule .free z .wheel p y (omega (arith, a .timed, d)) (a .member) .late))
+      (λ z.
+      let I = S .rule .inside z in
+      by-cases (ℕ-discrete p expired)
+      (λ e. absurd (rw (e, I .stack) at (a .member)))
+      (λ d.
+      let l = I .rule .spot p y (omega (arith, a .timed, d)) (a .member) .lies in
+      omega (arith, I .late, lies-late (levelAt p) (start (s .wheel .elapsed) (s .hand)) (v .deadline y) l)))
+
+  module _ {o : Outcome} {m : ℕ} {N : Lists} (P : Passed (v .lists) o m N) (empty : v .lists expired ≡ []) where
     wheel-was : (y p : ℕ) → p < free → Mem y (N p) → (q : ℕ) × At v y q
     unfolding amount
     wheel-was y p h k =
@@ -103,36 +129,38 @@ module _ {s : QueueWords} (S : Sound s) where
         (r .0, record { timed = omega arith; member = r .2 }))
         (λ g. (p, record { timed = h; member = rw (P .aside p (omega arith)) at k }))
 
-    wheel-stays : (y : ℕ) → given (hits y) o ≡ 0 → (p : ℕ) → At v y p → (q : ℕ) × (q < free) × Mem y (N q)
+    wheel-stays : (y : ℕ) → givenBy (hits y) o ≡ 0 → (p : ℕ) → At v y p → (q : ℕ) × (q < free) × Mem y (N q)
     wheel-stays y z p a =
         by-cases (ℕ-discrete p expired)
         (λ e. absurd (rw (e, empty) at (a .member)))
-        (λ d. let b = waits-on P y z (p, omega (arith, a .timed), a .member) in (b .0, omega (arith, b .1), b .2))
+        (λ d. let b = passed-on P y z (p, omega (arith, a .timed), a .member) in (b .0, omega (arith, b .1), b .2))
 
-  wheel-gone : {now i m n e : ℕ} {N : Lists} → Promise (v .deadline) now (v .elapsed) (v .lists) (some i) m n e N → (q : ℕ) → Mem i (N q) → ⊥
+  wheel-gone : {i p m : ℕ} {N : Lists} → At v i p → v .lists expired ≡ [] → Passed (v .lists) (stopped (some i)) m N → (q : ℕ) → Mem i (N q) → ⊥
   unfolding amount
-  wheel-gone {i = i} {N = N} P q k =
-      let w = P .fair .0 in
+  wheel-gone {i} {p} {N = N} a empty P q k =
       let one : hits i i ≡ 1 = rw (eq-eqb i i refl) in
+      let away : p ≢ expired = λ e. absurd (rw (e, empty) at (a .member)) in
       by-cases (decLt q slots)
       (λ h. omega (arith, lies-times slots N i q h k, P .kept (hits i), lies-once S i slots))
-      (λ h. omega (arith, one-list S i (w .0) q (w .2) (rw (P .aside q (omega arith)) at k)))
+      (λ h. omega (arith, one-list S i p q (a .member) (rw (P .aside q (omega arith)) at k), a .timed, away))
 
-  not-given : (o : Option ℕ) (y : ℕ) → Other o y → given (hits y) o ≡ 0
+  not-given : (g : Option ℕ) (y : ℕ) → Other g y → givenBy (hits y) (stopped g) ≡ 0
   not-given none y h = refl
   not-given (some r) y h = rw (ne-eqb r y (λ z. h (sym z)))
 
-  wheel-out : {now m n e : ℕ} {N : Lists} (o : Option ℕ) → Promise (v .deadline) now (v .elapsed) (v .lists) o m n e N
-      → ((r : ℕ) → o ≡ some r → (p : ℕ) × At v r p) × ((r : ℕ) → o ≡ some r → (q : ℕ) → Mem r (N q) → ⊥)
-  wheel-out none P = (λ r z. absurd (Option·some-ne-none r (sym z)), λ r z. absurd (Option·some-ne-none r (sym z)))
-  wheel-out (some i) P =
-      let w = P .fair .0 in (
-        λ r z. (w .0, record { timed = omega (arith, w .1); member = rw (sym (Option·some-injective i r z)) (w .2) }),
-        λ r z q k. wheel-gone P q (rw (Option·some-injective i r z) k),
+  wheel-out : {now limit m n : ℕ} {u : View} {N : Lists} → PollTaken v now → v .lists expired ≡ [] → (g : Option ℕ) → TakesSome v now limit (stopped g) m n u
+      → Passed (v .lists) (stopped g) m N
+      → ((r : ℕ) → g ≡ some r → (p : ℕ) × At v r p) × ((r : ℕ) → g ≡ some r → (q : ℕ) → Mem r (N q) → ⊥)
+  wheel-out K empty none T P = (λ r z. absurd (Option·some-ne-none r (sym z)), λ r z. absurd (Option·some-ne-none r (sym z)))
+  wheel-out {N = N} K empty (some i) T P =
+      let w = takes-some-works S K T .fair .0 in (
+        λ r z. (w .0, subst (λ (j : ℕ). At v j (w .0)) (Option·some-injective i r z) (w .1)),
+        λ r z q k. wheel-gone (w .1) empty P q (subst (λ (j : ℕ). Mem j (N q)) (sym (Option·some-injective i r z)) k),
       )
 
-  pub taken-out : {now m n : ℕ} {got : Option ℕ} {u : View} → v .elapsed ≤ now → TakesOut v now got m n u → TakenOut v got u
-  taken-out h (popped {r} {l} e) =
+  -- from the expired stack, from the wheel, or nobody, as "not yet" says
+  pub taken-out : {now limit m n : ℕ} {o : Outcome} {u : View} → PollTaken v now → TakesSome v now limit o m n u → TakenOut v (gotBy o) u
+  taken-out h (popped-some {r} {l} e) =
       let m : Mem r (v .lists expired) = rw e (inl refl) in
       let d = rw e at (stack-laws.list-nodup (S .standing .whole .stack) expired) in
       let rest : (y : ℕ) → y ≢ r → Mem y (v .lists expired) → Mem y l = λ y d₁ k. ⊎-elim (λ z. absurd (d₁ z)) (λ x. x) (rw e at k) in
@@ -149,9 +177,9 @@ module _ {s : QueueWords} (S : Sound s) where
         out = λ i z. (expired, record { timed = omega arith; member = rw (sym (Option·some-injective r i z)) m });
         gone = λ i z q k. moved-out r expired m l (d .0) q (rw (Option·some-injective r i z) k);
       }
-  taken-out h (polled {got} {m} {n} {e} {L} empty P) =
-      let W = wheel-promise empty h P in
-      let O = wheel-out got W in
+  taken-out h (polled-some {o = stopped got} empty P) =
+      let W = limited-passed (rule-now S h) empty (h .later) (stopped got) P in
+      let O = wheel-out h empty got (polled-some empty P) W in
       record {
         size = refl;
         value = refl;
@@ -164,4 +192,19 @@ module _ {s : QueueWords} (S : Sound s) where
         expired = λ y d k. absurd (rw empty at k);
         out = O .0;
         gone = O .1;
+      }
+  taken-out h (polled-some {o = yet q} empty P) =
+      let W = limited-passed (rule-now S h) empty (h .later) (yet q) P in
+      record {
+        size = refl;
+        value = refl;
+        period = refl;
+        deadline = refl;
+        turn = refl;
+        free = W .aside free (omega arith);
+        was = λ y p a. wheel-was W empty y p (a .timed) (a .member);
+        stays = λ y d p a. let b = wheel-stays W empty y refl p a in (b .0, record { timed = b .1; member = b .2 });
+        expired = λ y d k. absurd (rw empty at k);
+        out = λ r z. absurd (Option·some-ne-none r (sym z));
+        gone = λ r z. absurd (Option·some-ne-none r (sym z));
       }

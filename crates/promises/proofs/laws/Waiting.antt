@@ -3,7 +3,7 @@ use mathlib.Core.Path.{_≡_, refl, sym, ap, _∙_}
 use mathlib.Core.Logic.{inl, inr, ⊎-elim, by-cases, _≢_}
 use mathlib.Core.Bool.{Bool, true, false, not, _&&_, cond, true≢false, and-false}
 use mathlib.Core.List.{List, [], _∷_}
-use mathlib.Core.Option.{Option, none, some}
+use mathlib.Core.Option.{none}
 use Prim.Native.Nat.{ℕ, _+_, _≤_, _<_}
 use native.Mathlib.Decide.{ℕ-discrete}
 use native.Mathlib.Omega.{arith}
@@ -12,24 +12,26 @@ use borrow.Author.Tests.{lt-leb}
 use Rattle.links.specs.Count.{bit}
 use Rattle.stack.specs.Places.{free}
 use Rattle.wheel.proofs.laws.Sums.{hits, total-le, lies-times}
-use Rattle.wheel.proofs.laws.Poll.{given}
 use Rattle.queue.specs.Told.{Told, told, Hands, timer}
 use Rattle.queue.specs.Told as T
 use Rattle.records.specs.View.{View}
 use Rattle.records.specs.Records.{keyOf, At, left, freed}
-use Rattle.queue.specs.Steps.{QueuePolls, pending, nothing, handed}
+use Rattle.queue.specs.Steps.{PollsSome, pending, nothing-some, not-yet, handed-some}
 use Rattle.records.specs.Words.{QueueWords, view, Sound}
+use Rattle.wheel.specs.Limited.{ended as stopped, yet}
+use Rattle.pausing.specs.Pausing.{PollTaken}
+use Rattle.promises.specs.Polls.{PollAt, whole, limited}
 use Rattle.delay_queue.specs.declared.Call.{Call}
 use Rattle.delay_queue.specs.declared.Call.the-variants as C
 use Rattle.delay_queue.specs.Claims.{CallClaim}
 use Rattle.promises.specs.OneCall.{isNo}
 use Rattle.promises.proofs.laws.OneCall.{call-sound}
-use Rattle.promises.specs.Runs.{Asked, Runs, rest, next, accepted, All, tally}
+use Rattle.promises.specs.Runs.{Asked, Runs, rest, next, accepted, ends, All, tallyEnded}
 use Rattle.promises.proofs.laws.Views.{ViewGoes, refuses, formats, inserts, resets, removes, polls, wakes, counts, clears, call-goes, key-inserts}
 use Rattle.promises.specs.Polling.{Dead, Finished}
-use Rattle.promises.proofs.laws.Polling.{saysOf, Fairly, Polled, poll-works, none-out, TakenBy, freed-beside, takes-works, goes-on-says, least-of}
+use Rattle.promises.proofs.laws.Polling.{none-out, TakenBy, freed-beside, takes-works, goes-on-says, least-of}
 use Rattle.promises.proofs.laws.Moves.{left-total, freed-total}
-use Rattle.promises.proofs.laws.KeysGone.{spent-unnamed, remove-spent, out-spent}
+use Rattle.promises.proofs.laws.KeysGone.{spent-unnamed, remove-spent}
 use Rattle.promises.specs.KeysStay.{Aims, Out}
 use Rattle.promises.proofs.laws.KeysStay.{does-stays}
 use Rattle.promises.specs.KeysReach.{Reaches}
@@ -57,25 +59,29 @@ pending-some {v} {r} {p} a =
 
 -- ---- one quiet call, and the timer that the key k reaches, with the value y and the deadline d
 
--- an accepted poll at which d is due
+-- an ended poll at which d is due
 abbrev pub counted : ℕ → Call → Told → ℕ
-counted d c x = cond (duePoll d c && not (isNo x)) 1 0
+counted d c x = cond (duePoll d c && ends x) 1 0
 
 counted-one : (d : ℕ) (c : Call) (x : Told) → counted d c x ≤ 1
-counted-one d c x = by (duePoll d c && not (isNo x))
+counted-one d c x = by (duePoll d c && ends x)
   where
     by : (b : Bool) → cond b 1 0 ≤ 1
     by true = omega arith
     by false = omega arith
 
-none-fewer : {v u : View} {now m n : ℕ} → TakenBy v now none m n u → pending u ≡ pending v
+none-fewer : {v u : View} {now m n : ℕ} → TakenBy v now (stopped none) m n u → pending u ≡ pending v
 unfolding pending
 none-fewer F = omega (arith, F .kept (λ x. 1))
 
--- it waits on, and each accepted poll at which it was due has handed out another; or it comes out; or it is removed
+yet-fewer : {v u : View} {now p m n : ℕ} → TakenBy v now (yet p) m n u → pending u ≡ pending v
+unfolding pending
+yet-fewer F = omega (arith, F .kept (λ x. 1))
+
+-- it waits on, and each ended poll at which it was due has handed out another; or it comes out; or it is removed
 pub data Went (v : View) (k y d : ℕ) (c : Call) (x : Told) (w : View) : Type 0 where
   waits : Reaches w k y 0 d → NoneRepeats w → pending w + counted d c x ≤ pending v → Went v k y d c x w
-  comes : {now m n : ℕ} → c ≡ C.Poll now → Hands x k y d m n → Dead w k → Went v k y d c x w
+  comes : {now m n : ℕ} → PollAt c now → Hands x k y d m n → Dead w k → Went v k y d c x w
   leaves : c ≡ C.Remove k → isNo x ≡ false → Dead w k → Went v k y d c x w
 
 -- where nothing repeats, nothing does after a record was removed
@@ -92,15 +98,30 @@ module _ {s : QueueWords} (S : Sound s) (once : NoneRepeats (view s)) {k y d : �
       → pending w + counted d c x ≤ pending (view s) → Went (view s) k y d c x w
   waits-on D aims out f few = waits (stays-reaches R (does-stays S (R .names) D aims out)) f few
 
-  went-poll : {now : ℕ} {x : Told} {w : View} → view s .elapsed ≤ now → QueuePolls (view s) now x w → Went (view s) k y d (C.Poll now) x w
-  went-poll {now} h (nothing {m} {n} {u} T) =
+  no-aim : {c : Call} {now : ℕ} → PollAt c now → Aims k c → ⊥
+  no-aim whole a = a
+  no-aim limited a = a
+
+  -- a poll before the deadline does not count
+  late-uncounted : {c : Call} {now : ℕ} → PollAt c now → now < d → duePoll d c ≡ false
+  late-uncounted (whole {now}) h = lt-leb d now h
+  late-uncounted (limited {now}) h = lt-leb d now h
+
+  went-poll : {c : Call} {now limit : ℕ} {x : Told} {w : View} → PollAt c now → PollTaken (view s) now → PollsSome (view s) now limit x w
+      → Went (view s) k y d c x w
+  went-poll {c} {now} at h (nothing-some {m} {n} {u} T) =
       let O = taken-out S h T in
-      let F = takes-works (view s) (S .rule) h T in
+      let F = takes-works S h T in
       let late : now < d = omega (arith, F .fair (R .number) (R .place, R .names .pending), R .deadline) in
-      waits-on (polls h (nothing T)) (λ a. absurd a) (λ o. none-out (o .4))
+      waits-on (polls at h (nothing-some T)) (λ a. absurd (no-aim at a)) (λ o. none-out (o .4))
       (λ i q. ap (λ g. g i) (O .period) ∙ once i (O .was i (q .0) (q .1)))
-      (rw (lt-leb d now late) (omega (arith, none-fewer F)))
-  went-poll {now} {x} {w} h (handed {r = i} {m} {n} {u} T G) =
+      (rw (late-uncounted at late) (omega (arith, none-fewer F)))
+  went-poll {c} at h (not-yet {m = m} {n = n} T) =
+      let O = taken-out S h T in
+      waits-on (polls at h (not-yet T)) (λ a. absurd (no-aim at a)) (λ o. none-out (o .4))
+      (λ i q. ap (λ g. g i) (O .period) ∙ once i (O .was i (q .0) (q .1)))
+      (rw (and-false (duePoll d c)) (omega (arith, yet-fewer (takes-works S h T))))
+  went-poll {c} {now} {x = x} {w = w} at h (handed-some {r = i} {m} {n} {u} T G) =
       let a = taken-out S h T .out i refl in
       let z : Hands x (keyOf (view s) i) (view s .value i) (view s .deadline i) m n = goes-on-says G in
       let H = least-of S h T G (keyOf (view s) i) (view s .value i) (view s .deadline i) m n z in
@@ -115,11 +136,11 @@ module _ {s : QueueWords} (S : Sound s) (once : NoneRepeats (view s)) {k y d : �
       H .others j b d₁ .1 .period ∙ once j b in
       by-cases (ℕ-discrete (keyOf (view s) i) k)
       (λ e.
-      let q = poll-tells S h (handed T G) R (rw e at z) in
-      comes refl (rw (q .0, q .1) at (rw e at z)) (rw e at (E .dead)))
+      let q = poll-tells S h (handed-some T G) R (rw e at z) in
+      comes at (rw (q .0, q .1) at (rw e at z)) (rw e at (E .dead)))
       (λ j.
-      waits-on (polls h (handed T G)) (λ b. absurd b) (λ o. j (same x z (o .4))) stays
-      (omega (arith, counted-one d (C.Poll now) x, E .fewer)))
+      waits-on (polls at h (handed-some T G)) (λ b. absurd (no-aim at b)) (λ o. j (same x z (o .4))) stays
+      (omega (arith, counted-one d c x, E .fewer)))
     where
       same : (x : Told) {a b c e f a′ b′ c′ e′ f′ : ℕ} → Hands x a b c e f → Hands x a′ b′ c′ e′ f′ → a ≡ a′
       same x {a = a} {b} {c} {e} {f} {a′} {b′} {c′} {e′} {f′} p q =
@@ -137,7 +158,7 @@ module _ {s : QueueWords} (S : Sound s) (once : NoneRepeats (view s)) {k y d : �
       waits-on (removes N) (λ e. absurd (n e))
       (λ o. none-out (o .4)) (removed-once p i (view s) once)
       (omega (arith, removed-fewer p i (view s))))
-  went (polls h Q) quiet = went-poll h Q
+  went (polls at h Q) quiet = went-poll at h Q
   went (wakes W) quiet = waits R once (omega arith)
   went counts quiet = waits R once (omega arith)
   went (clears r) quiet = absurd (true≢false quiet)
@@ -164,7 +185,7 @@ IsRemoved k x = (x .call ≡ C.Remove k) × (accepted x ≡ true)
 
 -- the timer waits on; or it is out or removed, and its key is dead
 data Ended (s : QueueWords) (l : List Asked) (u : QueueWords) (k y d : ℕ) : Type 0 where
-  still : Reaches (view u) k y 0 d → pending (view u) + tally (duePoll d) l ≤ pending (view s) → Ended s l u k y d
+  still : Reaches (view u) k y 0 d → pending (view u) + tallyEnded (duePoll d) l ≤ pending (view s) → Ended s l u k y d
   out : Some (ComesOut k y d) l → Dead (view u) k → Ended s l u k y d
   gone : Some (IsRemoved k) l → Dead (view u) k → Ended s l u k y d
 
@@ -189,21 +210,21 @@ run-ends {k = k} {y = y} {d = d} S once R (next {s} {t} {u} {x} {l} A r) q =
     by (leaves e z h) f = gone (inl (e, ap not z)) (dead-run T r (q .1) h)
 
 module _ {s u : QueueWords} {l : List Asked} {k r p : ℕ} (W : Waited s l u k r p) where
-  ends : Ended s l u k (view s .value r) (view s .deadline r)
-  ends =
+  ending : Ended s l u k (view s .value r) (view s .deadline r)
+  ending =
       run-ends (W .sound) (W .once)
       (record { number = r; place = p; names = W .names; value = refl; period = W .once r (p, W .names .pending); deadline = refl })
       (W .runs) (W .undisturbed)
 
   -- it cannot wait on
   out-of-time : {y : ℕ} → Reaches (view u) k y 0 (view s .deadline r)
-      → pending (view u) + tally (duePoll (view s .deadline r)) l ≤ pending (view s) → ⊥
+      → pending (view u) + tallyEnded (duePoll (view s .deadline r)) l ≤ pending (view s) → ⊥
   out-of-time R c = omega (arith, W .enough, pending-some (R .names .pending))
 
-  -- "A timer that is due, with no insert, reset, clear or format after that .., is out or removed within as many accepted polls as timers were pending":
-  -- its key is dead. Polls before its deadline may stand between: they are not counted.
+  -- "A timer that is due, with no insert, reset, clear or format after that .., is out or removed within as many accepted polls as timers were pending"
+  -- (02 [10]: "waiting counts ended polls"): its key is dead. Polls before its deadline may stand between: they are not counted.
   pub waiting-bounded : Dead (view u) k
-  waiting-bounded = by ends
+  waiting-bounded = by ending
     where
       by : Ended s l u k (view s .value r) (view s .deadline r) → Dead (view u) k
       by (still R c) = absurd (out-of-time R c)
@@ -212,7 +233,7 @@ module _ {s u : QueueWords} {l : List Asked} {k r p : ℕ} (W : Waited s l u k r
 
   -- and unless its key is removed, a poll of the run has handed it out, with its value and deadline
   pub due-comes-out : All (NotRemoved k) l → Some (ComesOut k (view s .value r) (view s .deadline r)) l
-  due-comes-out kept = by ends
+  due-comes-out kept = by ending
     where
       never : (l : List Asked) → All (NotRemoved k) l → Some (IsRemoved k) l → ⊥
       never [] h m = m

@@ -68,7 +68,7 @@ same-length-4 : tie.Need-same-length-4 Inv-loop μ-loop
 same-length-4 c = search needs
 
 returns : tie.Need-returns Inv-loop μ-loop
-returns c = clear-done (c .before .loop .inv .2) (omega arith)
+returns c = λ h u. clear-done (c .before .loop .inv .2) (omega arith) h u
 
 element-copy-out-n : tie.Need-element-copy-out-n Inv-loop μ-loop
 element-copy-out-n c = search needs

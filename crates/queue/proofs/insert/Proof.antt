@@ -1,5 +1,6 @@
 -- `insert` meets its contract: full, a deadline that is refused, or taken, given its value and period and placed (`insert-done`).
 use borrow.Author.Needs.{needs}
+use mathlib.Core.Path.{refl}
 use native.Mathlib.Omega.{arith}
 use lib.ListN.{length-set}
 use Rattle.queue.proofs.laws.Calls.{insert-full, insert-refused, insert-words, insert-place, insert-done}
@@ -35,14 +36,14 @@ element-copy-out-if1 : tie.Need-element-copy-out-if1
 element-copy-out-if1 c = search needs
 
 returns : tie.Need-returns
-returns c = insert-full (to-start (c .before) .pre) _ _ _ (c .if1 .taken)
+returns c = insert-full (to-start (c .before) .pre) refl _ _ _ (c .if1 .taken)
 
 deadline-no-requires : tie.Need-deadline-no-requires
 deadline-no-requires c κs = search needs
 
 returns-2 : tie.Need-returns-2
 returns-2 c =
-    insert-refused (to-start (c .before .before .before) .pre) _ _ _ (c .before .before .if1 .left) (c .before .deadline-no .ensures)
+    insert-refused (to-start (c .before .before .before) .pre) refl _ _ _ (c .before .before .if1 .left) (c .before .deadline-no .ensures)
     (c .if2 .taken)
 
 pop-requires : tie.Need-pop-requires
@@ -65,7 +66,7 @@ slice-write-values c =
     let else2 = to-else2 (at-pop .before) in
     let at-deadline-no = else2 .before in
     let else1 = at-deadline-no .before in
-    let w = insert-words (to-start (else1 .before) .pre) 0 _ 0 (else1 .if1 .left) (at-deadline-no .deadline-no .ensures) (else2 .if2 .left)
+    let w = insert-words (to-start (else1 .before) .pre) refl 0 _ 0 (else1 .if1 .left) (at-deadline-no .deadline-no .ensures) (else2 .if2 .left)
     (at-pop .pop .ensures) in
     omega (arith, w .0)
 
@@ -81,7 +82,7 @@ slice-write-values-2 c =
     let else2 = to-else2 (at-pop .before) in
     let at-deadline-no = else2 .before in
     let else1 = at-deadline-no .before in
-    let w = insert-words (to-start (else1 .before) .pre) 0 _ 0 (else1 .if1 .left) (at-deadline-no .deadline-no .ensures) (else2 .if2 .left)
+    let w = insert-words (to-start (else1 .before) .pre) refl 0 _ 0 (else1 .if1 .left) (at-deadline-no .deadline-no .ensures) (else2 .if2 .left)
     (at-pop .pop .ensures) in
     simp length-set (omega (arith, w .0))
 
@@ -97,7 +98,7 @@ shared-slice-read-key-of c =
     let else2 = to-else2 (at-pop .before) in
     let at-deadline-no = else2 .before in
     let else1 = at-deadline-no .before in
-    insert-words (to-start (else1 .before) .pre) 0 _ 0 (else1 .if1 .left) (at-deadline-no .deadline-no .ensures) (else2 .if2 .left)
+    insert-words (to-start (else1 .before) .pre) refl 0 _ 0 (else1 .if1 .left) (at-deadline-no .deadline-no .ensures) (else2 .if2 .left)
     (at-pop .pop .ensures) .1
 
 key-of-requires : tie.Need-key-of-requires
@@ -106,7 +107,7 @@ key-of-requires c κs =
     let else2 = to-else2 (at-pop .before) in
     let at-deadline-no = else2 .before in
     let else1 = at-deadline-no .before in
-    insert-words (to-start (else1 .before) .pre) 0 _ 0 (else1 .if1 .left) (at-deadline-no .deadline-no .ensures) (else2 .if2 .left)
+    insert-words (to-start (else1 .before) .pre) refl 0 _ 0 (else1 .if1 .left) (at-deadline-no .deadline-no .ensures) (else2 .if2 .left)
     (at-pop .pop .ensures) .2
 
 place-requires : tie.Need-place-requires
@@ -115,7 +116,7 @@ place-requires c κs =
     let else2 = to-else2 (at-pop .before) in
     let at-deadline-no = else2 .before in
     let else1 = at-deadline-no .before in
-    insert-place (to-start (else1 .before) .pre) 0 _ 0 (else1 .if1 .left) (at-deadline-no .deadline-no .ensures) (else2 .if2 .left)
+    insert-place (to-start (else1 .before) .pre) refl 0 _ 0 (else1 .if1 .left) (at-deadline-no .deadline-no .ensures) (else2 .if2 .left)
     (at-pop .pop .ensures)
 
 same-length : tie.Need-same-length
@@ -141,7 +142,7 @@ returns-3 c =
     let else2 = to-else2 (at-pop .before) in
     let at-deadline-no = else2 .before in
     let else1 = at-deadline-no .before in
-    insert-done (to-start (else1 .before) .pre) _ _ _ (else1 .if1 .left) (at-deadline-no .deadline-no .ensures) (else2 .if2 .left)
+    insert-done (to-start (else1 .before) .pre) refl _ _ _ (else1 .if1 .left) (at-deadline-no .deadline-no .ensures) (else2 .if2 .left)
     (at-pop .pop .ensures) _ (at-key-of .key-of .ensures) (at-place .place .ensures)
 
 pub insert-spec : {M : Type 1} → statement M

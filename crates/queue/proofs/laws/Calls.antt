@@ -20,11 +20,11 @@ use Rattle.queue.specs.Told as T
 use Rattle.records.specs.View.{View, withValue, withPeriod, upd}
 use Rattle.records.specs.Records.{packed, Names, Near, taken, left, placed, freed}
 use Rattle.queue.specs.Steps.{kept}
-use Rattle.records.specs.Words.{QueueWords, queueWords, count, elapsed, markOf, view, Sound}
+use Rattle.records.specs.Words.{QueueWords, queueWords, count, elapsed, markOf, view, AtRest, Sound}
 use Rattle.records.proofs.laws.Words.{past-then, given}
 use Rattle.queue.specs.Calls.{Answered, InsertOn, ResetOn, RemoveOn}
 use Rattle.records.specs.Inner.{StandsBut, GoesBut, Goes, LooseAt, CanPlace, PlacesTo, CanFree, LeavesTo}
-use Rattle.records.proofs.laws.Inner.{goes-taken, goes-given, can-leave, goes-left, goes-placed, goes-freed}
+use Rattle.records.proofs.laws.Inner.{rests, sounds, goes-taken, goes-given, can-leave, goes-left, goes-placed, goes-freed}
 use Rattle.records.specs.Slices.{valueAt}
 use Rattle.records.specs.Found.{DeadlineNo, KeyIs}
 use Rattle.records.proofs.laws.Found.{key-names, names-key}
@@ -49,12 +49,13 @@ goes-then f G H =
       kept = past-then (G .size) (G .kept) (H .kept);
     }
 
-answered : {s : QueueWords} {v : View} {s′ : QueueWords} {a : Answer} {t : Told} → told a ≡ t → Goes s v s′ → Answered s a t v s′
-answered e G = record { told = e; sound = G .sound; view = G .view; kept = G .kept }
+answered : {s : QueueWords} {v : View} {s′ : QueueWords} {a : Answer} {t : Told} → AtRest s′ → s′ .until ≡ 0 → told a ≡ t → Goes s v s′
+    → Answered s a t v s′
+answered z u e G = record { told = e; sound = sounds (G .sound) z u; view = G .view; kept = G .kept }
 
 -- ---- insert
 
-module _ {s : QueueWords} (S : Sound s) (value when period : ℕ) where
+module _ {s : QueueWords} (S : Sound s) (rest : AtRest s) (value when period : ℕ) where
   free-head : s .wheel .stack .stacks .free ≡ headAt (s .wheel .stack) free
   free-head = sym (head-free (s .wheel .stack .stacks) (s .wheel .stack .heads))
 
@@ -97,13 +98,13 @@ module _ {s : QueueWords} (S : Sound s) (value when period : ℕ) where
       was = let q = Q .some (c .0) (c .1) (c .2) in c .2 ∙ ap (λ x. x ∷ c .1) (sym (q .0))
 
       abbrev s₁ : QueueWords
-      s₁ = queueWords t (s .values) (s .deadlines) (s .turns)
+      s₁ = queueWords t (s .values) (s .deadlines) (s .turns) (s .hand) (s .until)
 
       loose₁ : LooseAt s₁ item
       loose₁ = Q .some item (c .1) was .1
 
       G₁ : GoesBut item s (taken (c .1) (view s)) s₁
-      G₁ = goes-taken S was (Q .some item (c .1) was .2)
+      G₁ = goes-taken (rests S rest) was (Q .some item (c .1) was .2)
 
       pub item-below : item < count s
       item-below = omega (arith, loose₁ .below, G₁ .size)
@@ -117,7 +118,7 @@ module _ {s : QueueWords} (S : Sound s) (value when period : ℕ) where
       )
 
       abbrev s₂ : QueueWords
-      s₂ = queueWords t (given (s .values) item value period) (s .deadlines) (s .turns)
+      s₂ = queueWords t (given (s .values) item value period) (s .deadlines) (s .turns) (s .hand) (s .until)
 
       abbrev told-words : View → View
       told-words v = withPeriod (upd (v .period) item period) (withValue (upd (v .value) item value) v)
@@ -138,7 +139,7 @@ module _ {s : QueueWords} (S : Sound s) (value when period : ℕ) where
 
       pub insert-done : (k : ℕ) → k ≡ packed (at (s .turns) item) item → {u : WheelWords} {ds : List ℕ}
           → PlacesTo t (s .deadlines) item when u ds
-          → InsertOn s value when period (A.Key k) (queueWords u (given (s .values) item value period) ds (s .turns))
+          → InsertOn s value when period (A.Key k) (queueWords u (given (s .values) item value period) ds (s .turns) (s .hand) (s .until))
       insert-done k ek {u} {ds} P =
           let G₃ = goes-then (placed item when) G₂ (goes-placed (G₂ .sound) loose₁ when near P) in
           record {
@@ -150,7 +151,7 @@ module _ {s : QueueWords} (S : Sound s) (value when period : ℕ) where
                 let e : item ∷ c .1 ≡ r ∷ l = sym was ∙ f in
                 let a : item ≡ r = cc in
                 let b : c .1 ≡ l = cc in
-                rw (← a, ← b) (answered (ap T.key ek) G₃);
+                rw (← a, ← b) (answered rest (S .no-now rest) (ap T.key ek) G₃);
           }
 
 -- ---- reset and remove
@@ -167,7 +168,7 @@ names-one {s} S {key} {i} {p} {j} {q} M N =
           ∙ stack-laws.member-mark (S .standing .whole .stack) q j (N .pending .member),
     )
 
-module _ {s : QueueWords} (S : Sound s) (key when : ℕ) where
+module _ {s : QueueWords} (S : Sound s) (rest : AtRest s) (key when : ℕ) where
   -- the key names nobody
   pub reset-dead : ((i : ℕ) → KeyIs (count s) (s .turns) (s .wheel .stack .links .marks) key i → ⊥) → ResetOn s key when (A.No 6) s
   reset-dead h =
@@ -204,8 +205,8 @@ module _ {s : QueueWords} (S : Sound s) (key when : ℕ) where
           }
 
       module _ (z : n ≡ 0) {t : WheelWords} (Q : Leaves (s .wheel) i t) where
-        H₁ : GoesBut i s (left (markOf s i) i (view s)) (queueWords t (s .values) (s .deadlines) (s .turns))
-        H₁ = goes-left S (M .pending) Q
+        H₁ : GoesBut i s (left (markOf s i) i (view s)) (queueWords t (s .values) (s .deadlines) (s .turns) (s .hand) (s .until))
+        H₁ = goes-left (rests S rest) (M .pending) Q
 
         near-left : Near (t .elapsed) when
         near-left = let e : t .elapsed ≡ elapsed s = Q .becomes .elapsed in rw e (D .taken z .near)
@@ -214,7 +215,7 @@ module _ {s : QueueWords} (S : Sound s) (key when : ℕ) where
         reset-place = record { whole = H₁ .sound .standing .whole; item = Q .item; word = found-words .1; near = near-left }
 
         pub reset-done : {u : WheelWords} {ds : List ℕ} → PlacesTo t (s .deadlines) i when u ds
-            → ResetOn s key when A.Done (queueWords u (s .values) ds (s .turns))
+            → ResetOn s key when A.Done (queueWords u (s .values) ds (s .turns) (s .hand) (s .until))
         reset-done P =
             let H₂ = goes-then (placed i when) H₁ (goes-placed (H₁ .sound) (Q .item) when near-left P) in
             record {
@@ -222,12 +223,12 @@ module _ {s : QueueWords} (S : Sound s) (key when : ℕ) where
               old = λ r p N g. absurd (omega (arith, D .old g));
               far = λ r p N g. absurd (omega (arith, D .far g));
               other = λ r p N g. absurd (omega (arith, D .other g));
-              done = λ r p N g. let e = names-one S M N in rw (← e .0, ← e .1) (answered refl H₂);
+              done = λ r p N g. let e = names-one S M N in rw (← e .0, ← e .1) (answered rest (S .no-now rest) refl H₂);
             }
 
     module _ {t : WheelWords} (Q : Leaves (s .wheel) i t) where
-      H₃ : GoesBut i s (left (markOf s i) i (view s)) (queueWords t (s .values) (s .deadlines) (s .turns))
-      H₃ = goes-left S (M .pending) Q
+      H₃ : GoesBut i s (left (markOf s i) i (view s)) (queueWords t (s .values) (s .deadlines) (s .turns) (s .hand) (s .until))
+      H₃ = goes-left (rests S rest) (M .pending) Q
 
       pub remove-frees : CanFree t (s .turns) i
       remove-frees = record {
@@ -239,10 +240,10 @@ module _ {s : QueueWords} (S : Sound s) (key when : ℕ) where
 
       pub remove-done : (x w : ℕ) → x ≡ valueAt (s .values) i → w ≡ at (s .deadlines) i → {u : WheelWords} {ts : List ℕ}
           → LeavesTo t (s .turns) i u ts
-          → RemoveOn s key (A.Gone x w) (queueWords u (s .values) (s .deadlines) ts)
+          → RemoveOn s key (A.Gone x w) (queueWords u (s .values) (s .deadlines) ts (s .hand) (s .until))
       remove-done x w ex ew P =
           let H₄ = goes-then (freed i) H₃ (goes-freed (H₃ .sound) (Q .item) P) in
           record {
             dead = λ f. absurd (f i (markOf s i) M);
-            done = λ r p N. let e = names-one S M N in rw (← e .0, ← e .1) (answered (rw (ex, ew)) H₄);
+            done = λ r p N. let e = names-one S M N in rw (← e .0, ← e .1) (answered rest (S .no-now rest) (rw (ex, ew)) H₄);
           }

@@ -2,7 +2,7 @@
 use mathlib.Core.Path.{_≡_, refl, sym, ap, _∙_, subst}
 use mathlib.Core.Logic.{_≢_, ⊎-elim, by-cases}
 use mathlib.Core.Bool.{Bool, true, false}
-use mathlib.Core.List.{List, []}
+use mathlib.Core.List.{List, [], nil≢cons}
 use mathlib.Core.Option.{Option, none, some}
 use Prim.Native.Nat.{ℕ, suc, _+_, _*_, _^_, _≤_, _<_}
 use native.Mathlib.Decide.{ℕ-discrete, decLt}
@@ -19,31 +19,36 @@ use Rattle.links.proofs.laws.Count.{elem, cnt-ext, cnt-elem, mem-elem, elem-mem
 use Rattle.links.proofs.laws.Judge.{cat, mem-cat, cat-mem, cat-nodup}
 use Rattle.stack.specs.Places.{slots, expired, free}
 use Rattle.stack.proofs.laws.Whole as stack-laws
-use Rattle.wheel.specs.Wheel.{Polls}
+use Rattle.wheel.specs.Limited.{Outcome, ended as stopped, yet, Limited}
+use Rattle.wheel.specs.Midway.{Obeys}
 use Rattle.wheel.proofs.laws.Sums.{mem-change, mem-left, total-zero, total-scale, hits}
-use Rattle.wheel.proofs.laws.Between.{rule-less, rule-between}
-use Rattle.wheel.proofs.laws.Poll.{given, Promise, waits-on, poll-law}
+use Rattle.wheel.proofs.laws.Between.{rule-less}
+use Rattle.wheel.proofs.laws.Poll.{given}
+use Rattle.wheel.proofs.laws.Passed.{givenBy, Passed, polled-passed, passed-on}
 use Rattle.wheel.specs.declared.Wake.{Wake}
 use Rattle.wheel.specs.declared.Wake.the-variants.{At as Wake·At, Never}
 use Rattle.wheel.specs.Expiration.{WakeIs}
 use Rattle.wheel.specs.Words.{WheelWords, wheelWords, Becomes, LooseIn, Pops, CanLeave, Leaves, lists as listsIn}
-use Rattle.wheel.specs.Turns.{CanPoll, PollsTo, gotten}
+use Rattle.wheel.specs.Turns.{CanPoll, PollsTo, gotten, outcome}
 use Rattle.wheel.proofs.laws.Turns.{popped-empty, popped-cons}
 use Rattle.queue.specs.declared.Answer.{Answer}
 use Rattle.queue.specs.declared.Answer.the-variants as A
 use Rattle.queue.specs.Told.{Told, told, out, wake, never}
-use Rattle.records.specs.View.{View, withElapsed, withLists}
+use Rattle.queue.specs.Told as T
+use Rattle.records.specs.View.{View, withElapsed, withLists, withHand}
 use Rattle.records.specs.Records.{lastTurn, packed, At, NoMore, left, freed}
-use Rattle.queue.specs.Steps.{TakesOut, popped, polled, GoesOn, once, again, ended, QueuePolls, handed, nothing, Wakes, sleeps, starts, NextWake, at-once, from-wheel, pending, Clears, begun, kept, gave}
+use Rattle.queue.specs.Steps.{TakesOut, popped, polled, GoesOn, once, again, ended, QueuePolls, handed, nothing}
+use Rattle.queue.specs.Steps.{TakesSome, popped-some, polled-some, PollsSome, handed-some, nothing-some, not-yet, PollsRest, handed-rest, nothing-rest}
+use Rattle.queue.specs.Steps.{Wakes, sleeps, starts, NextWake, at-once, from-wheel, pending, Clears, begun, kept, gave}
 use Rattle.records.specs.Slices.{valueAt, periodAt}
-use Rattle.records.specs.Words.{QueueWords, queueWords, count, elapsed, markOf, view, Standing, SoundBut, Sound, PastKept}
+use Rattle.records.specs.Words.{QueueWords, queueWords, holding, count, elapsed, markOf, view, Standing, SoundBut, AtRest, Sound, PastKept}
 use Rattle.records.proofs.laws.Words.{past-refl, past-then}
-use Rattle.queue.specs.Calls.{PollOn, ClearOn}
+use Rattle.queue.specs.Calls.{SomeOn, PollsOn, ClearOn}
 use Rattle.records.specs.Inner.{StandsBut, GoesBut, Goes, LooseAt, CanPlace, PlacesTo, CanFree, LeavesTo}
-use Rattle.records.proofs.laws.Inner.{with-rule, loose-out, StayBut, stay-all, stay-popped, stands-wheel, stands-lists, can-leave, mem-without, stands-left, stands-freed, goes-placed, goes-freed, left-size, placed-size, freed-size}
+use Rattle.records.proofs.laws.Inner.{with-rule, sounds, stands-hold, loose-out, StayBut, stay-all, stay-popped, stands-wheel, stands-lists, can-leave, mem-without, stands-left, stands-freed, goes-placed, goes-freed, left-size, placed-size, freed-size}
 use Rattle.records.proofs.laws.Again.{again-near}
 use Rattle.queue.proofs.laws.Calls.{stands-then}
-use Rattle.queue.specs.Inner.{CanPollIdx, PollsIdx, of-stack, of-wheel, HandsOut, Shows, pendingIn, ClearsOne}
+use Rattle.queue.specs.Inner.{CanPollIdx, PollsIdx, of-stack, of-wheel, PollNo, HandsOut, Shows, pendingIn, ClearsOne}
 
 -- ---- a loose record is handed out, and freed or placed again
 
@@ -73,21 +78,24 @@ module _ {s : QueueWords} {i : ℕ} (S : SoundBut i s) (o : LooseAt s i) where
 
     -- it has no period
     pub out-done : periodAt (s .values) i ≡ 0 → {t : WheelWords} {ts : List ℕ} → LeavesTo (s .wheel) (s .turns) i t ts
-        → HandsOut s i moves drains (A.Out k (valueAt (s .values) i) (at (s .deadlines) i) moves drains) (queueWords t (s .values) (s .deadlines) ts)
+        → HandsOut s i moves drains (A.Out k (valueAt (s .values) i) (at (s .deadlines) i) moves drains)
+        (queueWords t (s .values) (s .deadlines) ts (s .hand) (s .until))
     out-done z P = hands-out (rw e (once z)) (goes-freed S o P)
 
     module _ (d : periodAt (s .values) i ≢ 0) where
       -- it is set again
       pub out-again : {w : ℕ} → (w ≡ next) × (NoMore (elapsed s) next → ⊥) → {t : WheelWords} {ds : List ℕ}
           → PlacesTo (s .wheel) (s .deadlines) i w t ds
-          → HandsOut s i moves drains (A.Out k (valueAt (s .values) i) (at (s .deadlines) i) moves drains) (queueWords t (s .values) ds (s .turns))
+          → HandsOut s i moves drains (A.Out k (valueAt (s .values) i) (at (s .deadlines) i) moves drains)
+          (queueWords t (s .values) ds (s .turns) (s .hand) (s .until))
       out-again {w} A P =
           hands-out (rw e (again (omega arith) (A .1)))
           (goes-placed S o next (again-near (A .1)) (rw (A .0) at P))
 
       -- it is set no more
       pub out-last : NoMore (elapsed s) next → {t : WheelWords} {ts : List ℕ} → LeavesTo (s .wheel) (s .turns) i t ts
-          → HandsOut s i moves drains (A.Last k (valueAt (s .values) i) (at (s .deadlines) i) moves drains) (queueWords t (s .values) (s .deadlines) ts)
+          → HandsOut s i moves drains (A.Last k (valueAt (s .values) i) (at (s .deadlines) i) moves drains)
+          (queueWords t (s .values) (s .deadlines) ts (s .hand) (s .until))
       out-last f P = hands-out (rw e (ended (omega arith) f)) (goes-freed S o P)
 
 -- ---- poll
@@ -99,19 +107,26 @@ not-given {i} {x} d =
     (λ z. rw (eq-eqb i nobody z))
     (λ z. rw (ne-eqb i nobody z, ne-eqb i x d))
 
+-- and so with a limit
+none-given : {i x : ℕ} (to : ℕ) → i ≢ x → givenBy (hits x) (outcome i to) ≡ 0
+none-given {i} {x} to d =
+    by-cases (ℕ-discrete to nobody)
+    (λ z. rw (eq-eqb to nobody z) (not-given d))
+    (λ z. rw (ne-eqb to nobody z))
+
 -- who has left its list goes on by the words that it had
-goes-on-from : {v u : View} {now a b r m n : ℕ} {got : Option ℕ} {x : Told} {w : View} → TakesOut v now got a b u → GoesOn u r m n u x w
-    → GoesOn v r m n u x w
-goes-on-from (popped e) (once z) = once z
-goes-on-from (popped e) (again p f) = again p f
-goes-on-from (popped e) (ended p f) = ended p f
-goes-on-from (polled e P) (once z) = once z
-goes-on-from (polled e P) (again p f) = again p f
-goes-on-from (polled e P) (ended p f) = ended p f
+goes-on-from : {v u : View} {now limit a b r m n : ℕ} {got : Option ℕ} {x : Told} {w : View} → TakesSome v now limit (stopped got) a b u
+    → GoesOn u r m n u x w → GoesOn v r m n u x w
+goes-on-from (popped-some e) (once z) = once z
+goes-on-from (popped-some e) (again p f) = again p f
+goes-on-from (popped-some e) (ended p f) = ended p f
+goes-on-from (polled-some e P) (once z) = once z
+goes-on-from (polled-some e P) (again p f) = again p f
+goes-on-from (polled-some e P) (ended p f) = ended p f
 
 -- the expired stack is empty, and the wheel can be polled
-pub wheel-can : {t u : WheelWords} {ds : List ℕ} {time first : ℕ} → CanPollIdx t ds time → Pops t expired first u → first ≡ nobody
-    → CanPoll u ds time
+pub wheel-can : {t u : WheelWords} {ds : List ℕ} {hand time first : ℕ} → CanPollIdx t ds hand time → Pops t expired first u → first ≡ nobody
+    → CanPoll u ds hand time
 wheel-can C Q z =
     let empty = popped-empty (C .whole) Q z in
     let B = Q .none empty .1 in
@@ -119,34 +134,103 @@ wheel-can C Q z =
       whole = B .whole;
       rule = rw (B .elapsed, B .lists) (C .rule);
       stack = ap (λ L. L expired) (B .lists) ∙ empty;
-      not-back = omega (arith, B .elapsed, C .not-back);
+      not-back = λ h. omega (arith, B .elapsed, C .not-back h);
       deadlines = omega (arith, B .kept .size, C .deadlines);
     }
 
-module _ {s : QueueWords} (S : Sound s) (time : ℕ) where
-  pub poll-back : time < elapsed s → PollOn s time (A.No 7) s
-  poll-back h = record { back = λ g. record { told = refl; same = refl }; done = λ g. absurd (omega arith) }
+-- ---- the number
 
-  module _ (not-back : elapsed s ≤ time) where
-    pub poll-can : CanPollIdx (s .wheel) (s .deadlines) time
-    poll-can = record { whole = S .standing .whole; rule = S .rule; not-back = not-back; deadlines = S .standing .fits .room .deadlines }
+module _ {e hand until time : ℕ} where
+  pub no-other : hand ≢ nobody → time ≢ until → PollNo e hand until time 12
+  no-other d n =
+      record {
+        other = λ _ _. refl;
+        back = λ z. absurd (d z);
+        same = λ z. absurd (omega arith);
+        later = λ z. absurd (omega arith);
+        held = λ _ z. absurd (n z);
+        free = λ z. absurd (d z);
+      }
 
-    -- the store with the wheel t, from which i was taken, if anybody
-    abbrev polledTo : WheelWords → QueueWords
-    polledTo t = queueWords t (s .values) (s .deadlines) (s .turns)
+  pub no-same : hand ≢ nobody → time ≡ until → PollNo e hand until time 0
+  no-same d n =
+      record {
+        other = λ _ z. absurd (z n);
+        back = λ z. absurd (d z);
+        same = λ _ _. n;
+        later = λ _ z. absurd (d z);
+        held = λ _ _. refl;
+        free = λ z. absurd (d z);
+      }
 
+  pub no-back : hand ≡ nobody → time < e → PollNo e hand until time 7
+  no-back z h =
+      record {
+        other = λ d. absurd (d z);
+        back = λ _ _. refl;
+        same = λ q. absurd (omega arith);
+        later = λ q. absurd (omega arith);
+        held = λ d. absurd (d z);
+        free = λ _ g. absurd (omega (arith, g, h));
+      }
+
+  pub no-none : hand ≡ nobody → e ≤ time → PollNo e hand until time 0
+  no-none z h =
+      record {
+        other = λ d. absurd (d z);
+        back = λ _ g. absurd (omega (arith, g, h));
+        same = λ _ d. absurd (d z);
+        later = λ _ _. h;
+        held = λ d. absurd (d z);
+        free = λ _ _. refl;
+      }
+
+-- ---- the poll
+
+module _ {s : QueueWords} (S : Sound s) (time limit : ℕ) {no : ℕ} (N : PollNo (elapsed s) (s .hand) (s .until) time no) where
+  pub poll-refused : no ≢ 0 → PollsOn s time limit (A.No no) s
+  poll-refused d =
+      record {
+        other = λ h g. record { told = ap T.no (N .other h g); same = refl };
+        same = λ h g. absurd (d (N .held h g));
+        free = λ z. record { back = λ h. record { told = ap T.no (N .back z h); same = refl }; done = λ h. absurd (d (N .free z h)) };
+      }
+
+  module _ (ok : no ≡ 0) where
+    rule-now : Obeys (view s .deadline) time (s .hand) (view s .elapsed) (view s .lists)
+    rule-now =
+        record {
+          free = S .rule .free;
+          inside = λ d. rw (N .same ok d) (S .rule .inside d);
+        }
+
+    pub poll-can : CanPollIdx (s .wheel) (s .deadlines) (s .hand) time
+    poll-can =
+        record { whole = S .standing .whole; rule = rule-now; not-back = N .later ok; deadlines = S .standing .fits .room .deadlines }
+
+    -- the store with the wheel t, and the drain of h in hand, of a poll at u
+    abbrev polledTo : WheelWords → ℕ → ℕ → QueueWords
+    polledTo t h u = queueWords t (s .values) (s .deadlines) (s .turns) h u
+
+    -- it has ended, and i was taken from the wheel, if anybody
     abbrev Taken : ℕ → ℕ → ℕ → WheelWords → Type 0
-    Taken i m n t = (v : View) × TakesOut (view s) time (gotten i) m n v × GoesBut i s v (polledTo t) × (i ≢ nobody → LooseIn t i)
+    Taken i m n t =
+        (v : View) × TakesSome (view s) time limit (stopped (gotten i)) m n v × GoesBut i s v (polledTo t nobody 0) × (i ≢ nobody → LooseIn t i)
 
-    -- the expired stack has a first
+    -- the expired stack has a first: so no poll is in hand
     taken-stack : {i : ℕ} {t : WheelWords} → Pops (s .wheel) expired i t → i ≢ nobody → Taken i 0 0 t
     taken-stack {i} {t} Q d =
         let (l, was) = popped-cons (S .standing .whole) Q d in
-        let (same, loose, B) = Q .some i l was in (
+        let (same, loose, B) = Q .some i l was in
+        let rest : AtRest s = by-cases (ℕ-discrete (s .hand) nobody) (λ z. z)
+        (λ z. absurd (nil≢cons (sym (S .rule .inside z .stack) ∙ was))) in
+        let G : GoesBut i s (withLists (change (view s .lists) expired l) (view s)) (polledTo t (s .hand) (s .until))
+        = with-rule (stands-lists (S .standing) B (stay-popped (view s .lists) expired i l was))
+        (rule-less (S .rule .free rest) (mem-left (view s .lists) expired i l was)) in
+        let e : polledTo t (s .hand) (s .until) ≡ polledTo t nobody 0 = λ j. polledTo t (rest j) (S .no-now rest j) in (
           withLists (change (view s .lists) expired l) (view s),
-          rw (ne-eqb i nobody d) (popped was),
-          with-rule (stands-lists (S .standing) B (stay-popped (view s .lists) expired i l was))
-              (rule-less (S .rule) (mem-left (view s .lists) expired i l was)),
+          rw (ne-eqb i nobody d) (popped-some was),
+          subst (GoesBut i s (withLists (change (view s .lists) expired l) (view s))) e G,
           λ d. loose,
         )
 
@@ -158,50 +242,92 @@ module _ {s : QueueWords} (S : Sound s) (time : ℕ) where
       B : Becomes (s .wheel) (view s .lists) u
       B = Q .none empty .1
 
-      module _ {i m n : ℕ} {t : WheelWords} (R : PollsTo (at (s .deadlines)) time u i m n t) where
-        polls : Polls (view s .deadline) time (view s .elapsed) (view s .lists) (gotten i) m n (t .elapsed) (listsIn t)
+      module _ {i to m n : ℕ} {t : WheelWords} (R : PollsTo (at (s .deadlines)) time limit (s .hand) u i to m n t) where
+        polls : Limited (view s .deadline) time (gotten (s .hand)) limit (view s .elapsed) (view s .lists) (outcome i to) m n (t .elapsed) (listsIn t)
         polls = rw (B .elapsed, B .lists) at (R .polls)
 
-        promise : Promise (view s .deadline) time (view s .elapsed) (view s .lists) (gotten i) m n (t .elapsed) (listsIn t)
-        promise = poll-law (rule-between (S .rule)) empty not-back polls
+        passed : Passed (view s .lists) (outcome i to) m (listsIn t)
+        passed = rw (B .lists) at (polled-passed (wheel-can poll-can Q absent) R)
 
         -- only i has left the lists
         stays : StayBut i (view s .lists) (listsIn t)
         stays p x k d =
             by-cases (decLt p slots)
-            (λ h. let w = waits-on promise x (not-given (λ z. d (sym z))) (p, h, k) in (w .0, w .2))
-            (λ h. (p, rw (promise .aside p (omega arith)) k))
+            (λ h. let w = passed-on passed x (none-given to (λ z. d (sym z))) (p, h, k) in (w .0, w .2))
+            (λ h. (p, rw (passed .aside p (omega arith)) k))
 
-        taken-wheel : Taken i m n t
-        taken-wheel = (
-          _,
-          polled empty polls,
-          with-rule (stands-wheel (S .standing) (R .whole) (stack-laws.kept-trans (B .kept) (R .kept)) refl refl stays) (R .rule),
-          R .loose,
-        )
+        stood : StandsBut i s (withElapsed (t .elapsed) (withLists (listsIn t) (view s))) (polledTo t (s .hand) (s .until))
+        stood = stands-wheel (S .standing) (R .whole) (stack-laws.kept-trans (B .kept) (R .kept)) refl refl stays
 
-    taken : {i m n : ℕ} {t : WheelWords} → PollsIdx (at (s .deadlines)) time (s .wheel) i m n t → Taken i m n t
-    taken (of-stack Q d) = taken-stack Q d
-    taken (of-wheel Q z R) = taken-wheel Q z R
+        taken-wheel : to ≡ nobody → Taken i m n t
+        taken-wheel z =
+            let o : outcome i to ≡ stopped (gotten i) = rw (eq-eqb to nobody z) in (
+              _,
+              polled-some empty (rw o at polls),
+              with-rule (stands-hold stood nobody 0) (R .rule .free z),
+              R .loose,
+            )
 
-    ends : {a : Answer} {s′ : QueueWords} → Sound s′ → QueuePolls (view s) time (told a) (view s′) → PastKept (count s) s s′
-        → PollOn s time a s′
-    ends W r K = record { back = λ h. absurd (omega arith); done = λ h. (W, r, K) }
+        -- it has not
+        taken-yet : (d : to ≢ nobody) → SomeOn s time limit (A.NotYet m n) (polledTo t to time)
+        taken-yet d =
+            let o : outcome i to ≡ yet to = rw (ne-eqb to nobody d) in
+            let T : TakesSome (view s) time limit (yet to) m n (withHand to time (withElapsed (t .elapsed) (withLists (listsIn t) (view s))))
+            = polled-some empty (rw o at polls) in
+            let P = stands-hold (stands-wheel (S .standing) (R .whole) (stack-laws.kept-trans (B .kept) (R .kept)) refl refl (stay-yet d)) to time in (
+              record { standing = P .standing; rule = R .rule; no-now = λ z. absurd (d z) },
+              rw (P .view) (not-yet T),
+              P .kept,
+            )
+          where
+            stay-yet : to ≢ nobody → StayBut nobody (view s .lists) (listsIn t)
+            stay-yet d p x k e =
+                let o : outcome i to ≡ yet to = rw (ne-eqb to nobody d) in
+                by-cases (decLt p slots)
+                (λ h. let w = passed-on passed x (ap (givenBy (hits x)) o) (p, h, k) in (w .0, w .2))
+                (λ h. (p, rw (passed .aside p (omega arith)) k))
 
-    module _ {i m n : ℕ} {t : WheelWords} (P : PollsIdx (at (s .deadlines)) time (s .wheel) i m n t) where
-      pub poll-none : i ≡ nobody → PollOn s time (A.Nothing m n) (polledTo t)
-      poll-none z =
-          let (v, T, G, o) = taken P in
-          ends (rw z at (G .sound)) (rw (G .view) (nothing (rw (eq-eqb i nobody z) at T))) (G .kept)
+    taken : {i to m n : ℕ} {t : WheelWords} → PollsIdx (at (s .deadlines)) time limit (s .hand) (s .wheel) i to m n t → to ≡ nobody → Taken i m n t
+    taken (of-stack Q d) z = taken-stack Q d
+    taken (of-wheel Q e R) z = taken-wheel Q e R z
 
-      pub poll-loose : i ≢ nobody → SoundBut i (polledTo t) × LooseAt (polledTo t) i
-      poll-loose d = let (v, T, G, o) = taken P in (G .sound, o d)
+    -- what is owed, whether it began or went on
+    ends : {a : Answer} {s′ : QueueWords} → SomeOn s time limit a s′ → PollsOn s time limit a s′
+    ends x =
+        record {
+          other = λ d e. absurd (e (N .same ok d));
+          same = λ _ _. x;
+          free = λ z. record { back = λ h. absurd (omega (arith, h, N .later ok z)); done = λ _. x };
+        }
 
-      pub poll-handed : i ≢ nobody → {a : Answer} {s′ : QueueWords} → HandsOut (polledTo t) i m n a s′ → PollOn s time a s′
-      poll-handed d {a} {s′} H =
-          let (v, T, G, o) = taken P in
-          ends (H .sound) (handed (rw (ne-eqb i nobody d) at T) (goes-on-from T (subst (λ z. GoesOn z i m n z (told a) (view s′)) (G .view) (H .goes-on))))
-          (past-then (G .size) (G .kept) (H .kept))
+    module _ {i to m n : ℕ} {t : WheelWords} (P : PollsIdx (at (s .deadlines)) time limit (s .hand) (s .wheel) i to m n t) where
+      pub poll-yet : to ≢ nobody → PollsOn s time limit (A.NotYet m n) (polledTo t to time)
+      poll-yet d = ends (by P d)
+        where
+          by : {i to m n : ℕ} {t : WheelWords} → PollsIdx (at (s .deadlines)) time limit (s .hand) (s .wheel) i to m n t → to ≢ nobody
+              → SomeOn s time limit (A.NotYet m n) (polledTo t to time)
+          by (of-stack Q e) d = absurd (d refl)
+          by (of-wheel Q e R) d = taken-yet Q e R d
+
+      module _ (z : to ≡ nobody) where
+        pub poll-none : i ≡ nobody → PollsOn s time limit (A.Nothing m n) (polledTo t nobody 0)
+        poll-none w =
+            let (v, T, G, o) = taken P z in
+            ends (sounds (rw w at (G .sound)) refl refl, rw (G .view) (nothing-some (rw (eq-eqb i nobody w) at T)), G .kept)
+
+        pub poll-loose : i ≢ nobody → SoundBut i (polledTo t nobody 0) × LooseAt (polledTo t nobody 0) i
+        poll-loose d = let (v, T, G, o) = taken P z in (G .sound, o d)
+
+        pub poll-handed : i ≢ nobody → {a : Answer} {s′ : QueueWords} → AtRest s′ → s′ .until ≡ 0 → HandsOut (polledTo t nobody 0) i m n a s′
+            → PollsOn s time limit a s′
+        poll-handed d {a} {s′} rest u H =
+            let (v, T, G, o) = taken P z in
+            ends (
+              sounds (H .sound) rest u,
+              handed-some (rw (ne-eqb i nobody d) at T)
+                  (goes-on-from T (subst (λ z. GoesOn z i m n z (told a) (view s′)) (G .view) (H .goes-on))),
+              past-then (G .size) (G .kept) (H .kept),
+            )
 
 -- ---- next wake
 
@@ -302,7 +428,7 @@ module _ {s : QueueWords} (S : Standing s) {i : ℕ} (h : i < count s) where
 
     module _ {t : WheelWords} (Q : Leaves (s .wheel) i t) where
       abbrev s₃ : QueueWords
-      s₃ = queueWords t (s .values) (s .deadlines) (s .turns)
+      s₃ = queueWords t (s .values) (s .deadlines) (s .turns) (s .hand) (s .until)
 
       G₄ : StandsBut i s (left (markOf s i) i (view s)) s₃
       G₄ = stands-left S (at-mark S h g) Q
@@ -311,11 +437,11 @@ module _ {s : QueueWords} (S : Standing s) {i : ℕ} (h : i < count s) where
       clear-frees = record { whole = G₄ .standing .whole; item = Q .item; word = omega arith; turn = S .turns i h .1 }
 
       pub clear-goes : {u : WheelWords} {ts : List ℕ} → LeavesTo t (s .turns) i u ts
-          → ClearsOne s i (queueWords u (s .values) (s .deadlines) ts)
+          → ClearsOne s i (queueWords u (s .values) (s .deadlines) ts (s .hand) (s .until))
       clear-goes {u} {ts} P =
           let H = stands-freed (G₄ .standing) (Q .item) P in
           let G = stands-then (freed i) G₄ H in
-          let before : (j p : ℕ) → At (view (queueWords u (s .values) (s .deadlines) ts)) j p → At (view s₃) j p
+          let before : (j p : ℕ) → At (view (queueWords u (s .values) (s .deadlines) ts (s .hand) (s .until))) j p → At (view s₃) j p
           = λ j p a. freed-at i (view s₃) j p (rw (H .view) at a) in
           record {
             stays = λ f. absurd (f (markOf s i) (at-mark S h g));
@@ -357,23 +483,49 @@ clear-turn {s} {s₁} {s₂} {i} C h Q =
         (omega (arith, stack-laws.member-mark (C .standing .whole .stack) p i (a .member))) in
         rw (Q .stays out) (kept (C .clears) out)
 
--- nobody is pending, and elapsed is 0
-pub clear-done : {s s₁ : QueueWords} {i : ℕ} → ClearedSo s i s₁ → i ≡ count s
-    → ClearOn s A.Done (queueWords (wheelWords 0 (s₁ .wheel .occupied) (s₁ .wheel .stack)) (s₁ .values) (s₁ .deadlines) (s₁ .turns))
-clear-done {s} {s₁} {i} C e =
+-- freeing and unlinking do not ask for the poll in hand
+freed-hold : (k h u : ℕ) (v : View) → freed k (withHand h u v) ≡ withHand h u (freed k v)
+unfolding freed
+freed-hold k h u v =
+    by-cases (ℕ-discrete (v .turn k) lastTurn)
+    (λ z. rw (eq-eqb (v .turn k) lastTurn z))
+    (λ z. rw (ne-eqb (v .turn k) lastTurn z))
+
+left-hold : (p k h u : ℕ) (v : View) → left p k (withHand h u v) ≡ withHand h u (left p k v)
+unfolding left
+left-hold p k h u v = refl
+
+clears-hold : {v : View} {k : ℕ} {w : View} → Clears v k w → (h u : ℕ) → Clears (withHand h u v) k (withHand h u w)
+clears-hold begun h u = begun
+clears-hold (kept r n) h u = kept (clears-hold r h u) (λ p a. n p (record { timed = a .timed; member = a .member }))
+clears-hold {v} (gave {k} {p} {u = w} r a) h u =
+    subst (Clears (withHand h u v) (suc k)) (ap (freed k) (left-hold p k h u w) ∙ freed-hold k h u (left p k w))
+    (gave (clears-hold r h u) (record { timed = a .timed; member = a .member }))
+
+-- nobody is pending, elapsed is 0, and no poll is in hand
+pub clear-done : {s s₁ : QueueWords} {i : ℕ} → ClearedSo s i s₁ → i ≡ count s → (h u : ℕ)
+    → ClearOn (holding h u s) A.Done
+    (queueWords (wheelWords 0 (s₁ .wheel .occupied) (s₁ .wheel .stack)) (s₁ .values) (s₁ .deadlines) (s₁ .turns) nobody 0)
+clear-done {s} {s₁} {i} C e h u =
     let S = C .standing in
     let out : (p x : ℕ) → p < free → Mem x (view s₁ .lists p) → ⊥
     = λ p x h m. C .gone x (omega (arith, stack-laws.member-below (S .whole .stack) p x m)) p (record { timed = h; member = m }) in
-    let G : Goes s₁ (withElapsed 0 (view s₁))
-    (queueWords (wheelWords 0 (s₁ .wheel .occupied) (s₁ .wheel .stack)) (s₁ .values) (s₁ .deadlines) (s₁ .turns))
+    let G : Goes s₁ (withHand nobody 0 (withElapsed 0 (view s₁)))
+    (queueWords (wheelWords 0 (s₁ .wheel .occupied) (s₁ .wheel .stack)) (s₁ .values) (s₁ .deadlines) (s₁ .turns) nobody 0)
     = with-rule
-    (stands-wheel S (record { stack = S .whole .stack; rows = S .whole .rows }) (stack-laws.kept-refl (s₁ .wheel .stack)) refl refl
-    (stay-all nobody (view s₁ .lists)))
+    (stands-hold (stands-wheel S (record { stack = S .whole .stack; rows = S .whole .rows }) (stack-laws.kept-refl (s₁ .wheel .stack)) refl refl
+    (stay-all nobody (view s₁ .lists))) nobody 0)
     (record { wheel = λ p x h m. absurd (out p x (omega arith) m); stack = λ x m. absurd (out expired x (omega arith) m) }) in
+    let K = past-then (C .size) (C .kept) (G .kept) in
     record {
-      cleared = view s₁;
-      clears = subst (λ k. Clears (view s) k (view s₁)) e (C .clears);
-      done = record { told = refl; sound = G .sound; view = G .view; kept = past-then (C .size) (C .kept) (G .kept) };
+      cleared = withHand h u (view s₁);
+      clears = clears-hold (subst (λ k. Clears (view s) k (view s₁)) e (C .clears)) h u;
+      done = record {
+        told = refl;
+        sound = sounds (G .sound) refl refl;
+        view = G .view;
+        kept = record { links = K .links; values = K .values; deadlines = K .deadlines; turns = K .turns };
+      };
     }
 
 -- ---- there are as many records as before
@@ -390,6 +542,20 @@ goes-on-size {r = r} {u = u} (ended p f) = freed-size r u
 pub polls-size : {v : View} {now : ℕ} {x : Told} {u : View} → QueuePolls v now x u → u .n ≡ v .n
 polls-size (handed T G) = goes-on-size G ∙ takes-size T
 polls-size (nothing T) = takes-size T
+
+takes-some-size : {v : View} {now limit : ℕ} {o : Outcome} {m n : ℕ} {u : View} → TakesSome v now limit o m n u → u .n ≡ v .n
+takes-some-size (popped-some e) = refl
+takes-some-size (polled-some {o = stopped got} e P) = refl
+takes-some-size (polled-some {o = yet p} e P) = refl
+
+pub some-size : {v : View} {now limit : ℕ} {x : Told} {u : View} → PollsSome v now limit x u → u .n ≡ v .n
+some-size (handed-some T G) = goes-on-size G ∙ takes-some-size T
+some-size (nothing-some T) = takes-some-size T
+some-size (not-yet T) = takes-some-size T
+
+pub rest-size : {v : View} {now : ℕ} {x : Told} {u : View} → PollsRest v now x u → u .n ≡ v .n
+rest-size (handed-rest T G) = goes-on-size G ∙ takes-some-size T
+rest-size (nothing-rest T) = takes-some-size T
 
 pub clears-size : {v : View} {k : ℕ} {u : View} → Clears v k u → u .n ≡ v .n
 clears-size begun = refl

@@ -50,7 +50,7 @@ same-length-2 c = search needs
 
 returns : tie.Need-returns
 returns c =
-    remove-dead (to-start (c .before .before .before) .pre) _ 0 (find-nowhere (c .before .before .find .ensures) (c .enum-told .given .1))
+    remove-dead (to-start (c .before .before .before) .pre) refl _ 0 (find-nowhere (c .before .before .find .ensures) (c .enum-told .given .1))
 
 cast-k : tie.Need-cast-k
 cast-k c = search needs
@@ -65,7 +65,7 @@ shared-slice-read-value : tie.Need-shared-slice-read-value
 shared-slice-read-value c =
     let at-found = c .before .before in
     let at-find = at-found .before .before in
-    found-words (to-start (at-find .before) .pre) _ 0 (find-at (at-find .find .ensures) _ (at-found .found .given .1)) .0
+    found-words (to-start (at-find .before) .pre) refl _ 0 (find-at (at-find .find .ensures) _ (at-found .found .given .1)) .0
 
 mul-deadline : tie.Need-mul-deadline
 mul-deadline c = search needs
@@ -74,20 +74,20 @@ shared-slice-read-deadline : tie.Need-shared-slice-read-deadline
 shared-slice-read-deadline c =
     let at-found = c .before .before .before in
     let at-find = at-found .before .before in
-    found-words (to-start (at-find .before) .pre) _ 0 (find-at (at-find .find .ensures) _ (at-found .found .given .1)) .1
+    found-words (to-start (at-find .before) .pre) refl _ 0 (find-at (at-find .find .ensures) _ (at-found .found .given .1)) .1
 
 remove-requires : tie.Need-remove-requires
 remove-requires c κs =
     let at-found = to-found c in
     let at-find = at-found .before .before in
-    found-leaves (to-start (at-find .before) .pre) _ 0 (find-at (at-find .find .ensures) _ (at-found .found .given .1))
+    found-leaves (to-start (at-find .before) .pre) refl _ 0 (find-at (at-find .find .ensures) _ (at-found .found .given .1))
 
 leave-requires : tie.Need-leave-requires
 leave-requires c κs =
     let at-remove = to-remove c in
     let at-found = to-found (at-remove .before) in
     let at-find = at-found .before .before in
-    remove-frees (to-start (at-find .before) .pre) _ 0 (find-at (at-find .find .ensures) _ (at-found .found .given .1)) (at-remove .remove .ensures)
+    remove-frees (to-start (at-find .before) .pre) refl _ 0 (find-at (at-find .find .ensures) _ (at-found .found .given .1)) (at-remove .remove .ensures)
 
 same-length-3 : tie.Need-same-length-3
 same-length-3 c = search needs
@@ -107,7 +107,7 @@ returns-2 c =
     let at-remove = to-remove (at-leave .before) in
     let at-found = to-found (at-remove .before) in
     let at-find = at-found .before .before in
-    remove-done (to-start (at-find .before) .pre) _ 0 (find-at (at-find .find .ensures) _ (at-found .found .given .1))
+    remove-done (to-start (at-find .before) .pre) refl _ 0 (find-at (at-find .find .ensures) _ (at-found .found .given .1))
     (at-remove .remove .ensures) _ _ refl refl (at-leave .leave .ensures)
 
 pub remove-spec : {M : Type 1} → statement M

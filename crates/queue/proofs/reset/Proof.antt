@@ -1,5 +1,6 @@
 -- `reset` meets its contract: a dead key, a deadline that is refused, or unlinked and placed (`reset-done`).
 use borrow.Author.Needs.{needs}
+use mathlib.Core.Path.{refl}
 use Rattle.records.proofs.laws.Found.{find-at, find-nowhere}
 use Rattle.queue.proofs.laws.Calls.{find-room, reset-dead, found-leaves, reset-refused, reset-place, reset-done}
 use Rattle.queue.proofs.reset.Statement.{statement}
@@ -44,7 +45,7 @@ same-length c = search needs
 
 returns : tie.Need-returns
 returns c =
-    reset-dead (to-start (c .before .before .before) .pre) _ _ (find-nowhere (c .before .before .find .ensures) (c .enum-told .given .1))
+    reset-dead (to-start (c .before .before .before) .pre) refl _ _ (find-nowhere (c .before .before .find .ensures) (c .enum-told .given .1))
 
 deadline-no-requires : tie.Need-deadline-no-requires
 deadline-no-requires c κs = search needs
@@ -55,14 +56,14 @@ same-length-2 c = search needs
 returns-2 : tie.Need-returns-2
 returns-2 c =
     let at-find = to-find (c .before .before .before) in
-    reset-refused (to-start (at-find .before) .pre) _ _ (find-at (at-find .find .ensures) _ (c .before .before .before .found .given .1))
+    reset-refused (to-start (at-find .before) .pre) refl _ _ (find-at (at-find .find .ensures) _ (c .before .before .before .found .given .1))
     (c .before .deadline-no .ensures) (c .if1 .taken)
 
 remove-requires : tie.Need-remove-requires
 remove-requires c κs =
     let at-found = to-else1 c .before .before .before in
     let at-find = at-found .before .before in
-    found-leaves (to-start (at-find .before) .pre) _ 0 (find-at (at-find .find .ensures) _ (at-found .found .given .1))
+    found-leaves (to-start (at-find .before) .pre) refl _ 0 (find-at (at-find .find .ensures) _ (at-found .found .given .1))
 
 place-requires : tie.Need-place-requires
 place-requires c κs =
@@ -71,7 +72,7 @@ place-requires c κs =
     let at-deadline-no = else1 .before in
     let at-found = at-deadline-no .before .before in
     let at-find = at-found .before .before in
-    reset-place (to-start (at-find .before) .pre) _ _ (find-at (at-find .find .ensures) _ (at-found .found .given .1))
+    reset-place (to-start (at-find .before) .pre) refl _ _ (find-at (at-find .find .ensures) _ (at-found .found .given .1))
     (at-deadline-no .deadline-no .ensures) (else1 .if1 .left) (at-remove .remove .ensures)
 
 same-length-3 : tie.Need-same-length-3
@@ -94,7 +95,7 @@ returns-3 c =
     let at-deadline-no = else1 .before in
     let at-found = at-deadline-no .before .before in
     let at-find = at-found .before .before in
-    reset-done (to-start (at-find .before) .pre) _ _ (find-at (at-find .find .ensures) _ (at-found .found .given .1))
+    reset-done (to-start (at-find .before) .pre) refl _ _ (find-at (at-find .find .ensures) _ (at-found .found .given .1))
     (at-deadline-no .deadline-no .ensures) (else1 .if1 .left) (at-remove .remove .ensures) (at-place .place .ensures)
 
 element-copy-out-find : tie.Need-element-copy-out-find

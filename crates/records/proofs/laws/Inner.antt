@@ -25,11 +25,11 @@ use Rattle.wheel.proofs.laws.Sums.{mem-kept, put-mem, mem-joined}
 use Rattle.wheel.proofs.laws.Between.{rule-less}
 use Rattle.wheel.specs.Words.{WheelWords, WheelWhole, Becomes, CanPush, CanLeave, Leaves, lists as listsIn, markOf as markIn}
 use Rattle.wheel.specs.Turns.{CanInsert}
-use Rattle.records.specs.View.{View, viewOf, withElapsed, withLists, withValue, withPeriod, upd}
+use Rattle.records.specs.View.{View, viewOf, withElapsed, withLists, withValue, withPeriod, withHand, upd}
 use Rattle.records.proofs.laws.View.{view-eq}
 use Rattle.records.specs.Slices.{valueAt, periodAt}
 use Rattle.records.specs.Records.{lastTurn, At, Near, taken, left, target, placed, freed}
-use Rattle.records.specs.Words.{QueueWords, queueWords, count, elapsed, markOf, view, StandingBut, Standing, SoundBut, Sound}
+use Rattle.records.specs.Words.{QueueWords, queueWords, holding, count, elapsed, markOf, view, StandingBut, Standing, SoundBut, AtRest, Sound}
 use Rattle.records.proofs.laws.Words.{past-refl, upd-same, upd-other, at-set, given, given-value, given-period}
 use Rattle.records.specs.Inner.{StandsBut, Stands, GoesBut, Goes, LooseAt, PlacesTo, CanPlace, LeavesTo, CanFree}
 
@@ -42,6 +42,14 @@ with-rule P R =
       size = P .size;
       kept = P .kept;
     }
+
+-- ---- sound, with no poll in hand
+
+pub rests : {s : QueueWords} → Sound s → AtRest s → SoundBut nobody s
+rests S z = record { standing = S .standing; rule = S .rule .free z }
+
+pub sounds : {s : QueueWords} → SoundBut nobody s → AtRest s → s .until ≡ 0 → Sound s
+sounds S z u = record { standing = S .standing; rule = record { free = λ _. S .rule; inside = λ d. absurd (d z) }; no-now = λ _. u }
 
 unmarked-out : {t : WheelWords} → WheelWhole t → (i : ℕ) → markIn t i ≡ nobody → (p : ℕ) → Mem i (listsIn t p) → ⊥
 unmarked-out W i z p m = omega (arith, stack-laws.member-mark (W .stack) p i m, stack-laws.member-place (W .stack) p i m)
@@ -81,7 +89,7 @@ stands : {j : ℕ} {s : QueueWords} → StandingBut j s → {e : ℕ} {L : Lists
     → Kept (count s) (s .deadlines) ds → Kept (count s) (s .turns) ts → {v p d k : ℕ → ℕ}
     → valueAt vs ≡ v → periodAt vs ≡ p → at ds ≡ d → at ts ≡ k
     → ((i : ℕ) → i < count s → (0 < k i) × (k i < 2 ^ 48)) → {item : ℕ} → RetiredBut item (count s) L k
-    → StandsBut item s (viewOf (count s) e L v p d k) (queueWords t vs ds ts)
+    → StandsBut item s (viewOf (count s) e L v p d k (s .hand) (s .until)) (queueWords t vs ds ts (s .hand) (s .until))
 stands S W K ee el vals dues terms ev ep ed et turns retired =
     record {
       standing = record {
@@ -101,7 +109,7 @@ stands S W K ee el vals dues terms ev ep ed et turns retired =
 
 -- the wheel changes, and nothing else
 abbrev shifted : QueueWords → WheelWords → QueueWords
-shifted s t = queueWords t (s .values) (s .deadlines) (s .turns)
+shifted s t = queueWords t (s .values) (s .deadlines) (s .turns) (s .hand) (s .until)
 
 module _ {s : QueueWords} (S : Standing s) {t : WheelWords} where
   pub stands-wheel : {e item : ℕ} {L : Lists} → WheelWhole t → stack.StackKept (s .wheel .stack) (t .stack) → t .elapsed ≡ e
@@ -115,6 +123,20 @@ module _ {s : QueueWords} (S : Standing s) {t : WheelWords} where
       → StandsBut item s (withLists L (view s)) (shifted s t)
   stands-lists B stay = stands-wheel (B .whole) (B .kept) (B .elapsed) (B .lists) stay
 
+-- the poll in hand alone
+pub standing-hold : {item : ℕ} {s : QueueWords} → StandingBut item s → (h u : ℕ) → StandingBut item (holding h u s)
+standing-hold S h u = record { fits = S .fits; whole = S .whole; turns = S .turns; retired = S .retired }
+
+pub stands-hold : {item : ℕ} {s s′ : QueueWords} {v : View} → StandsBut item s v s′ → (h u : ℕ)
+    → StandsBut item s (withHand h u v) (holding h u s′)
+stands-hold P h u =
+    record {
+      standing = standing-hold (P .standing) h u;
+      view = ap (withHand h u) (P .view);
+      size = P .size;
+      kept = record { links = P .kept .links; values = P .kept .values; deadlines = P .kept .deadlines; turns = P .kept .turns };
+    }
+
 -- the rule looks at slots and the expired stack alone
 rule-beside : {d : ℕ → ℕ} {e : ℕ} {L : Lists} → Rule d e L → (l : List ℕ) → Rule d e (change L free l)
 rule-beside {d} {e} {L} R l =
@@ -125,9 +147,9 @@ rule-beside {d} {e} {L} R l =
 
 -- ---- taken from the free list
 
-pub goes-taken : {s : QueueWords} (S : Sound s) {i : ℕ} {l : List ℕ} → view s .lists free ≡ i ∷ l → {t : WheelWords}
+pub goes-taken : {s : QueueWords} (S : SoundBut nobody s) {i : ℕ} {l : List ℕ} → view s .lists free ≡ i ∷ l → {t : WheelWords}
     → Becomes (s .wheel) (change (view s .lists) free l) t
-    → GoesBut i s (taken l (view s)) (queueWords t (s .values) (s .deadlines) (s .turns))
+    → GoesBut i s (taken l (view s)) (queueWords t (s .values) (s .deadlines) (s .turns) (s .hand) (s .until))
 goes-taken {s} S {i} {l} e B =
     with-rule (stands-lists (S .standing) B (stay-popped (view s .lists) free i l e)) (rule-beside (S .rule) l)
 
@@ -135,7 +157,7 @@ goes-taken {s} S {i} {l} e B =
 
 pub goes-given : {j : ℕ} {s : QueueWords} → SoundBut j s → (i x y : ℕ) → i < count s
     → GoesBut j s (withPeriod (upd (view s .period) i y) (withValue (upd (view s .value) i x) (view s)))
-    (queueWords (s .wheel) (given (s .values) i x y) (s .deadlines) (s .turns))
+    (queueWords (s .wheel) (given (s .values) i x y) (s .deadlines) (s .turns) (s .hand) (s .until))
 goes-given {s = s} S i x y h =
     let T = S .standing in
     let n : ℕ = 2 * count s in
@@ -175,15 +197,15 @@ mem-other i x (y ∷ l) d m =
     (λ n. rw (ne-eqb y i n) (⊎-elim (λ z. inl z) (λ k. inr (mem-other i x l d k)) m))
 
 pub stands-left : {s : QueueWords} (S : Standing s) {i p : ℕ} → At (view s) i p → {t : WheelWords} → Leaves (s .wheel) i t
-    → StandsBut i s (left p i (view s)) (queueWords t (s .values) (s .deadlines) (s .turns))
+    → StandsBut i s (left p i (view s)) (queueWords t (s .values) (s .deadlines) (s .turns) (s .hand) (s .until))
 unfolding left
 stands-left {s} S {i} {p} a Q =
     let L = view s .lists in
     stands-lists S (rw (mark-at S a) at (Q .becomes))
     (λ q x m d. (q, mem-kept L p (without i (L p)) q x (mem-other i x (L p) d) m))
 
-pub goes-left : {s : QueueWords} (S : Sound s) {i p : ℕ} → At (view s) i p → {t : WheelWords} → Leaves (s .wheel) i t
-    → GoesBut i s (left p i (view s)) (queueWords t (s .values) (s .deadlines) (s .turns))
+pub goes-left : {s : QueueWords} (S : SoundBut nobody s) {i p : ℕ} → At (view s) i p → {t : WheelWords} → Leaves (s .wheel) i t
+    → GoesBut i s (left p i (view s)) (queueWords t (s .values) (s .deadlines) (s .turns) (s .hand) (s .until))
 unfolding left
 goes-left {s} S {i} {p} a Q =
     let L = view s .lists in
@@ -275,7 +297,7 @@ come-retired {i} {s} S p x h out =
     (d, retired-but S x h d (λ q m. out q (mem-kept L p _ q x (λ k. put-mem p i x (L p) (inr k)) m)))
 
 pub goes-placed : {s : QueueWords} {i : ℕ} (S : SoundBut i s) → LooseAt s i → (when : ℕ) → Near (elapsed s) when → {t : WheelWords} {ds : List ℕ}
-    → PlacesTo (s .wheel) (s .deadlines) i when t ds → Goes s (placed i when (view s)) (queueWords t (s .values) ds (s .turns))
+    → PlacesTo (s .wheel) (s .deadlines) i when t ds → Goes s (placed i when (view s)) (queueWords t (s .values) ds (s .turns) (s .hand) (s .until))
 unfolding placed
 goes-placed {s} {i} S o when near P =
     let T = S .standing in
@@ -306,13 +328,14 @@ none-but {s} {i} S z =
 
 pub stands-freed : {s : QueueWords} {i : ℕ} (S : StandingBut i s) → LooseAt s i → {t : WheelWords} {ts : List ℕ}
     → LeavesTo (s .wheel) (s .turns) i t ts
-    → Stands s (freed i (view s)) (queueWords t (s .values) (s .deadlines) ts)
+    → Stands s (freed i (view s)) (queueWords t (s .values) (s .deadlines) ts (s .hand) (s .until))
 unfolding freed
 stands-freed {s} {i} S o {t} {ts} P =
     by-cases (ℕ-discrete (at (s .turns) i) lastTurn)
     (λ z.
     let r = P .retired z in
-    let e : queueWords t (s .values) (s .deadlines) ts ≡ s = λ j. queueWords (r .0 j) (s .values) (s .deadlines) (r .1 j) in
+    let e : queueWords t (s .values) (s .deadlines) ts (s .hand) (s .until) ≡ s
+    = λ j. queueWords (r .0 j) (s .values) (s .deadlines) (r .1 j) (s .hand) (s .until) in
     rw (eq-eqb (at (s .turns) i) lastTurn z) (rw e (record { standing = none-but S z; view = refl; size = refl; kept = past-refl (count s) s })))
     (λ z.
     let r = P .given z in
@@ -338,7 +361,7 @@ rule-freed v R i =
 
 pub goes-freed : {s : QueueWords} {i : ℕ} (S : SoundBut i s) → LooseAt s i → {t : WheelWords} {ts : List ℕ}
     → LeavesTo (s .wheel) (s .turns) i t ts
-    → Goes s (freed i (view s)) (queueWords t (s .values) (s .deadlines) ts)
+    → Goes s (freed i (view s)) (queueWords t (s .values) (s .deadlines) ts (s .hand) (s .until))
 goes-freed {s} {i} S o P = with-rule (stands-freed (S .standing) o P) (rule-freed (view s) (S .rule) i)
 
 module _ {t : WheelWords} {ts : List ℕ} {i : ℕ} (C : CanFree t ts i) where

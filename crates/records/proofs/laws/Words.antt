@@ -99,4 +99,6 @@ view-fixed {s} {s′} S S′ e K =
     let a = pairs-same (s .values) (s′ .values) (K .values .size) (ap (λ v. v .value) e) (ap (λ v. v .period) e) in
     let b = words-same (s .deadlines) (s′ .deadlines) (K .deadlines .size) (ap (λ v. v .deadline) e) in
     let f = words-same (s .turns) (s′ .turns) (K .turns .size) (ap (λ v. v .turn) e) in
-    λ i. queueWords (wheelWords (c i) (o i) (t i)) (a i) (b i) (f i)
+    let g : s′ .hand ≡ s .hand = ap (λ v. v .hand) e in
+    let h : s′ .until ≡ s .until = ap (λ v. v .until) e in
+    λ i. queueWords (wheelWords (c i) (o i) (t i)) (a i) (b i) (f i) (g i) (h i)

@@ -1,6 +1,6 @@
 -- `call_size`: by the call.
 use borrow.Author.Needs.{needs}
-use Rattle.recover.proofs.laws.Parts.{size-call, size-format, size-insert, size-repeat, size-reset, size-remove, size-poll, size-clear}
+use Rattle.recover.proofs.laws.Parts.{size-call, size-format, size-insert, size-repeat, size-reset, size-remove, size-poll, size-poll-some, size-clear}
 use Rattle.recover.proofs.call_size.Statement.{statement}
 use Rattle.recover.proofs.call_size.Tie as tie
 
@@ -21,6 +21,9 @@ enum-known-call-4 c = search needs
 
 enum-known-call-5 : tie.Need-enum-known-call-5
 enum-known-call-5 c = search needs
+
+enum-known-call-6 : tie.Need-enum-known-call-6
+enum-known-call-6 c = search needs
 
 enum-told : tie.Need-enum-told
 enum-told c = search needs
@@ -47,13 +50,16 @@ returns-6 : tie.Need-returns-6
 returns-6 c = size-call (c .before .call5 .given .1) (size-poll _)
 
 returns-7 : tie.Need-returns-7
-returns-7 c = search needs
+returns-7 c = size-call (c .before .call6 .given .1) (size-poll-some _ _)
 
 returns-8 : tie.Need-returns-8
 returns-8 c = search needs
 
 returns-9 : tie.Need-returns-9
-returns-9 c = size-call (c .enum-told3 .given .1) size-clear
+returns-9 c = search needs
+
+returns-10 : tie.Need-returns-10
+returns-10 c = size-call (c .enum-told3 .given .1) size-clear
 
 pub call-size-spec : {M : Type 1} → statement M
 call-size-spec =
@@ -65,6 +71,7 @@ call-size-spec =
     enum-known-call-3
     enum-known-call-4
     enum-known-call-5
+    enum-known-call-6
     enum-told
     enum-told-2
     enum-told-3
@@ -75,4 +82,5 @@ call-size-spec =
     returns-6
     returns-7
     returns-8
-    returns-9)
+    returns-9
+    returns-10)

@@ -76,6 +76,7 @@ same-room (C.Insert value when period) s s₁ u a A w room e = absurd (false≢t
 same-room (C.Reset key when) s s₁ u a A w room e = absurd (false≢true e)
 same-room (C.Remove key) s s₁ u a A w room e = absurd (false≢true e)
 same-room (C.Poll now) s s₁ u a A w room e = absurd (false≢true e)
+same-room (C.PollSome now limit) s s₁ u a A w room e = absurd (false≢true e)
 same-room C.Wake s s₁ u a A w room e = absurd (false≢true e)
 same-room C.Length s s₁ u a A w room e = absurd (false≢true e)
 same-room C.Clear s s₁ u a A w room e = absurd (false≢true e)

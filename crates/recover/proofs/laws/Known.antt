@@ -40,6 +40,7 @@ record Apart (k : ℕ) : Type 0 where
   seven : k ≢ 7
   eight : k ≢ 8
   eleven : k ≢ 11
+  twelve : k ≢ 12
 
 apart : {k : ℕ} → Saved k → Apart k
 apart one =
@@ -51,6 +52,7 @@ apart one =
       seven = λ e. omega arith;
       eight = λ e. omega arith;
       eleven = λ e. omega arith;
+      twelve = λ e. omega arith;
     }
 apart two =
     record {
@@ -61,6 +63,7 @@ apart two =
       seven = λ e. omega arith;
       eight = λ e. omega arith;
       eleven = λ e. omega arith;
+      twelve = λ e. omega arith;
     }
 apart thirteen =
     record {
@@ -71,19 +74,27 @@ apart thirteen =
       seven = λ e. omega arith;
       eight = λ e. omega arith;
       eleven = λ e. omega arith;
+      twelve = λ e. omega arith;
     }
 
 no-deadline : (e w : ℕ) {k : ℕ} → Apart k → First (deadlineLines e w) k → ⊥
 no-deadline e w a f = behind (a .five) (behind (a .four) (behind (a .eleven) f .1) .1) .1
 
+-- what the table says behind its line of 12
+not-held : {k : ℕ} {P Q : Type 0} → Saved k → ((k ≡ 12) × P) ⊎ ((P → ⊥) × Q) → Q
+not-held S f = behind (apart S .twelve) f .1
+
 -- a call but format: number 2, and the store is not sound
 two-alone : (c : Call) (s : QueueWords) {k : ℕ} → isFormat c ≡ false → RefusedBy c s k → Saved k → (k ≡ 2) × (Sound s → ⊥)
 two-alone (C.Format n turn) s e f S = absurd (true≢false e)
-two-alone (C.Insert value when period) s e f S = ⊎-elim (λ x. x) (λ y. absurd (no-deadline _ when (apart S) (behind (apart S .three) (y .1) .1))) f
-two-alone (C.Reset key when) s e f S = ⊎-elim (λ x. x) (λ y. absurd (no-deadline _ when (apart S) (behind (apart S .six) (y .1) .1))) f
-two-alone (C.Remove key) s e f S = ⊎-elim (λ x. x) (λ y. absurd (behind (apart S .six) (y .1) .1)) f
-two-alone (C.Poll now) s e f S = ⊎-elim (λ x. x) (λ y. absurd (behind (apart S .seven) (y .1) .1)) f
-two-alone C.Wake s e f S = ⊎-elim (λ x. x) (λ y. absurd (y .1)) f
+two-alone (C.Insert value when period) s e f S =
+    ⊎-elim (λ x. x) (λ y. absurd (no-deadline _ when (apart S) (behind (apart S .three) (not-held S (y .1)) .1))) f
+two-alone (C.Reset key when) s e f S =
+    ⊎-elim (λ x. x) (λ y. absurd (no-deadline _ when (apart S) (behind (apart S .six) (not-held S (y .1)) .1))) f
+two-alone (C.Remove key) s e f S = ⊎-elim (λ x. x) (λ y. absurd (behind (apart S .six) (not-held S (y .1)) .1)) f
+two-alone (C.Poll now) s e f S = ⊎-elim (λ x. x) (λ y. absurd (behind (apart S .seven) (not-held S (y .1)) .1)) f
+two-alone (C.PollSome now limit) s e f S = ⊎-elim (λ x. x) (λ y. absurd (behind (apart S .seven) (not-held S (y .1)) .1)) f
+two-alone C.Wake s e f S = ⊎-elim (λ x. x) (λ y. absurd (not-held S (y .1))) f
 two-alone C.Length s e f S = ⊎-elim (λ x. x) (λ y. absurd (y .1)) f
 two-alone C.Clear s e f S = ⊎-elim (λ x. x) (λ y. absurd (y .1)) f
 
@@ -149,6 +160,7 @@ live-same b (C.Insert value when period) e = refl
 live-same b (C.Reset key when) e = refl
 live-same b (C.Remove key) e = refl
 live-same b (C.Poll now) e = refl
+live-same b (C.PollSome now limit) e = refl
 live-same b C.Wake e = refl
 live-same b C.Length e = refl
 live-same b C.Clear e = refl

@@ -48,6 +48,9 @@ size-remove key = sym (entry-length 4 key 0)
 pub size-poll : (now : ℕ) → 18 ≡ size (S.Asks (C.Poll now))
 size-poll now = sym (entry-length 5 now 0)
 
+pub size-poll-some : (now limit : ℕ) → 18 ≡ size (S.Asks (C.PollSome now limit))
+size-poll-some now limit = sym (entry-length 11 now limit)
+
 pub size-clear : 18 ≡ size (S.Asks C.Clear)
 size-clear = sym (entry-length 6 0 0)
 
@@ -79,7 +82,7 @@ fits-so {b = b} z h T e = enough (record { some = omega arith; few = h; room = T
 
 -- ---- whether there is a store
 
-live-as : (b : Bool) {d : Bool} {x y : Step} → x ≡ y → d ≡ liveAfter b y → d ≡ liveAfter b x
+pub live-as : (b : Bool) {d : Bool} {x y : Step} → x ≡ y → d ≡ liveAfter b y → d ≡ liveAfter b x
 live-as b e h = h ∙ ap (λ (z : Step). liveAfter b z) (sym e)
 
 pub turn-many : (b : Bool) {n turn : ℕ} {x : Step} → x ≡ S.Asks (C.Format n turn) → 281474976710655 < turn → b ≡ liveAfter b x
@@ -106,7 +109,7 @@ closed-makes {s} e = subst (λ (y : Step). Makes y s s) (sym e) closed
 -- ---- no store
 
 pub no-store-is : {w : Wheel} → NoStoreClaim w → w ≡ noWheel
-no-store-is N = no-store-once N (record { elapsed = refl; occupied = refl; records = refl; expired = refl; free = refl })
+no-store-is N = no-store-once N (record { elapsed = refl; occupied = refl; records = refl; expired = refl; free = refl; hand = refl; until = refl })
 
 -- "from no store": it has no record
 no-store-not-sound : (vs ds ns ps ts ms : List ℕ) → Sound (noStore vs ds ns ps ts ms) → ⊥

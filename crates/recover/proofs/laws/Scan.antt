@@ -115,6 +115,7 @@ number-met z b p (S.Asks (C.Insert value when period)) = asks-number z b p (C.In
 number-met z b p (S.Asks (C.Reset key when)) = asks-number z b p (C.Reset key when) refl
 number-met z b p (S.Asks (C.Remove key)) = asks-number z b p (C.Remove key) refl
 number-met z b p (S.Asks (C.Poll now)) = asks-number z b p (C.Poll now) refl
+number-met z b p (S.Asks (C.PollSome now limit)) = asks-number z b p (C.PollSome now limit) refl
 number-met z b p (S.Asks C.Wake) = asks-number z b p C.Wake refl
 number-met z b p (S.Asks C.Length) = asks-number z b p C.Length refl
 number-met z b p (S.Asks C.Clear) = asks-number z b p C.Clear refl

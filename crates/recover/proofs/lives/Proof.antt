@@ -1,8 +1,8 @@
 -- `lives`: an accepted format makes a store, and nothing takes it away.
 use borrow.Author.Needs.{needs}
-use mathlib.Core.Path.{ap, _∙_}
+use mathlib.Core.Path.{refl, ap, _∙_}
 use Rattle.entries.specs.declared.Step.the-variants as S
-use Rattle.recover.proofs.laws.Parts.{turn-many, turn-so}
+use Rattle.recover.proofs.laws.Parts.{live-as, turn-many, turn-so}
 use Rattle.recover.proofs.lives.Statement.{statement}
 use Rattle.recover.proofs.lives.Tie as tie
 
@@ -33,6 +33,9 @@ enum-known-call-4 c = search needs
 enum-known-call-5 : tie.Need-enum-known-call-5
 enum-known-call-5 c = search needs
 
+enum-known-call-6 : tie.Need-enum-known-call-6
+enum-known-call-6 c = search needs
+
 enum-told : tie.Need-enum-told
 enum-told c = search needs
 
@@ -55,7 +58,10 @@ returns-3 c =
     turn-so (b .before .before .args .live) (b .step .given .1 ∙ ap S.Asks (a .call .given .1)) (c .before .if1 .left) (c .if2 .left)
 
 returns-4 : tie.Need-returns-4
-returns-4 c = search needs
+returns-4 c =
+    let a = c .before in
+    let b = a .before .before .before in
+    live-as (b .before .before .args .live) (b .step .given .1 ∙ ap S.Asks (a .call2 .given .1)) refl
 
 returns-5 : tie.Need-returns-5
 returns-5 c = search needs
@@ -81,6 +87,9 @@ returns-11 c = search needs
 returns-12 : tie.Need-returns-12
 returns-12 c = search needs
 
+returns-13 : tie.Need-returns-13
+returns-13 c = search needs
+
 pub lives-spec : {M : Type 1} → statement M
 lives-spec =
     tie.close
@@ -93,6 +102,7 @@ lives-spec =
     enum-known-call-3
     enum-known-call-4
     enum-known-call-5
+    enum-known-call-6
     enum-told
     enum-told-2
     enum-told-3
@@ -107,4 +117,5 @@ lives-spec =
     returns-9
     returns-10
     returns-11
-    returns-12)
+    returns-12
+    returns-13)

@@ -40,35 +40,41 @@ enum-known-call-5 c = search needs
 choose-requires-4 : tie.Need-choose-requires-4
 choose-requires-4 c κs = search needs
 
-enum-told : tie.Need-enum-told
-enum-told c = search needs
+enum-known-call-6 : tie.Need-enum-known-call-6
+enum-known-call-6 c = search needs
 
 choose-requires-5 : tie.Need-choose-requires-5
 choose-requires-5 c κs = search needs
 
-enum-told-2 : tie.Need-enum-told-2
-enum-told-2 c = search needs
+enum-told : tie.Need-enum-told
+enum-told c = search needs
 
 choose-requires-6 : tie.Need-choose-requires-6
 choose-requires-6 c κs = search needs
 
-enum-told-3 : tie.Need-enum-told-3
-enum-told-3 c = search needs
+enum-told-2 : tie.Need-enum-told-2
+enum-told-2 c = search needs
 
 choose-requires-7 : tie.Need-choose-requires-7
 choose-requires-7 c κs = search needs
 
-enum-told-4 : tie.Need-enum-told-4
-enum-told-4 c = search needs
+enum-told-3 : tie.Need-enum-told-3
+enum-told-3 c = search needs
 
 choose-requires-8 : tie.Need-choose-requires-8
 choose-requires-8 c κs = search needs
 
-enum-told-5 : tie.Need-enum-told-5
-enum-told-5 c = search needs
+enum-told-4 : tie.Need-enum-told-4
+enum-told-4 c = search needs
 
 choose-requires-9 : tie.Need-choose-requires-9
 choose-requires-9 c κs = search needs
+
+enum-told-5 : tie.Need-enum-told-5
+enum-told-5 c = search needs
+
+choose-requires-10 : tie.Need-choose-requires-10
+choose-requires-10 c κs = search needs
 
 returns : tie.Need-returns
 returns c =
@@ -102,27 +108,33 @@ returns-5 c =
 
 returns-6 : tie.Need-returns-6
 returns-6 c =
-    let a = c .before in
+    let a = c .before .before in
     let b = a .before .before .before in
-    number-as (b .step .given .1 ∙ ap S.Asks (a .enum-told .given .1)) (number-call _ refl (c .choose5 .ensures))
+    number-as (b .step .given .1 ∙ ap S.Asks (a .call6 .given .1)) (number-call _ refl (c .choose5 .ensures))
 
 returns-7 : tie.Need-returns-7
 returns-7 c =
     let a = c .before in
     let b = a .before .before .before in
-    number-as (b .step .given .1 ∙ ap S.Asks (a .enum-told2 .given .1)) (number-call _ refl (c .choose6 .ensures))
+    number-as (b .step .given .1 ∙ ap S.Asks (a .enum-told .given .1)) (number-call _ refl (c .choose6 .ensures))
 
 returns-8 : tie.Need-returns-8
 returns-8 c =
     let a = c .before in
     let b = a .before .before .before in
-    number-as (b .step .given .1 ∙ ap S.Asks (a .enum-told3 .given .1)) (number-call _ refl (c .choose7 .ensures))
+    number-as (b .step .given .1 ∙ ap S.Asks (a .enum-told2 .given .1)) (number-call _ refl (c .choose7 .ensures))
 
 returns-9 : tie.Need-returns-9
-returns-9 c = number-as (c .before .enum-told4 .given .1) (number-open _ (c .choose8 .ensures))
+returns-9 c =
+    let a = c .before in
+    let b = a .before .before .before in
+    number-as (b .step .given .1 ∙ ap S.Asks (a .enum-told3 .given .1)) (number-call _ refl (c .choose8 .ensures))
 
 returns-10 : tie.Need-returns-10
-returns-10 c = number-as (c .before .enum-told5 .given .1) (number-close _ (c .choose9 .ensures))
+returns-10 c = number-as (c .before .enum-told4 .given .1) (number-open _ (c .choose9 .ensures))
+
+returns-11 : tie.Need-returns-11
+returns-11 c = number-as (c .before .enum-told5 .given .1) (number-close _ (c .choose10 .ensures))
 
 pub number-of-spec : {M : Type 1} → statement M
 number-of-spec =
@@ -139,16 +151,18 @@ number-of-spec =
     choose-requires-3
     enum-known-call-5
     choose-requires-4
-    enum-told
+    enum-known-call-6
     choose-requires-5
-    enum-told-2
+    enum-told
     choose-requires-6
-    enum-told-3
+    enum-told-2
     choose-requires-7
-    enum-told-4
+    enum-told-3
     choose-requires-8
-    enum-told-5
+    enum-told-4
     choose-requires-9
+    enum-told-5
+    choose-requires-10
     returns
     returns-2
     returns-3
@@ -158,4 +172,5 @@ number-of-spec =
     returns-7
     returns-8
     returns-9
-    returns-10)
+    returns-10
+    returns-11)

@@ -15,10 +15,10 @@ use Rattle.serve.proofs.answer.Statement.{statement}
 use Rattle.serve.proofs.answer.Tie as tie
 
 abbrev Inv-loop : tie.InvT-loop
-Inv-loop got line₀ values₀ deadlines₀ nexts₀ prevs₀ turns₀ marks₀ out₀ lists most n₀ state₀ heads₀ fine₀ i₀ line values deadlines nexts prevs turns
+Inv-loop limits got line₀ values₀ deadlines₀ nexts₀ prevs₀ turns₀ marks₀ out₀ lists most n₀ state₀ heads₀ fine₀ i₀ line values deadlines nexts prevs turns
     marks out n state heads fine i =
     (n ≤ 81)
-    × Passes Answered (length line₀) (take n₀ line₀) got (words state₀ (heads₀ .rows) values₀ deadlines₀ nexts₀ prevs₀ turns₀ marks₀) (take n line)
+    × Passes (Answered limits) (length line₀) (take n₀ line₀) got (words state₀ (heads₀ .rows) values₀ deadlines₀ nexts₀ prevs₀ turns₀ marks₀) (take n line)
     (drop i got)
     (words state (heads .rows) values deadlines nexts prevs turns marks)
     × (length line ≡ length line₀)
@@ -31,7 +31,7 @@ Inv-loop got line₀ values₀ deadlines₀ nexts₀ prevs₀ turns₀ marks₀ 
     × (length out ≡ length out₀)
 
 abbrev μ-loop : tie.MeasureT-loop
-μ-loop got line₀ values₀ deadlines₀ nexts₀ prevs₀ turns₀ marks₀ out₀ lists most n₀ state₀ heads₀ fine₀ i₀ line values deadlines nexts prevs turns
+μ-loop limits got line₀ values₀ deadlines₀ nexts₀ prevs₀ turns₀ marks₀ out₀ lists most n₀ state₀ heads₀ fine₀ i₀ line values deadlines nexts prevs turns
     marks out n state heads fine i =
     length got - i
 
@@ -110,7 +110,7 @@ loop-again c =
     let I = at-loop .before .loop .inv in
     let R = to-start at-room .pre in
     let A = at-answered .answer-lines in
-    let lengths = A .kept in
+    let lengths = A .kept .1 in
     let six = lengths .1 .1 .1 .1 .1 .1 in
     let most = length-take (at-room .room .result) (at-loop .before .loop .out) in (
       omega (arith, feed-fits (A .ensures) (omega (arith, I .0, I .2, R .1)), lengths .1 .1 .0, I .2, R .1),

@@ -12,7 +12,7 @@ use Rattle.serve.proofs.serve.Statement.{statement}
 use Rattle.serve.proofs.serve.Tie as tie
 
 abbrev Inv-loop : tie.InvT-loop
-Inv-loop line₀ values₀ deadlines₀ nexts₀ prevs₀ turns₀ marks₀ out₀ buf₀ run₀ bytes₀ line values deadlines nexts prevs turns marks out buf run bytes =
+Inv-loop limits line₀ values₀ deadlines₀ nexts₀ prevs₀ turns₀ marks₀ out₀ buf₀ run₀ bytes₀ line values deadlines nexts prevs turns marks out buf run bytes =
     (run .kept ≤ 81)
     × (length buf ≡ 4096)
     × (length line ≡ length line₀)
@@ -23,14 +23,16 @@ Inv-loop line₀ values₀ deadlines₀ nexts₀ prevs₀ turns₀ marks₀ out�
     × (length turns ≡ length turns₀)
     × (length marks ≡ length marks₀)
     × (length out ≡ length out₀)
-    × Reads Answered (length line₀) (take (run₀ .kept) line₀)
+    × Reads (Answered limits) (length line₀) (take (run₀ .kept) line₀)
     (words (run₀ .state) (run₀ .heads .rows) values₀ deadlines₀ nexts₀ prevs₀ turns₀ marks₀)
     bytes
     (take (run .kept) line)
     (words (run .state) (run .heads .rows) values deadlines nexts prevs turns marks)
 
 abbrev μ-loop : tie.MeasureT-loop
-μ-loop line₀ values₀ deadlines₀ nexts₀ prevs₀ turns₀ marks₀ out₀ buf₀ run₀ bytes₀ line values deadlines nexts prevs turns marks out buf run bytes = 9223372036854775808 - bytes
+μ-loop limits line₀ values₀ deadlines₀ nexts₀ prevs₀ turns₀ marks₀ out₀ buf₀ run₀ bytes₀ line values deadlines nexts prevs turns marks out buf run
+    bytes =
+    9223372036854775808 - bytes
 
 abbrev to-answer : tie.After-slice-known23 Inv-loop μ-loop → tie.After-answer Inv-loop μ-loop
 to-answer c =
@@ -113,37 +115,37 @@ same-length c = to-loop (at-end (to-finish c)) .loop .inv .2
 same-length-2 : tie.Need-same-length-2 Inv-loop μ-loop
 same-length-2 c =
     let at-finish = to-finish c in
-    at-finish .finish .kept .1 .1 .1 .0 ∙ to-loop (at-end at-finish) .loop .inv .3
+    at-finish .finish .kept .1 .1 .1 .1 .0 ∙ to-loop (at-end at-finish) .loop .inv .3
 
 same-length-3 : tie.Need-same-length-3 Inv-loop μ-loop
 same-length-3 c =
     let at-finish = to-finish c in
-    at-finish .finish .kept .1 .1 .1 .1 .0 ∙ to-loop (at-end at-finish) .loop .inv .4
+    at-finish .finish .kept .1 .1 .1 .1 .1 .0 ∙ to-loop (at-end at-finish) .loop .inv .4
 
 same-length-4 : tie.Need-same-length-4 Inv-loop μ-loop
 same-length-4 c =
     let at-finish = to-finish c in
-    at-finish .finish .kept .1 .1 .1 .1 .1 .0 ∙ to-loop (at-end at-finish) .loop .inv .5
+    at-finish .finish .kept .1 .1 .1 .1 .1 .1 .0 ∙ to-loop (at-end at-finish) .loop .inv .5
 
 same-length-5 : tie.Need-same-length-5 Inv-loop μ-loop
 same-length-5 c =
     let at-finish = to-finish c in
-    at-finish .finish .kept .1 .1 .1 .1 .1 .1 .0 ∙ to-loop (at-end at-finish) .loop .inv .6
+    at-finish .finish .kept .1 .1 .1 .1 .1 .1 .1 .0 ∙ to-loop (at-end at-finish) .loop .inv .6
 
 same-length-6 : tie.Need-same-length-6 Inv-loop μ-loop
 same-length-6 c =
     let at-finish = to-finish c in
-    at-finish .finish .kept .1 .1 .1 .1 .1 .1 .1 .0 ∙ to-loop (at-end at-finish) .loop .inv .7
+    at-finish .finish .kept .1 .1 .1 .1 .1 .1 .1 .1 .0 ∙ to-loop (at-end at-finish) .loop .inv .7
 
 same-length-7 : tie.Need-same-length-7 Inv-loop μ-loop
 same-length-7 c =
     let at-finish = to-finish c in
-    at-finish .finish .kept .1 .1 .1 .1 .1 .1 .1 .1 .0 ∙ to-loop (at-end at-finish) .loop .inv .8
+    at-finish .finish .kept .1 .1 .1 .1 .1 .1 .1 .1 .1 .0 ∙ to-loop (at-end at-finish) .loop .inv .8
 
 same-length-8 : tie.Need-same-length-8 Inv-loop μ-loop
 same-length-8 c =
     let at-finish = to-finish c in
-    at-finish .finish .kept .1 .1 .1 .1 .1 .1 .1 .1 .1 .0 ∙ to-loop (at-end at-finish) .loop .inv .9
+    at-finish .finish .kept .1 .1 .1 .1 .1 .1 .1 .1 .1 .1 .0 ∙ to-loop (at-end at-finish) .loop .inv .9
 
 returns : tie.Need-returns Inv-loop μ-loop
 returns c =
@@ -176,42 +178,42 @@ comes-to-requires-2 c κs = search needs
 same-length-9 : tie.Need-same-length-9 Inv-loop μ-loop
 same-length-9 c =
     let at-answer = wrote c in
-    at-answer .answer .kept .1 .0 ∙ to-loop (to-count at-answer) .loop .inv .2
+    at-answer .answer .kept .1 .1 .0 ∙ to-loop (to-count at-answer) .loop .inv .2
 
 same-length-10 : tie.Need-same-length-10 Inv-loop μ-loop
 same-length-10 c =
     let at-answer = wrote c in
-    at-answer .answer .kept .1 .1 .1 .0 ∙ to-loop (to-count at-answer) .loop .inv .3
+    at-answer .answer .kept .1 .1 .1 .1 .0 ∙ to-loop (to-count at-answer) .loop .inv .3
 
 same-length-11 : tie.Need-same-length-11 Inv-loop μ-loop
 same-length-11 c =
     let at-answer = wrote c in
-    at-answer .answer .kept .1 .1 .1 .1 .0 ∙ to-loop (to-count at-answer) .loop .inv .4
+    at-answer .answer .kept .1 .1 .1 .1 .1 .0 ∙ to-loop (to-count at-answer) .loop .inv .4
 
 same-length-12 : tie.Need-same-length-12 Inv-loop μ-loop
 same-length-12 c =
     let at-answer = wrote c in
-    at-answer .answer .kept .1 .1 .1 .1 .1 .0 ∙ to-loop (to-count at-answer) .loop .inv .5
+    at-answer .answer .kept .1 .1 .1 .1 .1 .1 .0 ∙ to-loop (to-count at-answer) .loop .inv .5
 
 same-length-13 : tie.Need-same-length-13 Inv-loop μ-loop
 same-length-13 c =
     let at-answer = wrote c in
-    at-answer .answer .kept .1 .1 .1 .1 .1 .1 .0 ∙ to-loop (to-count at-answer) .loop .inv .6
+    at-answer .answer .kept .1 .1 .1 .1 .1 .1 .1 .0 ∙ to-loop (to-count at-answer) .loop .inv .6
 
 same-length-14 : tie.Need-same-length-14 Inv-loop μ-loop
 same-length-14 c =
     let at-answer = wrote c in
-    at-answer .answer .kept .1 .1 .1 .1 .1 .1 .1 .0 ∙ to-loop (to-count at-answer) .loop .inv .7
+    at-answer .answer .kept .1 .1 .1 .1 .1 .1 .1 .1 .0 ∙ to-loop (to-count at-answer) .loop .inv .7
 
 same-length-15 : tie.Need-same-length-15 Inv-loop μ-loop
 same-length-15 c =
     let at-answer = wrote c in
-    at-answer .answer .kept .1 .1 .1 .1 .1 .1 .1 .1 .0 ∙ to-loop (to-count at-answer) .loop .inv .8
+    at-answer .answer .kept .1 .1 .1 .1 .1 .1 .1 .1 .1 .0 ∙ to-loop (to-count at-answer) .loop .inv .8
 
 same-length-16 : tie.Need-same-length-16 Inv-loop μ-loop
 same-length-16 c =
     let at-answer = wrote c in
-    at-answer .answer .kept .1 .1 .1 .1 .1 .1 .1 .1 .1 .0 ∙ to-loop (to-count at-answer) .loop .inv .9
+    at-answer .answer .kept .1 .1 .1 .1 .1 .1 .1 .1 .1 .1 .0 ∙ to-loop (to-count at-answer) .loop .inv .9
 
 returns-2 : tie.Need-returns-2 Inv-loop μ-loop
 returns-2 c =
@@ -238,7 +240,7 @@ loop-again c =
     let at-count = to-count at-answer in
     let got = at-count .before .before .more in
     let I = to-loop at-count .loop .inv in
-    let lengths = at-answer .answer .kept .1 in
+    let lengths = at-answer .answer .kept .1 .1 in
     let six = lengths .1 .1 in (
       at-answer .answer .ensures .0,
       got .kept .0 ∙ I .1,

@@ -1,16 +1,16 @@
 -- What the promises ask can be met, and the cases that they speak of happen.
 use mathlib.Core.Path.{_≡_, refl, sym, ap, subst}
 use mathlib.Core.List.{List, [], _∷_}
-use Prim.Native.Nat.{ℕ, _≤_}
+use Prim.Native.Nat.{ℕ}
 use native.Mathlib.Omega.{arith}
 use Rattle.queue.specs.declared.Answer.{Answer}
 use Rattle.queue.specs.declared.Answer.the-variants as A
 use Rattle.queue.specs.Told.{told, no}
-use Rattle.records.specs.Words.{QueueWords, elapsed, Sound}
+use Rattle.records.specs.Words.{QueueWords, Sound}
 use Rattle.promises.specs.OneCall.{one}
-use Rattle.promises.proofs.laws.Quiet.{quiet-shown}
+use Rattle.promises.proofs.laws.Quiet.{quiet-shown, quiet-rest}
 use Rattle.tick.specs.Claims.{Passes, ReadClaim, TickPollClaim}
-use Rattle.tick.specs.Boards.{polls, Did, Boards, AllThrough, deeds, ticks, times, Steady}
+use Rattle.tick.specs.Boards.{polls, Did, Boards, AllThrough, Behind, deeds, ticks, times, Steady}
 use Rattle.tick.specs.Shown.{clock, round, day}
 use Rattle.tick.proofs.laws.Reading.{read-past, read-taken}
 use Rattle.tick.proofs.laws.Once.{deed-met}
@@ -48,10 +48,10 @@ ten-shown = read-past 18446744073709551615 0 (omega arith)
 
 -- ---- *never-seven*: a fresh store and a fresh front part
 
-pub never-shown : (elapsed one ≤ 0) × ((l : List Did) × (u : QueueWords) × Boards 0 one l u × AllThrough (deeds l) × (deeds l ≡ day))
+pub never-shown : Behind 0 one × ((l : List Did) × (u : QueueWords) × Boards 0 one l u × AllThrough (deeds l) × (deeds l ≡ day))
 never-shown =
     let m = boards-met day 0 one in
-    (omega arith, (m .0, m .1, m .2, subst AllThrough (sym (m .3)) (refl, (tt, (tt, (refl, (tt, tt))))), m .3))
+    (record { clock = omega arith; until = omega arith }, (m .0, m .1, m .2, subst AllThrough (sym (m .3)) (refl, (tt, (tt, (tt, (refl, (tt, tt)))))), m .3))
 
 -- and 7 where something else polled a sound store on to 5
 pub seven-shown : (s : QueueWords) × Sound s × ((a : Answer) × (t : ℕ) × (u : QueueWords) × TickPollClaim 0 s 0 a t u × (told a ≡ no 7))
@@ -59,4 +59,4 @@ seven-shown =
     let q = quiet-shown 5 in
     let m = deed-met (polls 0) 0 (q .0) in
     let h : Passes 0 0 → ⊥ = λ p. omega arith in
-    (q .0, q .1 .sound, (m .0, m .1, m .2, m .3, seven-exactly (m .3) (q .1 .sound) .1 (h, omega (arith, m .3 .taken h .1, q .1 .clock))))
+    (q .0, q .1 .sound, (m .0, m .1, m .2, m .3, seven-exactly (m .3) (q .1 .sound) .1 (h, quiet-rest (q .1), omega (arith, m .3 .taken h .1, q .1 .clock))))

@@ -1,13 +1,6 @@
 -- `poll` meets its claim: the reading's answer decides whether the store is asked (`polled`, `asks-nothing`).
 use borrow.Author.Needs.{needs}
-use mathlib.Core.Path.{_≡_}
-use mathlib.Core.Logic.{_⊎_, ⊎-elim}
-use Prim.Native.Nat.{ℕ, suc}
-use native.Mathlib.Omega.{arith}
-use Rattle.queue.specs.Told.{told, ok}
-use Rattle.queue.specs.declared.Answer.the-variants as A
-use Rattle.promises.proofs.laws.Once.{told-one}
-use Rattle.tick.proofs.laws.Reading.{polled, asks-nothing}
+use Rattle.tick.proofs.laws.Reading.{not-ok, polled, asks-nothing}
 use Rattle.tick.proofs.poll.Statement.{statement}
 use Rattle.tick.proofs.poll.Tie as tie
 
@@ -58,19 +51,10 @@ returns c =
     let at-told = to-told at-poll in
     polled (to-read at-told .read .ensures) (at-told .enum-told .given .1) (at-poll .poll .ensures)
 
--- `ok` is the first constructor, so none of the keys past it
-past : {k : ℕ} {B : Type 0} → (B → ⊥) → (0 ≡ suc k) ⊎ B → ⊥
-past f x = ⊎-elim (λ e. omega arith) f x
-
-not-ok : (c : tie.At-match-keys2) → told (c .before .before .read .result .answer) ≡ ok → ⊥
-not-ok c e =
-    let a = c .before .before .read .result .answer in
-    let d : a ≡ A.Done = told-one a A.Done e in
-    past (past (past (past (past (past (past (past (λ k. omega arith)))))))) (rw d at (c .match .keys2))
-
 returns-2 : tie.Need-returns-2
 returns-2 c =
-    asks-nothing _ _ _ _ _ _ (c .before .before .before .read .ensures) (not-ok (c .before)) (c .unchanged .ensures)
+    let r = c .before .before .before .read in
+    asks-nothing _ _ _ _ _ _ (r .ensures) (not-ok (r .result .answer) (c .before .match .keys2)) (c .unchanged .ensures)
 
 pub poll-spec : {M : Type 1} → statement M
 poll-spec =

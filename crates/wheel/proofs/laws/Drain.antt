@@ -14,7 +14,7 @@ use Rattle.stack.specs.Places.{slotPlace, slots, put, levelAt}
 use Rattle.wheel.specs.Wheel.{Lists, FirstSlot, arrive, Drains, drained, moved}
 use Rattle.wheel.specs.Sums.{total}
 use Rattle.wheel.proofs.laws.Sums.{mem-joined, mem-left, total-less, total-more}
-use Rattle.wheel.specs.Between.{Spot, Between}
+use Rattle.wheel.specs.Between.{Spot, Between, Draining}
 use Rattle.wheel.proofs.laws.Between.{place-level, place-slot}
 use Rattle.wheel.proofs.laws.Next.{here-below, slot-below, first-in, start-is, start-late, next-lowest, next-not-before, next-start}
 use Rattle.wheel.specs.Drain.{heights}
@@ -22,13 +22,6 @@ use Rattle.wheel.specs.Drain.{heights}
 -- the sum of a weight over the wheel that does not ask where
 unfoldable pub amount : (ℕ → ℕ) → Lists → ℕ
 amount v L = total (λ p x. v x) slots L
-
--- inside a drain of h, a slot of level k + 1 that starts at e: nothing lies lower than level k, and what else lies no lower than h starts later
-pub record Draining (d : ℕ → ℕ) (k h e : ℕ) (L : Lists) : Type 0 where
-  pub spot : (q y : ℕ) → q < slots → Mem y (L q) → Spot q e (d y)
-  pub hand : (y : ℕ) → Mem y (L h) → floor (suc k) (d y) ≡ e
-  pub low : (q y : ℕ) → q < slots → Mem y (L q) → k ≤ levelAt q
-  pub later : (q y : ℕ) → q < slots → q ≢ h → Mem y (L q) → k < levelAt q → e < floor (levelAt q) (d y)
 
 -- ---- elapsed rises to the start of the first slot
 

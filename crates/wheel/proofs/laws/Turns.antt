@@ -1,40 +1,42 @@
 -- What the loops' proofs cite: a move, a drain move by move, a poll look by look. Whatever the relation says from here, it says from the start with
 -- the counts so far added.
 use mathlib.Core.Path.{_≡_, refl, sym, ap, _∙_, subst}
-use mathlib.Core.Logic.{_≢_, inl}
+use mathlib.Core.Logic.{_≢_, inl, by-cases}
 use mathlib.Core.List.{List, [], _∷_, nil≢cons}
 use mathlib.Core.Option.{Option, none, some}
 use Prim.Native.Nat.{ℕ, zero, suc, _+_, _-_, _≤_, _<_}
 use native.Mathlib.Omega.{arith}
-use native.Mathlib.Nat.{zero-add, add-zero, add-assoc}
-use native.Mathlib.Numerals.{one-add}
+use native.Mathlib.Nat.{zero-add}
+use native.Mathlib.Decide.{ℕ-discrete}
 use lib.ListN.{length}
-use borrow.Author.Tests.{ne-eqb}
+use borrow.Author.Tests.{eq-eqb, ne-eqb}
 use Rattle.times.specs.Times.{startAt, levelOf}
 use Rattle.times.proofs.laws.Levels.{level-is}
 use Rattle.links.specs.Lists.{nobody, firstD, change}
 use Rattle.links.specs.Links.{at}
-use Rattle.links.proofs.laws.Count.{length-below}
-use Rattle.stack.specs.Places.{slotPlace, slots, places, levelAt, topLevel, mostHeights}
+use Rattle.stack.specs.Places.{slotPlace, slots, places, levelAt, slotAt, topLevel, mostHeights}
+use Rattle.stack.specs.Heads.{slotHead}
+use Rattle.stack.proofs.laws.Heads.{slot-head}
 use Rattle.stack.specs.Whole as stack
 use Rattle.stack.proofs.laws.Whole as stack-laws
 use Rattle.wheel.specs.declared.Expiration.{Expiration}
 use Rattle.wheel.specs.declared.Next.{Next}
 use Rattle.wheel.specs.declared.Next.the-variants.{At, Nothing}
-use Rattle.wheel.specs.Wheel.{Lists, FirstSlot, arrive, Drains, drained, moved, Polls, idle, early, out, drain}
+use Rattle.wheel.specs.Wheel.{Lists, FirstSlot, arrive, Polls, idle, early, out}
+use Rattle.wheel.specs.Limited.{Outcome, ended, yet, start, Limited, rests, waits, hands, finds, stops, moves, empties}
+use Rattle.wheel.specs.Midway.{InHand}
 use Rattle.wheel.specs.Rows.{Rows}
 use Rattle.wheel.proofs.laws.Sums.{total-zero, total-le, total-scale}
-use Rattle.wheel.specs.Between.{Between}
-use Rattle.wheel.proofs.laws.Between.{rule-between}
 use Rattle.wheel.proofs.laws.Next.{slot-below}
 use Rattle.wheel.specs.Drain.{heights}
-use Rattle.wheel.proofs.laws.Drain.{Drained, drain-law, move-rest}
+use Rattle.wheel.proofs.laws.Drain.{move-law}
+use Rattle.wheel.proofs.laws.Midway.{Looking, Inside, start-at, inside-hand, hand-inside, begun, found, moved-on, emptied}
 use Rattle.wheel.proofs.laws.Poll.{poll-law}
-use Rattle.wheel.specs.Expiration.{NotPassed, NextIs}
+use Rattle.wheel.specs.Expiration.{NotPassed, NextIs, GoesTo}
 use Rattle.wheel.proofs.laws.Expiration.{between-passed}
 use Rattle.wheel.specs.Words.{WheelWords, wheelWords, lists, count, WheelWhole, Becomes, LooseIn, CanAdd, CanPop, Pops}
 use Rattle.wheel.proofs.laws.Words.{headAt}
-use Rattle.wheel.specs.Turns.{CanInsert, CanMove, MovesOne, DrainsTo, CanPoll, gotten, PollsTo}
+use Rattle.wheel.specs.Turns.{CanInsert, CanMove, MovesOne, Shifts, stays, shifts, DrainsTo, CanPoll, gotten, outcome, PollsTo}
 
 -- ---- becoming, twice
 
@@ -120,28 +122,24 @@ module _ {t : WheelWords} {ds : List ℕ} {k s : ℕ} (C : CanMove t ds k s) {it
 
 -- ---- a drain, move by move
 
--- t₀ was drained of some entries, `moves` of them, and is t now
-pub record DrainedSo (d : ℕ → ℕ) (t₀ : WheelWords) (k p moves : ℕ) (t : WheelWords) : Type 0 where
+-- t₀ was drained of some entries, so that `left` of `limit` moves are left, and is t now
+pub record DrainedSo (d : ℕ → ℕ) (t₀ : WheelWords) (k p limit left : ℕ) (t : WheelWords) : Type 0 where
+  pub within : left ≤ limit
   pub becomes : Becomes t₀ (lists t) t
-  pub so-far : (m : ℕ) (M : Lists) → Drains d k p (lists t) m M → Drains d k p (lists t₀) (moves + m) M
-  pub left : moves + length (lists t p) ≡ length (lists t₀ p)
+  pub so-far : (m : ℕ) (M : Lists) → Shifts d k p (lists t) m M → Shifts d k p (lists t₀) (limit - left + m) M
 
--- a list has no more members than there are records
-pub list-short : {t : WheelWords} → WheelWhole t → (p : ℕ) → length (lists t p) ≤ nobody
-list-short {t} W p =
-    omega (arith, length-below (lists t p) (count t) (stack-laws.list-nodup (W .stack) p) (stack-laws.member-below (W .stack) p))
-
-one-less : (k : ℕ) → suc k - 1 ≡ k
-one-less k = omega arith
+shifts-as : {d : ℕ → ℕ} {k p m n : ℕ} {L M : Lists} → m ≡ n → Shifts d k p L m M → Shifts d k p L n M
+shifts-as {d} {k} {p} {m} {n} {L} {M} e r = subst (λ (i : ℕ). Shifts d k p L i M) e r
 
 module _ {t₀ : WheelWords} {ds : List ℕ} {k s : ℕ} (C : CanMove t₀ ds k s) where
-  abbrev So : ℕ → WheelWords → Type 0
-  So moves t = DrainedSo (at ds) t₀ (k - 1) (slotPlace k s) moves t
+  abbrev So : ℕ → ℕ → WheelWords → Type 0
+  So limit left t = DrainedSo (at ds) t₀ (k - 1) (slotPlace k s) limit left t
 
-  pub turn-start : So 0 t₀
-  turn-start = record { becomes = becomes-refl (C .pop .whole); so-far = λ m M D. rw zero-add D; left = zero-add _ }
+  pub turn-start : (limit : ℕ) → So limit limit t₀
+  turn-start limit =
+      record { within = omega arith; becomes = becomes-refl (C .pop .whole); so-far = λ m M D. shifts-as (omega arith) D }
 
-  module _ {t : WheelWords} {moves : ℕ} (S : So moves t) where
+  module _ {limit left : ℕ} {t : WheelWords} (S : So limit left t) where
     pub turn-can : CanMove t ds k s
     turn-can =
         record {
@@ -150,49 +148,42 @@ module _ {t₀ : WheelWords} {ds : List ℕ} {k s : ℕ} (C : CanMove t₀ ds k 
           deadlines = omega arith;
         }
 
-    pub turn-few : moves ≤ nobody
-    turn-few = omega (arith, list-short (C .pop .whole) (slotPlace k s))
+    -- the limit is used up
+    pub turn-full : left ≡ 0 → DrainsTo (at ds) t₀ (k - 1) (slotPlace k s) limit left t
+    turn-full z =
+        record {
+          within = S .within;
+          shifted = shifts-as (omega arith) (S .so-far 0 (lists t) stays);
+          becomes = S .becomes;
+          stopped = λ h. absurd (h z);
+        }
 
     module _ {item : ℕ} {u : WheelWords} (Q : MovesOne (at ds) t (k - 1) (slotPlace k s) item u) where
-      pub turn-more : item ≢ nobody → So (moves + 1) u × (length (lists u (slotPlace k s)) < length (lists t (slotPlace k s)))
-      turn-more h =
+      pub turn-more : left ≢ 0 → item ≢ nobody → So limit (left - 1) u
+      turn-more more h =
           let p : ℕ = slotPlace k s in
           let w = was-cons (S .becomes .whole) p (λ e. Q .none e .0) (λ x l e. Q .some x l e .0) h in
           let r = Q .some item (w .0) (w .1) in
-          let z : lists u p ≡ w .0 = rw (r .1 .lists) (move-rest (at ds) (k - 1) p (omega arith) (omega arith) (lists t) item (w .0)
-          (w .1)) in (
-            record {
-              becomes = becomes-trans (S .becomes) (rw (r .1 .lists) (r .1));
-              so-far = λ m M D. subst (λ n. Drains (at ds) (k - 1) p (lists t₀) n M) (omega arith)
-                  (S .so-far (suc m) M (moved (w .1) (rw (r .1 .lists) at D)));
-              left = omega (arith, ap length (w .1), ap length z);
-            },
-            omega (arith, ap length (w .1), ap length z),
-          )
+          record {
+            within = omega (arith, S .within);
+            becomes = becomes-trans (S .becomes) (rw (r .1 .lists) (r .1));
+            so-far = λ m M D. shifts-as (omega (arith, S .within)) (S .so-far (suc m) M (shifts (w .1) (rw (r .1 .lists) at D)));
+          }
 
       -- nobody is left
-      pub turn-done : item ≡ nobody → DrainsTo (at ds) t₀ (k - 1) (slotPlace k s) moves u
+      pub turn-done : item ≡ nobody → DrainsTo (at ds) t₀ (k - 1) (slotPlace k s) limit left u
       turn-done z =
-          let e = was-empty (S .becomes .whole) (slotPlace k s) (λ e. Q .none e .0) (λ x l e. Q .some x l e .0) z in
+          let p : ℕ = slotPlace k s in
+          let e = was-empty (S .becomes .whole) p (λ e. Q .none e .0) (λ x l e. Q .some x l e .0) z in
           let r = Q .none e in
           record {
-            drains = rw (r .1 .lists, ← (add-zero moves)) (S .so-far 0 (lists t) (drained e));
+            within = S .within;
+            shifted = rw (r .1 .lists) (shifts-as (omega arith) (S .so-far 0 (lists t) stays));
             becomes = becomes-trans (S .becomes) (rw (r .1 .lists) (r .1));
-            few = turn-few;
+            stopped = λ h. ap (λ (L : Lists). L p) (r .1 .lists) ∙ e;
           }
 
 -- ---- a poll, look by look
-
--- t₀ was polled up to here, with so many moves and drains, and is t now
-pub record PolledSo (d : ℕ → ℕ) (now : ℕ) (t₀ : WheelWords) (moves drains : ℕ) (t : WheelWords) : Type 0 where
-  pub whole : WheelWhole t
-  pub rule : Between d (t .elapsed) (lists t)
-  pub not-back : t .elapsed ≤ now
-  pub kept : stack.StackKept (t₀ .stack) (t .stack)
-  pub so-far : {got : Option ℕ} {m n e : ℕ} {M : Lists} → Polls d now (t .elapsed) (lists t) got m n e M
-      → Polls d now (t₀ .elapsed) (lists t₀) got (moves + m) (drains + n) e M
-  pub counted : moves + heights (lists t) ≡ heights (lists t₀)
-  pub few : drains ≤ moves
 
 -- each record is at most at the top level
 pub heights-small : {t : WheelWords} → WheelWhole t → heights (lists t) ≤ mostHeights
@@ -203,121 +194,361 @@ heights-small {t} W =
     let c = total-scale topLevel places (lists t) slots 2 (omega arith) in
     omega (arith, total-zero (λ p x. topLevel) (lists t), stack-laws.members-few (W .stack))
 
-got-some : (i : ℕ) → i ≢ nobody → gotten i ≡ some i
+pub got-none : (i : ℕ) → i ≡ nobody → gotten i ≡ none
+got-none i e = rw (eq-eqb i nobody e)
+
+pub got-some : (i : ℕ) → i ≢ nobody → gotten i ≡ some i
 got-some i d = rw (ne-eqb i nobody d)
+
+-- what a poll passes through: it looks, or a drain is in hand
+pub record Passing (d : ℕ → ℕ) (now place e : ℕ) (L : Lists) : Type 0 where
+  pub free : place ≡ nobody → Looking d now e L
+  pub inside : place ≢ nobody → InHand d now place e L
+
+-- t₀ was polled up to here, so many moves were made, `left` more are allowed, and it is t now, with the drain of `place` in hand
+pub record PolledSo (d : ℕ → ℕ) (now limit hand : ℕ) (t₀ : WheelWords) (place left made drains : ℕ) (t : WheelWords) : Type 0 where
+  pub whole : WheelWhole t
+  pub passing : Passing d now place (t .elapsed) (lists t)
+  pub kept : stack.StackKept (t₀ .stack) (t .stack)
+  pub within : made + left ≡ limit
+  pub so-far : {o : Outcome} {m n e : ℕ} {M : Lists} → Limited d now (gotten place) left (t .elapsed) (lists t) o m n e M
+      → Limited d now (gotten hand) limit (t₀ .elapsed) (lists t₀) o (made + m) (drains + n) e M
+  pub counted : made + heights (lists t) ≡ heights (lists t₀)
+  pub few : drains ≤ made
+
+-- equal numbers in a poll with a limit
+module _ {d : ℕ → ℕ} {now e e′ : ℕ} {L N : Lists} where
+  counts-as : {h : Option ℕ} {b m n m′ n′ : ℕ} {o : Outcome} → m ≡ m′ → n ≡ n′ → Limited d now h b e L o m n e′ N
+      → Limited d now h b e L o m′ n′ e′ N
+  counts-as {h} {b} {m} {n} {m′} {n′} {o} p q r =
+      subst (λ (j : ℕ). Limited d now h b e L o m′ j e′ N) q (subst (λ (i : ℕ). Limited d now h b e L o i n e′ N) p r)
+
+  from-as : {h i : Option ℕ} {b c m n : ℕ} {o : Outcome} → h ≡ i → b ≡ c → Limited d now h b e L o m n e′ N → Limited d now i c e L o m n e′ N
+  from-as {h} {i} {b} {c} {m} {n} {o} p q r =
+      subst (λ (j : ℕ). Limited d now i j e L o m n e′ N) q (subst (λ (j : Option ℕ). Limited d now j b e L o m n e′ N) p r)
 
 -- the constructors at the code's level k
 module _ {d : ℕ → ℕ} {now e : ℕ} {L : Lists} where
-  out-at : (k s x : ℕ) (l : List ℕ) → FirstSlot e L k s → k ≡ 0 → startAt e k s ≤ now → L (slotPlace k s) ≡ x ∷ l
-      → Polls d now e L (some x) 0 0 e (change L (slotPlace k s) l)
-  out-at zero s x l F z h i = out F h i
+  out-at : {b : ℕ} (k s x : ℕ) (l : List ℕ) → FirstSlot e L k s → k ≡ 0 → startAt e k s ≤ now → L (slotPlace k s) ≡ x ∷ l
+      → Limited d now none b e L (ended (some x)) 0 0 e (change L (slotPlace k s) l)
+      × Polls d now e L (some x) 0 0 e (change L (slotPlace k s) l)
+  out-at zero s x l F z h i = (hands F h i, out F h i)
   out-at (suc k) s x l F z h i = absurd (omega arith)
 
-  drain-at : (k s : ℕ) → FirstSlot e L k s → k ≢ 0 → startAt e k s ≤ now → {m : ℕ} {M : Lists} → Drains d (k - 1) (slotPlace k s) L m M
-      → {got : Option ℕ} {moves drains e′ : ℕ} {N : Lists} → Polls d now (startAt e k s) M got moves drains e′ N
-      → Polls d now e L got (m + moves) (suc drains) e′ N
-  drain-at zero s F z h D r = absurd (z refl)
-  drain-at (suc k) s F z h D r = drain F h (rw one-less at D) r
+  finds-at : {b m n e′ : ℕ} {N : Lists} {o : Outcome} (k s : ℕ) → FirstSlot e L k s → k ≢ 0 → startAt e k s ≤ now
+      → Limited d now (some (slotPlace k s)) b e L o m n e′ N → Limited d now none b e L o m n e′ N
+  finds-at zero s F z h r = absurd (z refl)
+  finds-at (suc k) s F z h r = finds F h r
 
-drained-at : {d : ℕ → ℕ} {e : ℕ} {L : Lists} → Between d e L → (k s : ℕ) → FirstSlot e L k s → k ≢ 0 → {m : ℕ} {M : Lists}
-    → Drains d (k - 1) (slotPlace k s) L m M → Drained d e L m (startAt e k s) M
-drained-at B zero s F z D = absurd (z refl)
-drained-at B (suc k) s F z D = drain-law B F (rw one-less at D)
+  found-at : Looking d now e L → (k s : ℕ) → FirstSlot e L k s → k ≢ 0 → startAt e k s ≤ now → InHand d now (slotPlace k s) e L
+  found-at P zero s F z h = absurd (z refl)
+  found-at P (suc k) s F z h = inside-hand d now (found d now P F h) (F .filled)
 
-module _ {t₀ : WheelWords} {ds : List ℕ} {now : ℕ} (C : CanPoll t₀ ds now) where
+-- some moves out of p
+module _ {d : ℕ → ℕ} {now : ℕ} where
+  shifts-limited : {k p b e m i n e′ : ℕ} {L M N : Lists} {o : Outcome} → k ≡ levelAt p - 1 → Shifts d k p L m M
+      → Limited d now (some p) b e M o i n e′ N → Limited d now (some p) (m + b) e L o (m + i) n e′ N
+  shifts-limited {b = b} {i = i} z stays r = rw (zero-add b, zero-add i) r
+  shifts-limited {k} {p} {b} {e} {i = i} {n} {e′} {N = N} {o = o} z (shifts {L = L} {m = m} {x = x} {l = l} is D) r =
+      let q = shifts-limited z D r in
+      let w : Limited d now (some p) (m + b) e (arrive (levelAt p - 1) (d x) x (change L p l)) o (m + i) n e′ N
+      = subst (λ (j : ℕ). Limited d now (some p) (m + b) e (arrive j (d x) x (change L p l)) o (m + i) n e′ N) z q in
+      counts-as (omega arith) refl (from-as refl (omega arith) (moves is w))
+
+  shifts-inside : {k p e m : ℕ} {L M : Lists} → Inside d now k p e L → Shifts d k p L m M → Inside d now k p e M
+  shifts-inside D stays = D
+  shifts-inside D (shifts is S) = shifts-inside (moved-on d now D is) S
+
+  shifts-fallen : {k p e m : ℕ} {L M : Lists} → Inside d now k p e L → Shifts d k p L m M → m + heights M ≡ heights L
+  shifts-fallen D stays = omega arith
+  shifts-fallen {k} {p} D (shifts {L = L} {x = x} {l = l} is S) =
+      omega (arith, shifts-fallen (moved-on d now D is) S, move-law d k p (D .level) (D .below) L x l is .fallen)
+
+shifts-some : {d : ℕ → ℕ} {k p m x : ℕ} {L M : Lists} {l : List ℕ} → L p ≡ x ∷ l → M p ≡ [] → Shifts d k p L m M → 0 < m
+shifts-some is e stays = absurd (nil≢cons (sym e ∙ is))
+shifts-some is e (shifts i S) = omega arith
+
+module _ {t₀ : WheelWords} {ds : List ℕ} {hand now : ℕ} (C : CanPoll t₀ ds hand now) (limit : ℕ) where
   abbrev d : ℕ → ℕ
   d = at ds
 
-  abbrev PollSo : ℕ → ℕ → WheelWords → Type 0
-  PollSo moves drains t = PolledSo d now t₀ moves drains t
+  abbrev PollSo : ℕ → ℕ → ℕ → ℕ → WheelWords → Type 0
+  PollSo place left made drains t = PolledSo d now limit hand t₀ place left made drains t
 
-  pub poll-start : PollSo 0 0 t₀
+  pub poll-start : PollSo hand limit 0 0 t₀
   poll-start =
       record {
         whole = C .whole;
-        rule = rule-between (C .rule);
-        not-back = C .not-back;
+        passing = record {
+          free = λ z. begun d now (C .rule .free z) (C .stack) (C .not-back z);
+          inside = λ z. C .rule .inside z;
+        };
         kept = stack-laws.kept-refl (t₀ .stack);
-        so-far = λ {got} {m} {n} {e} {M} r. rw (zero-add m, zero-add n) r;
-        counted = zero-add _;
+        within = omega arith;
+        so-far = λ {o} {m} {n} {e} {M} r. counts-as (omega arith) (omega arith) r;
+        counted = omega arith;
         few = omega arith;
       }
 
-  -- what the whole poll leaves
-  ends : {t′ : WheelWords} (item moves drains : ℕ) → Polls d now (t₀ .elapsed) (lists t₀) (gotten item) moves drains (t′ .elapsed)
-      (lists t′)
-      → WheelWhole t′ → stack.StackKept (t₀ .stack) (t′ .stack) → (item ≢ nobody → LooseIn t′ item) → PollsTo d now t₀ item moves drains t′
-  ends item moves drains r W K l =
-      record { polls = r; whole = W; rule = poll-law (rule-between (C .rule)) (C .stack) (C .not-back) r .rule; kept = K; loose = l }
+  module _ {place left count drains : ℕ} {t : WheelWords} (S : PollSo place left count drains t) where
+    pub counts-small : (count ≤ mostHeights) × (drains ≤ mostHeights)
+    counts-small = omega (arith, heights-small (C .whole), S .counted, S .few)
 
-  module _ {t : WheelWords} {moves drains : ℕ} (S : PollSo moves drains t) where
-    pub look-asks : NotPassed (t .elapsed) (t .occupied)
-    look-asks = between-passed (S .rule) (S .whole .rows)
+    -- ---- it looks
 
-    pub counts-small : (moves ≤ mostHeights) × (drains ≤ mostHeights)
-    counts-small = omega (arith, heights-small (C .whole))
+    module _ (free : place ≡ nobody) where
+      looking : Looking d now (t .elapsed) (lists t)
+      looking = S .passing .free free
 
-    rest : Polls d now (t .elapsed) (lists t) none 0 0 now (lists t)
-        → PollsTo d now t₀ nobody moves drains (wheelWords now (t .occupied) (t .stack))
-    rest r =
-        ends nobody moves drains (rw (add-zero moves, add-zero drains) at (S .so-far r))
-        (record { stack = S .whole .stack; rows = S .whole .rows }) (S .kept)
-        (λ h. absurd (h refl))
+      look-asks : NotPassed (t .elapsed) (t .occupied)
+      look-asks = between-passed (looking .rule) (S .whole .rows)
 
-    -- an empty wheel
-    pub poll-idle : NextIs (t .elapsed) (lists t) Nothing → PollsTo d now t₀ nobody moves drains (wheelWords now (t .occupied) (t .stack))
-    poll-idle E = rest (idle E)
+      -- the poll ends: what it hands out, elapsed and the lists after it
+      ends : {item : ℕ} {u : WheelWords} → Limited d now none left (t .elapsed) (lists t) (ended (gotten item)) 0 0 (u .elapsed) (lists u)
+          → Polls d now (t .elapsed) (lists t) (gotten item) 0 0 (u .elapsed) (lists u)
+          → WheelWhole u → stack.StackKept (t .stack) (u .stack) → (item ≢ nobody → LooseIn u item)
+          → PollsTo d now limit hand t₀ item place count drains u
+      ends {item} {u} r p W K l =
+          let o : outcome item place ≡ ended (gotten item) = rw (eq-eqb place nobody free) in
+          record {
+            polls = rw o (counts-as (omega arith) (omega arith) (S .so-far (from-as (sym (got-none place free)) refl r)));
+            whole = W;
+            rule = record {
+              free = λ z. poll-law (looking .rule) (looking .stack) (looking .due) p .rule;
+              inside = λ z. absurd (z free);
+            };
+            kept = stack-laws.kept-trans (S .kept) K;
+            loose = l;
+          }
 
-    module _ {k s : ℕ} (F : FirstSlot (t .elapsed) (lists t) k s) (c : ℕ) (ec : c ≡ startAt (t .elapsed) k s) where
-      -- a slot start past now
-      pub poll-early : now < c → PollsTo d now t₀ nobody moves drains (wheelWords now (t .occupied) (t .stack))
-      poll-early h = rest (early F (omega arith))
+      rest : Limited d now none left (t .elapsed) (lists t) (ended none) 0 0 now (lists t) → Polls d now (t .elapsed) (lists t) none 0 0 now (lists t)
+          → PollsTo d now limit hand t₀ nobody place count drains (wheelWords now (t .occupied) (t .stack))
+      rest r p =
+          ends {item = nobody} r p (record { stack = S .whole .stack; rows = S .whole .rows }) (stack-laws.kept-refl (t .stack)) (λ h. absurd (h refl))
 
-      pub pop-can : CanPop t k s
-      pop-can = record { whole = S .whole; level = F .within; slot = slot-below (S .rule) F }
+      -- an empty wheel
+      pub poll-idle : NextIs (t .elapsed) (lists t) Nothing
+          → PollsTo d now limit hand t₀ nobody place count drains (wheelWords now (t .occupied) (t .stack))
+      poll-idle E = rest (rests E) (idle E)
 
-      -- the head of a slot of level 0
-      pub poll-out : k ≡ 0 → c ≤ now → (item : ℕ) {u : WheelWords} → Pops t (slotPlace k s) item u → PollsTo d now t₀ item moves drains u
-      poll-out z due item {u} Q =
-          let x : ℕ = F .head in
-          let l : List ℕ = F .rest in
-          let r = Q .some x l (F .filled) in
-          let h : item ≢ nobody = omega arith in
-          let o : Polls d now (t .elapsed) (lists t) (some x) 0 0 (t .elapsed) (change (lists t) (slotPlace k s) l) = out-at k s x l F z
-          (omega arith) (F .filled) in
-          let g : gotten item ≡ some x = got-some item h ∙ ap some (r .0) in
-          let e : u .elapsed ≡ t .elapsed = r .2 .elapsed in
-          ends item moves drains
-          (rw (g, e, r .2 .lists) (rw (add-zero moves, add-zero drains) at (S .so-far o)))
-          (r .2 .whole) (stack-laws.kept-trans (S .kept) (r .2 .kept)) (λ y. rw (r .0) (r .1))
+      module _ {k s : ℕ} (F : FirstSlot (t .elapsed) (lists t) k s) (c : ℕ) (ec : c ≡ startAt (t .elapsed) k s) where
+        -- a slot start past now
+        pub poll-early : now < c
+            → PollsTo d now limit hand t₀ nobody place count drains (wheelWords now (t .occupied) (t .stack))
+        poll-early h = rest (waits F (omega arith)) (early F (omega arith))
 
-      pub drain-can : k ≢ 0 → CanMove t ds k s
-      drain-can z = record { pop = pop-can; high = omega arith; deadlines = omega arith }
+        pub pop-can : CanPop t k s
+        pop-can = record { whole = S .whole; level = F .within; slot = slot-below (looking .rule) F }
 
-      -- a slot above level 0 is drained, and elapsed becomes its start
-      pub poll-drain : (z : k ≢ 0) → c ≤ now → (m : ℕ) {u : WheelWords} → DrainsTo d t (k - 1) (slotPlace k s) m u
-          → PollSo (moves + m) (drains + 1) (wheelWords c (u .occupied) (u .stack)) × (heights (lists u) < heights (lists t))
-      poll-drain z due m D =
-          let R = drained-at (S .rule) k s F z (D .drains) in (
+        -- the head of a slot of level 0
+        pub poll-out : k ≡ 0 → c ≤ now → (item : ℕ) {u : WheelWords} → Pops t (slotPlace k s) item u
+            → PollsTo d now limit hand t₀ item place count drains u
+        poll-out z due item {u} Q =
+            let x : ℕ = F .head in
+            let l : List ℕ = F .rest in
+            let r = Q .some x l (F .filled) in
+            let h : item ≢ nobody
+            = omega (
+              arith,
+              r .0,
+              stack-laws.member-below (S .whole .stack) (slotPlace k s) x (rw (F .filled) (inl refl)),
+              stack-laws.small (S .whole .stack),
+            ) in
+            let o = out-at {d = d} {now = now} {b = left} k s x l F z (omega arith) (F .filled) in
+            let g : gotten item ≡ some x = got-some item h ∙ ap some (r .0) in
+            ends {item = item} {u = u} (rw (g, r .2 .elapsed, r .2 .lists) (o .0)) (rw (g, r .2 .elapsed, r .2 .lists) (o .1)) (r .2 .whole) (r .2 .kept)
+            (λ y. rw (r .0) (r .1))
+
+        -- a slot above level 0: its drain is in hand
+        pub poll-finds : k ≢ 0 → c ≤ now → (p : ℕ) → p ≡ slotPlace k s → PollSo p left count drains t
+        poll-finds z due p is =
+            let hs = slot-below (looking .rule) F in
+            let n : p ≢ nobody = omega (arith, is, hs, F .within) in
+            let H : InHand d now p (t .elapsed) (lists t) = rw is (found-at looking k s F z (omega arith)) in
             record {
-              whole = record { stack = D .becomes .whole .stack; rows = D .becomes .whole .rows };
-              rule = rw ec (R .rule);
-              not-back = due;
-              kept = stack-laws.kept-trans (S .kept) (D .becomes .kept);
-              so-far = λ {got} {m = i} {n} {e} {M} r.
-                  let r′ : Polls d now (t .elapsed) (lists t) got (m + i) (suc n) e M = drain-at k s F z (omega arith) (D .drains)
-                  (rw ec at r) in
-                  rw (add-assoc moves m i, add-assoc drains 1 n, one-add n) (S .so-far r′);
-              counted = omega arith;
-              few = omega arith;
-            },
-            omega arith,
-          )
+              whole = S .whole;
+              passing = record { free = λ w. absurd (n w); inside = λ w. H };
+              kept = S .kept;
+              within = S .within;
+              so-far = λ {o} {m} {n = i} {e} {M} r.
+                  S .so-far (from-as (sym (got-none place free)) refl (finds-at k s F z (omega arith) (from-as (got-some p n ∙ ap some is) refl r)));
+              counted = S .counted;
+              few = S .few;
+            }
 
--- what a look found, by the answer's case
-module _ {t : WheelWords} (W : WheelWhole t) {r : Next} (N : (L : Lists) → Rows (t .occupied) L → NextIs (t .elapsed) L r) where
-  pub look-nothing : r ≡ Nothing → NextIs (t .elapsed) (lists t) Nothing
-  look-nothing e = rw e at (N (lists t) (W .rows))
+    -- ---- the drain in hand
 
-  pub look-at : (x : Expiration) → r ≡ At x → NextIs (t .elapsed) (lists t) (At x)
-  look-at x e = rw e at (N (lists t) (W .rows))
+    module _ (held : place ≢ nobody) where
+      hand-is : InHand d now place (t .elapsed) (lists t)
+      hand-is = S .passing .inside held
+
+      module _ (k s : ℕ) (ek : k ≡ levelAt place) (es : s ≡ slotAt place) where
+        hand-parts : (k < 6) × (s < 64) × (place ≡ slotPlace k s)
+        hand-parts = (omega (arith, hand-is .below), omega (arith, es), omega (arith, ek, es))
+
+        pub drain-can : CanMove t ds k s
+        drain-can =
+            record {
+              pop = record { whole = S .whole; level = hand-parts .0; slot = hand-parts .1 };
+              high = omega (arith, ek, hand-is .high);
+              deadlines = omega (arith, C .deadlines, S .kept .size);
+            }
+
+        module _ (r : ℕ) {u : WheelWords} (D : DrainsTo d t (k - 1) (slotPlace k s) left r u) (c : ℕ) (is : c ≡ limit - r) where
+          at-place : slotPlace k s ≡ place
+          at-place = omega (arith, ek, es)
+
+          shifted : Shifts d (levelAt place - 1) place (lists t) (left - r) (lists u)
+          shifted = rw (at-place, ek) at (D .shifted)
+
+          inside : Inside d now (levelAt place - 1) place (t .elapsed) (lists u)
+          inside = shifts-inside (hand-inside d now hand-is) shifted
+
+          fallen : left - r + heights (lists u) ≡ heights (lists t)
+          fallen = shifts-fallen (hand-inside d now hand-is) shifted
+
+          head-at : headAt u place ≡ slotHead (u .stack .heads) k s
+          head-at = ap (headAt u) (sym at-place) ∙ sym (slot-head k s (hand-parts .0) (hand-parts .1) (u .stack .stacks) (u .stack .heads))
+
+          -- the limit is used up, and the head is left
+          pub poll-yet : slotHead (u .stack .heads) k s ≢ nobody → PollsTo d now limit hand t₀ nobody place c drains u
+          poll-yet h =
+              let f = stack-laws.list-cons (D .becomes .whole .stack) place (λ z. h (sym head-at ∙ z)) in
+              let z : r ≡ 0 = by-cases (ℕ-discrete r 0) (λ w. w)
+              (λ w. absurd (nil≢cons (sym (rw at-place at (D .stopped w)) ∙ f .1))) in
+              let q : Limited d now (some place) (left - r + 0) (t .elapsed) (lists t) (yet place) (left - r + 0) 0 (t .elapsed) (lists u)
+              = shifts-limited refl shifted (stops (f .1)) in
+              let o : outcome nobody place ≡ yet place = rw (ne-eqb place nobody held) in
+              record {
+                polls = rw (o, D .becomes .elapsed) (counts-as (omega (arith, S .within, D .within, is)) (omega arith)
+                    (S .so-far (from-as (sym (got-some place held)) (omega (arith, D .within, z)) q)));
+                whole = D .becomes .whole;
+                rule = record {
+                  free = λ w. absurd (held w);
+                  inside = λ w. rw (D .becomes .elapsed) (inside-hand d now inside (f .1));
+                };
+                kept = stack-laws.kept-trans (S .kept) (D .becomes .kept);
+                loose = λ w. absurd (w refl);
+              }
+
+          -- the slot is empty, elapsed becomes its start, and it looks again
+          pub poll-drained : slotHead (u .stack .heads) k s ≡ nobody → (w : ℕ) → w ≡ startAt (t .elapsed) k s
+              → PollSo nobody r c (drains + 1) (wheelWords w (u .occupied) (u .stack)) × (heights (lists u) < heights (lists t))
+          poll-drained h w ew =
+              let e : lists u place ≡ [] = stack-laws.list-empty (D .becomes .whole .stack) place (head-at ∙ h) in
+              let f = hand-is .filled in
+              let pos : 0 < left - r = shifts-some (f .2) e shifted in
+              let st : w ≡ start (t .elapsed) place = ew ∙ rw (ek, es) in
+              let P : Looking d now (start (t .elapsed) place) (lists u) = rw (start-at d now (levelAt place - 1) place (t .elapsed) (inside .level))
+              (emptied d now inside e) in (
+                record {
+                  whole = record { stack = D .becomes .whole .stack; rows = D .becomes .whole .rows };
+                  passing = record { free = λ z. rw st P; inside = λ z. absurd (z refl) };
+                  kept = stack-laws.kept-trans (S .kept) (D .becomes .kept);
+                  within = omega (arith, S .within, D .within, is);
+                  so-far = λ {o} {m} {n} {e = e′} {M} q.
+                      let q₁ : Limited d now none r (start (t .elapsed) place) (lists u) o m n e′ M = rw st at q in
+                      let q₂ = shifts-limited refl shifted (empties e q₁) in
+                      counts-as (omega (arith, S .within, D .within, is)) (omega arith)
+                      (S .so-far (from-as (sym (got-some place held)) (omega (arith, D .within)) q₂));
+                  counted = omega (arith, S .counted, fallen, S .within, D .within, is);
+                  few = omega (arith, S .few, pos, S .within, D .within, is);
+                },
+                omega (arith, fallen, pos),
+              )
+
+-- ---- the poll goes on: with the drain in hand, or with the first slot
+
+-- what `next_slot` found, by the answer's case
+goes-nothing : {e hand : ℕ} {L : Lists} {r : Next} → GoesTo e hand L r → r ≡ Nothing → GoesTo e hand L Nothing
+goes-nothing G z = rw z at G
+
+goes-at : {e hand : ℕ} {L : Lists} {r : Next} → GoesTo e hand L r → (x : Expiration) → r ≡ At x → GoesTo e hand L (At x)
+goes-at G x z = rw z at G
+
+module _ {t₀ : WheelWords} {ds : List ℕ} {hand now : ℕ} (C : CanPoll t₀ ds hand now) (limit : ℕ)
+    {place left count drains : ℕ} {t : WheelWords} (S : PolledSo (at ds) now limit hand t₀ place left count drains t) where
+  pub next-asks : (place ≡ nobody → NotPassed (t .elapsed) (t .occupied)) × (place ≢ nobody → place < slots)
+  next-asks = (λ z. look-asks C limit S z, λ z. S .passing .inside z .below)
+
+  module _ {r : Next} (N : (L : Lists) → Rows (t .occupied) L → GoesTo (t .elapsed) place L r) where
+    -- an empty wheel: nothing is in hand
+    pub next-idle : r ≡ Nothing → PollsTo (at ds) now limit hand t₀ nobody place count drains (wheelWords now (t .occupied) (t .stack))
+    next-idle e =
+        let G = goes-nothing (N (lists t) (S .whole .rows)) e in
+        by-cases (ℕ-discrete place nobody) (λ z. poll-idle C limit S z (G .free z)) (λ z. absurd (G .held z))
+
+    module _ (x : Expiration) (e : r ≡ At x) where
+      goes : GoesTo (t .elapsed) place (lists t) (At x)
+      goes = goes-at (N (lists t) (S .whole .rows)) x e
+
+      held-start : (z : place ≢ nobody) → x .deadline ≡ start (t .elapsed) place
+      held-start z = let G = goes .held z in G .2 ∙ rw (G .0, G .1)
+
+      -- a slot start past now, or a slot of level 0: nothing is in hand
+      pub next-early : now < x .deadline → PollsTo (at ds) now limit hand t₀ nobody place count drains (wheelWords now (t .occupied) (t .stack))
+      next-early h =
+          by-cases (ℕ-discrete place nobody)
+          (λ z. let F = goes .free z in poll-early C limit S z (F .0) _ (F .1) h)
+          (λ z. absurd (omega (arith, h, held-start z, S .passing .inside z .due)))
+
+      module _ (low : x .level ≡ 0) where
+        none-held : place ≡ nobody
+        none-held =
+            by-cases (ℕ-discrete place nobody) (λ z. z)
+            (λ z. absurd (omega (arith, low, goes .held z .0, S .passing .inside z .high)))
+
+        pub next-pops : CanPop t (x .level) (x .slot)
+        next-pops = let F = goes .free none-held in pop-can C limit S none-held (F .0) _ (F .1)
+
+        pub next-out : x .deadline ≤ now → (item : ℕ) {u : WheelWords} → Pops t (slotPlace (x .level) (x .slot)) item u
+            → PollsTo (at ds) now limit hand t₀ item place count drains u
+        next-out due item Q = let F = goes .free none-held in poll-out C limit S none-held (F .0) _ (F .1) low due item Q
+
+      -- a slot above level 0: its drain is in hand
+      module _ (high : x .level ≢ 0) (due : x .deadline ≤ now) where
+        abbrev p : ℕ
+        p = slotPlace (x .level) (x .slot)
+
+        parts : (x .level < 6) × (x .slot < 64)
+        parts =
+            by-cases (ℕ-discrete place nobody)
+            (λ z. let F = goes .free z in let q = pop-can C limit S z (F .0) _ (F .1) in (q .level, q .slot))
+            (λ z. let G = goes .held z in let q = hand-parts C limit S z _ _ (G .0) (G .1) in (q .0, q .1))
+
+        drains-it : PolledSo (at ds) now limit hand t₀ p left count drains t
+        drains-it =
+            by-cases (ℕ-discrete place nobody)
+            (λ z. let F = goes .free z in poll-finds C limit S z (F .0) _ (F .1) high due p refl)
+            (λ z.
+            let G = goes .held z in
+            let q : place ≡ p = hand-parts C limit S z _ _ (G .0) (G .1) .2 in
+            subst (λ (y : ℕ). PolledSo (at ds) now limit hand t₀ y left count drains t) q S)
+
+        some-place : p ≢ nobody
+        some-place = omega (arith, parts)
+
+        level-at : x .level ≡ levelAt p
+        level-at = omega (arith, parts)
+
+        slot-at : x .slot ≡ slotAt p
+        slot-at = omega (arith, parts)
+
+        pub next-parts : (x .level < 6) × (x .slot < 64)
+        next-parts = parts
+
+        pub next-can : CanMove t ds (x .level) (x .slot)
+        next-can = drain-can C limit drains-it some-place _ _ level-at slot-at
+
+        module _ (o : ℕ) {u : WheelWords} (D : DrainsTo (at ds) t (x .level - 1) p left o u) (c : ℕ) (is : c ≡ limit - o) where
+          pub next-yet : slotHead (u .stack .heads) (x .level) (x .slot) ≢ nobody → (q : ℕ) → q ≡ p
+              → PollsTo (at ds) now limit hand t₀ nobody q c drains u
+          next-yet h q z = rw z (poll-yet C limit drains-it some-place _ _ level-at slot-at o D c is h)
+
+          pub next-drained : slotHead (u .stack .heads) (x .level) (x .slot) ≡ nobody
+              → PolledSo (at ds) now limit hand t₀ nobody o c (drains + 1) (wheelWords (x .deadline) (u .occupied) (u .stack))
+              × (heights (lists u) < heights (lists t))
+          next-drained h = poll-drained C limit drains-it some-place _ _ level-at slot-at o D c is h _ start-is
+            where
+              start-is : x .deadline ≡ startAt (t .elapsed) (x .level) (x .slot)
+              start-is = by-cases (ℕ-discrete place nobody) (λ z. goes .free z .1) (λ z. goes .held z .2)

@@ -1,22 +1,26 @@
--- `poll` meets its contract: what the poll says from here it says from the start with the counts so far (`poll-drain`, and a law for each
--- way out).
+-- `poll` meets its contract: what the poll says from here it says from the start with the counts so far (`next-drained`, and a law for each way
+-- out).
 use borrow.Author.Needs.{needs}
+use Prim.Native.Nat.{_<_}
 use native.Mathlib.Omega.{arith}
+use mathlib.Core.Path.{refl}
 use Rattle.links.specs.Links.{at}
 use Rattle.wheel.specs.Words.{words, lists}
 use Rattle.wheel.specs.Drain.{heights}
-use Rattle.wheel.proofs.laws.Turns.{PolledSo, poll-start, look-asks, look-nothing, look-at, counts-small}
-use Rattle.wheel.proofs.laws.Turns.{poll-idle, poll-early, pop-can, poll-out, drain-can, poll-drain}
+use Rattle.wheel.proofs.laws.Turns.{PolledSo, poll-start, counts-small}
+use Rattle.wheel.proofs.laws.Turns.{next-asks, next-idle, next-early, next-pops, next-out, next-parts, next-can, next-yet, next-drained}
 use Rattle.wheel.proofs.poll.Statement.{statement}
 use Rattle.wheel.proofs.poll.Tie as tie
 
 abbrev Inv-loop : tie.InvT-loop
-Inv-loop elapsed rows₀ tops heads₀ nexts₀ prevs₀ marks₀ deadlines time e₀ moves₀ drains₀ rows heads nexts prevs marks e moves drains =
-    PolledSo (at deadlines) time (words elapsed rows₀ tops heads₀ nexts₀ prevs₀ marks₀)
-    moves drains (words e rows tops heads nexts prevs marks)
+Inv-loop elapsed rows₀ tops heads₀ nexts₀ prevs₀ marks₀ deadlines hand time limit e₀ place₀ left₀ moves₀ drains₀
+    rows heads nexts prevs marks e place left moves drains =
+    PolledSo (at deadlines) time limit hand (words elapsed rows₀ tops heads₀ nexts₀ prevs₀ marks₀)
+    place left moves drains (words e rows tops heads nexts prevs marks)
 
 abbrev μ-loop : tie.MeasureT-loop
-μ-loop elapsed rows₀ tops heads₀ nexts₀ prevs₀ marks₀ deadlines time e₀ moves₀ drains₀ rows heads nexts prevs marks e moves drains =
+μ-loop elapsed rows₀ tops heads₀ nexts₀ prevs₀ marks₀ deadlines hand time limit e₀ place₀ left₀ moves₀ drains₀
+    rows heads nexts prevs marks e place left moves drains =
     heights (lists (words e rows tops heads nexts prevs marks))
 
 abbrev start : tie.At-loop Inv-loop μ-loop → tie.Start Inv-loop μ-loop
@@ -24,10 +28,10 @@ start c =
     let a = c .before .before .before .before in
     a .before
 
-abbrev turn : tie.After-next-expiration Inv-loop μ-loop → tie.At-loop Inv-loop μ-loop
+abbrev turn : tie.After-next-slot Inv-loop μ-loop → tie.At-loop Inv-loop μ-loop
 turn c = c .before .before
 
-abbrev found : tie.After-known-told Inv-loop μ-loop → tie.After-next-expiration Inv-loop μ-loop
+abbrev found : tie.After-known-told Inv-loop μ-loop → tie.After-next-slot Inv-loop μ-loop
 found c = c .before .before .before
 
 abbrev popping : tie.After-pop-entry-arg5 Inv-loop μ-loop → tie.Then2 Inv-loop μ-loop
@@ -51,10 +55,10 @@ drained c =
     a .before .before
 
 loop-holds : tie.Need-loop-holds Inv-loop μ-loop
-loop-holds c = poll-start (c .before .before .before .before .pre)
+loop-holds c = poll-start (c .before .before .before .before .pre) _
 
-next-expiration-requires : tie.Need-next-expiration-requires Inv-loop μ-loop
-next-expiration-requires c κs = look-asks (start (c .before) .pre) (c .before .loop .inv)
+next-slot-requires : tie.Need-next-slot-requires Inv-loop μ-loop
+next-slot-requires c κs = next-asks (start (c .before) .pre) _ (c .before .loop .inv)
 
 enum-known-next : tie.Need-enum-known-next Inv-loop μ-loop
 enum-known-next c = search needs
@@ -64,11 +68,11 @@ enum-told c = search needs
 
 pop-entry-requires : tie.Need-pop-entry-requires Inv-loop μ-loop
 pop-entry-requires c κs =
-    let k = popping c .before .before in
+    let o = popping c in
+    let k = o .before .before in
     let n = found k in
     let t = turn n in
-    let f = look-at (t .loop .inv .whole) (n .next-expiration .ensures) _ (k .before .next .given .1) in
-    pop-can (start t .pre) (t .loop .inv) (f .0) _ (f .1)
+    next-pops (start t .pre) _ (t .loop .inv) (n .next-slot .ensures) _ (k .before .next .given .1) (o .if2 .taken)
 
 poll-expiration-requires : tie.Need-poll-expiration-requires Inv-loop μ-loop
 poll-expiration-requires c κs =
@@ -76,48 +80,79 @@ poll-expiration-requires c κs =
     let k = d .before .before in
     let n = found k in
     let t = turn n in
-    let f = look-at (t .loop .inv .whole) (n .next-expiration .ensures) _ (k .before .next .given .1) in
-    drain-can (start t .pre) (t .loop .inv) (f .0) _ (f .1) (d .if2 .left)
+    next-can (start t .pre) _ (t .loop .inv) (n .next-slot .ensures) _ (k .before .next .given .1) (d .if2 .left) (d .before .if1 .left)
 
-add-moves : tie.Need-add-moves Inv-loop μ-loop
-add-moves c =
+sub-moves : tie.Need-sub-moves Inv-loop μ-loop
+sub-moves c =
     let p = drained c in
-    let d = draining (p .before) in
-    let t = turn (found (d .before .before)) in
-    omega (arith, counts-small (start t .pre) (t .loop .inv), p .poll-expiration .ensures .few)
+    let t = turn (found (draining (p .before) .before .before)) in
+    omega (arith, p .poll-expiration .ensures .within, t .loop .inv .within)
+
+-- the slot that it goes on with, once it is drained
+abbrev known : tie.After-slice-known9 Inv-loop μ-loop → tie.After-next Inv-loop μ-loop
+known c = draining (drained c .before) .before .before .before
+
+parts : (c : tie.After-slice-known9 Inv-loop μ-loop) → (known c .next .given .0 .0 .level < 6) × (known c .next .given .0 .0 .slot < 64)
+parts c =
+    let d = draining (drained c .before) in
+    let k = d .before .before in
+    let n = found k in
+    let t = turn n in
+    next-parts (start t .pre) _ (t .loop .inv) (n .next-slot .ensures) _ (k .before .next .given .1) (d .if2 .left) (d .before .if1 .left)
+
+mul-if3 : tie.Need-mul-if3 Inv-loop μ-loop
+mul-if3 c =
+    let q = parts c in
+    search needs
+
+mul-if3-2 : tie.Need-mul-if3-2 Inv-loop μ-loop
+mul-if3-2 c =
+    let q = parts c in
+    search needs
+
+index-1-if3 : tie.Need-index-1-if3 Inv-loop μ-loop
+index-1-if3 c =
+    let q = parts c in
+    search needs
+
+index-2-if3 : tie.Need-index-2-if3 Inv-loop μ-loop
+index-2-if3 c =
+    let q = parts c in
+    search needs
+
+slot-place-requires : tie.Need-slot-place-requires Inv-loop μ-loop
+slot-place-requires c κs = parts (c .before .before)
 
 add-drains : tie.Need-add-drains Inv-loop μ-loop
 add-drains c =
-    let p = drained c in
-    let d = draining (p .before) in
-    let t = turn (found (d .before .before)) in
-    omega (arith, counts-small (start t .pre) (t .loop .inv))
+    let t = turn (found (draining (drained (c .before .before) .before) .before .before)) in
+    omega (arith, counts-small (start t .pre) _ (t .loop .inv))
 
 loop-less : tie.Need-loop-less Inv-loop μ-loop
 loop-less c =
-    let p = drained c in
+    let p = drained (c .before .before) in
     let d = draining (p .before) in
     let k = d .before .before in
     let n = found k in
     let t = turn n in
-    let f = look-at (t .loop .inv .whole) (n .next-expiration .ensures) _ (k .before .next .given .1) in
-    poll-drain (start t .pre) (t .loop .inv) (f .0) _ (f .1) (d .if2 .left) (d .before .if1 .left) _ (p .poll-expiration .ensures) .1
+    next-drained (start t .pre) _ (t .loop .inv) (n .next-slot .ensures) _ (k .before .next .given .1) (d .if2 .left) (d .before .if1 .left)
+    _ (p .poll-expiration .ensures) _ refl (c .if3 .left) .1
 
 loop-again : tie.Need-loop-again Inv-loop μ-loop
 loop-again c =
-    let p = drained c in
+    let p = drained (c .before .before) in
     let d = draining (p .before) in
     let k = d .before .before in
     let n = found k in
     let t = turn n in
-    let f = look-at (t .loop .inv .whole) (n .next-expiration .ensures) _ (k .before .next .given .1) in
-    poll-drain (start t .pre) (t .loop .inv) (f .0) _ (f .1) (d .if2 .left) (d .before .if1 .left) _ (p .poll-expiration .ensures) .0
+    next-drained (start t .pre) _ (t .loop .inv) (n .next-slot .ensures) _ (k .before .next .given .1) (d .if2 .left) (d .before .if1 .left)
+    _ (p .poll-expiration .ensures) _ refl (c .if3 .left) .0
 
 returns : tie.Need-returns Inv-loop μ-loop
 returns c =
     let n = c .before .before in
     let t = turn n in
-    poll-idle (start t .pre) (t .loop .inv) (look-nothing (t .loop .inv .whole) (n .next-expiration .ensures) (c .enum-told .given .1))
+    next-idle (start t .pre) _ (t .loop .inv) (n .next-slot .ensures) (c .enum-told .given .1)
 
 same-length : tie.Need-same-length Inv-loop μ-loop
 same-length c = returns c .kept .links .nexts .size
@@ -133,8 +168,7 @@ returns-2 c =
     let k = c .before in
     let n = found k in
     let t = turn n in
-    let f = look-at (t .loop .inv .whole) (n .next-expiration .ensures) _ (k .before .next .given .1) in
-    poll-early (start t .pre) (t .loop .inv) (f .0) _ (f .1) (c .if1 .taken)
+    next-early (start t .pre) _ (t .loop .inv) (n .next-slot .ensures) _ (k .before .next .given .1) (c .if1 .taken)
 
 same-length-4 : tie.Need-same-length-4 Inv-loop μ-loop
 same-length-4 c = returns-2 c .kept .links .nexts .size
@@ -152,8 +186,8 @@ returns-3 c =
     let k = o .before .before in
     let n = found k in
     let t = turn n in
-    let f = look-at (t .loop .inv .whole) (n .next-expiration .ensures) _ (k .before .next .given .1) in
-    poll-out (start t .pre) (t .loop .inv) (f .0) _ (f .1) (o .if2 .taken) (o .before .if1 .left) _ (p .pop-entry .ensures)
+    next-out (start t .pre) _ (t .loop .inv) (n .next-slot .ensures) _ (k .before .next .given .1) (o .if2 .taken) (o .before .if1 .left)
+    _ (p .pop-entry .ensures)
 
 same-length-7 : tie.Need-same-length-7 Inv-loop μ-loop
 same-length-7 c = returns-3 c .kept .links .nexts .size
@@ -164,6 +198,26 @@ same-length-8 c = returns-3 c .kept .links .prevs .size
 same-length-9 : tie.Need-same-length-9 Inv-loop μ-loop
 same-length-9 c = returns-3 c .kept .links .marks .size
 
+returns-4 : tie.Need-returns-4 Inv-loop μ-loop
+returns-4 c =
+    let b = c .before in
+    let p = drained (b .before .before) in
+    let d = draining (p .before) in
+    let k = d .before .before in
+    let n = found k in
+    let t = turn n in
+    next-yet (start t .pre) _ (t .loop .inv) (n .next-slot .ensures) _ (k .before .next .given .1) (d .if2 .left) (d .before .if1 .left)
+    _ (p .poll-expiration .ensures) _ refl (b .if3 .taken) _ (c .slot-place .ensures)
+
+same-length-10 : tie.Need-same-length-10 Inv-loop μ-loop
+same-length-10 c = returns-4 c .kept .links .nexts .size
+
+same-length-11 : tie.Need-same-length-11 Inv-loop μ-loop
+same-length-11 c = returns-4 c .kept .links .prevs .size
+
+same-length-12 : tie.Need-same-length-12 Inv-loop μ-loop
+same-length-12 c = returns-4 c .kept .links .marks .size
+
 pub poll-spec : {M : Type 1} → statement M
 poll-spec =
     tie.close
@@ -171,12 +225,17 @@ poll-spec =
     Inv-loop
     μ-loop
     loop-holds
-    next-expiration-requires
+    next-slot-requires
     enum-known-next
     enum-told
     pop-entry-requires
     poll-expiration-requires
-    add-moves
+    sub-moves
+    mul-if3
+    mul-if3-2
+    index-1-if3
+    index-2-if3
+    slot-place-requires
     add-drains
     loop-less
     loop-again
@@ -191,4 +250,8 @@ poll-spec =
     same-length-7
     same-length-8
     same-length-9
-    returns-3)
+    returns-3
+    same-length-10
+    same-length-11
+    same-length-12
+    returns-4)

@@ -1,29 +1,28 @@
--- `poll_expiration` meets its contract: what the drain says from here it says from the start with the moves so far (`turn-more`, `turn-done`).
-use Prim.Native.Nat.{_-_}
+-- `poll_expiration` meets its contract: what the drain says from here it says from the start with the moves so far (`turn-more`), until the limit is used
+-- up (`turn-full`) or nobody is left (`turn-done`).
 use native.Mathlib.Omega.{arith}
-use lib.ListN.{length}
+use Prim.Native.Nat.{_-_}
 use Rattle.links.specs.Links.{at}
 use Rattle.stack.specs.Places.{slotPlace}
-use Rattle.wheel.specs.Words.{words, lists}
-use Rattle.wheel.proofs.laws.Turns.{DrainedSo, turn-start, turn-can, turn-few, turn-more, turn-done}
+use Rattle.wheel.specs.Words.{words}
+use Rattle.wheel.proofs.laws.Turns.{DrainedSo, turn-start, turn-can, turn-full, turn-more, turn-done}
 use Rattle.wheel.proofs.poll_expiration.Statement.{statement}
 use Rattle.wheel.proofs.poll_expiration.Tie as tie
 
 abbrev Inv-loop : tie.InvT-loop
-Inv-loop elapsed rows₀ tops heads₀ nexts₀ prevs₀ marks₀ deadlines level slot moves₀ rows heads nexts prevs marks moves =
+Inv-loop elapsed rows₀ tops heads₀ nexts₀ prevs₀ marks₀ deadlines level slot limit left₀ rows heads nexts prevs marks left =
     DrainedSo (at deadlines) (words elapsed rows₀ tops heads₀ nexts₀ prevs₀ marks₀)
-    (level - 1) (slotPlace level slot) moves (words elapsed rows tops heads nexts prevs marks)
+    (level - 1) (slotPlace level slot) limit left (words elapsed rows tops heads nexts prevs marks)
 
 abbrev μ-loop : tie.MeasureT-loop
-μ-loop elapsed rows₀ tops heads₀ nexts₀ prevs₀ marks₀ deadlines level slot moves₀ rows heads nexts prevs marks moves =
-    length (lists (words elapsed rows tops heads nexts prevs marks) (slotPlace level slot))
+μ-loop elapsed rows₀ tops heads₀ nexts₀ prevs₀ marks₀ deadlines level slot limit left₀ rows heads nexts prevs marks left = left
 
 abbrev start : tie.At-loop Inv-loop μ-loop → tie.Start Inv-loop μ-loop
 start c =
     let a = c .before .before .before .before in
     a .before
 
-abbrev turn : tie.After-move-entry-arg5 Inv-loop μ-loop → tie.At-loop Inv-loop μ-loop
+abbrev turn : tie.After-move-entry-arg5 Inv-loop μ-loop → tie.Else1 Inv-loop μ-loop
 turn c =
     let a = c .before .before .before .before in
     a .before
@@ -34,16 +33,10 @@ moved c =
     a .before .before
 
 loop-holds : tie.Need-loop-holds Inv-loop μ-loop
-loop-holds c = turn-start (c .before .before .before .before .pre)
-
-move-entry-requires : tie.Need-move-entry-requires Inv-loop μ-loop
-move-entry-requires c κs = turn-can (start (turn c) .pre) (turn c .loop .inv)
+loop-holds c = turn-start (c .before .before .before .before .pre) _
 
 returns : tie.Need-returns Inv-loop μ-loop
-returns c =
-    let m = moved (c .before) in
-    let t = turn (m .before) in
-    turn-done (start t .pre) (t .loop .inv) (m .move-entry .ensures) (c .if1 .taken)
+returns c = turn-full (start (c .before) .pre) (c .before .loop .inv) (c .if1 .taken)
 
 same-length : tie.Need-same-length Inv-loop μ-loop
 same-length c = returns c .becomes .kept .links .nexts .size
@@ -54,23 +47,35 @@ same-length-2 c = returns c .becomes .kept .links .prevs .size
 same-length-3 : tie.Need-same-length-3 Inv-loop μ-loop
 same-length-3 c = returns c .becomes .kept .links .marks .size
 
-add-moves : tie.Need-add-moves Inv-loop μ-loop
-add-moves c =
+move-entry-requires : tie.Need-move-entry-requires Inv-loop μ-loop
+move-entry-requires c κs = let t = turn c .before in turn-can (start t .pre) (t .loop .inv)
+
+returns-2 : tie.Need-returns-2 Inv-loop μ-loop
+returns-2 c =
     let m = moved (c .before) in
-    let t = turn (m .before) in
-    omega (arith, turn-few (start t .pre) (t .loop .inv))
+    let t = turn (m .before) .before in
+    turn-done (start t .pre) (t .loop .inv) (m .move-entry .ensures) (c .if2 .taken)
+
+same-length-4 : tie.Need-same-length-4 Inv-loop μ-loop
+same-length-4 c = returns-2 c .becomes .kept .links .nexts .size
+
+same-length-5 : tie.Need-same-length-5 Inv-loop μ-loop
+same-length-5 c = returns-2 c .becomes .kept .links .prevs .size
+
+same-length-6 : tie.Need-same-length-6 Inv-loop μ-loop
+same-length-6 c = returns-2 c .becomes .kept .links .marks .size
+
+sub-left : tie.Need-sub-left Inv-loop μ-loop
+sub-left c = let g = turn (moved (c .before) .before) in omega (arith, g .if1 .left)
 
 loop-less : tie.Need-loop-less Inv-loop μ-loop
-loop-less c =
-    let m = moved (c .before) in
-    let t = turn (m .before) in
-    turn-more (start t .pre) (t .loop .inv) (m .move-entry .ensures) (c .if1 .left) .1
+loop-less c = let g = turn (moved (c .before) .before) in omega (arith, g .if1 .left)
 
 loop-again : tie.Need-loop-again Inv-loop μ-loop
 loop-again c =
     let m = moved (c .before) in
-    let t = turn (m .before) in
-    turn-more (start t .pre) (t .loop .inv) (m .move-entry .ensures) (c .if1 .left) .0
+    let g = turn (m .before) in
+    turn-more (start (g .before) .pre) (g .before .loop .inv) (m .move-entry .ensures) (g .if1 .left) (c .if2 .left)
 
 pub poll-expiration-spec : {M : Type 1} → statement M
 poll-expiration-spec =
@@ -79,11 +84,15 @@ poll-expiration-spec =
     Inv-loop
     μ-loop
     loop-holds
-    move-entry-requires
     same-length
     same-length-2
     same-length-3
     returns
-    add-moves
+    move-entry-requires
+    same-length-4
+    same-length-5
+    same-length-6
+    returns-2
+    sub-left
     loop-less
     loop-again)

@@ -5,10 +5,10 @@ use Rattle.damaged.proofs.image.ask_all.Statement.{statement}
 use Rattle.damaged.proofs.image.ask_all.Tie as tie
 
 abbrev Inv-loop : tie.InvT-loop
-Inv-loop image part refused₀ kept₀ i₀ refused kept i = (i ≤ 7) × (refused ≤ i) × (kept ≤ i)
+Inv-loop image part refused₀ kept₀ i₀ refused kept i = (i ≤ 8) × (refused ≤ i) × (kept ≤ i)
 
 abbrev μ-loop : tie.MeasureT-loop
-μ-loop image part refused₀ kept₀ i₀ refused kept i = 7 - i
+μ-loop image part refused₀ kept₀ i₀ refused kept i = 8 - i
 
 loop-holds : tie.Need-loop-holds Inv-loop μ-loop
 loop-holds c = search needs

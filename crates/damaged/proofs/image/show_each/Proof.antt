@@ -5,7 +5,7 @@ use Rattle.damaged.proofs.image.show_each.Statement.{statement}
 use Rattle.damaged.proofs.image.show_each.Tie as tie
 
 abbrev Inv-loop : tie.InvT-loop
-Inv-loop image from count refused₀ kept₀ i₀ t8 t9 refused kept i = (i ≤ count) × (refused ≤ 7 * i) × (kept ≤ 7 * i)
+Inv-loop image from count refused₀ kept₀ i₀ t8 t9 refused kept i = (i ≤ count) × (refused ≤ 8 * i) × (kept ≤ 8 * i)
 
 abbrev μ-loop : tie.MeasureT-loop
 μ-loop image from count refused₀ kept₀ i₀ t8 t9 refused kept i = count - i

@@ -1,0 +1,94 @@
+-- `poll_some` meets its claim: the judge's answer decides, and on a sound store it is what `queue::poll` does.
+use borrow.Author.Needs.{needs}
+use Rattle.queue.specs.Calls.{PollsOn}
+use Rattle.delay_queue.proofs.laws.Back.{back, turned-down, is-sound, taken-up}
+use Rattle.delay_queue.proofs.poll_some.Statement.{statement}
+use Rattle.delay_queue.proofs.poll_some.Tie as tie
+
+abbrev to-else1 : tie.After-poll-arg5 → tie.Else1
+to-else1 c =
+    let a = c .before .before .before .before in
+    let b = a .before .before .before .before in
+    b .before .before
+
+abbrev to-poll : tie.After-packed → tie.After-poll
+to-poll c =
+    let a = c .before .before .before .before in
+    let b = a .before .before .before .before in
+    b .before .before .before
+
+is-sound-requires : tie.Need-is-sound-requires
+is-sound-requires c κs = search needs
+
+refused-requires : tie.Need-refused-requires
+refused-requires c κs = search needs
+
+same-length : tie.Need-same-length
+same-length c = search needs
+
+same-length-2 : tie.Need-same-length-2
+same-length-2 c = search needs
+
+same-length-3 : tie.Need-same-length-3
+same-length-3 c = search needs
+
+same-length-4 : tie.Need-same-length-4
+same-length-4 c = search needs
+
+same-length-5 : tie.Need-same-length-5
+same-length-5 c = search needs
+
+returns : tie.Need-returns
+returns c =
+    turned-down _ _ _ _ _ _ (c .before .before .is-sound .ensures) (c .before .if1 .taken) (c .refused .ensures)
+
+poll-requires : tie.Need-poll-requires
+poll-requires c κs =
+    let else1 = to-else1 c in
+    is-sound (else1 .before .is-sound .ensures) (else1 .if1 .left)
+
+packed-requires : tie.Need-packed-requires
+packed-requires c κs = search needs
+
+same-length-6 : tie.Need-same-length-6
+same-length-6 c = search needs
+
+same-length-7 : tie.Need-same-length-7
+same-length-7 c = search needs
+
+same-length-8 : tie.Need-same-length-8
+same-length-8 c = search needs
+
+same-length-9 : tie.Need-same-length-9
+same-length-9 c = search needs
+
+same-length-10 : tie.Need-same-length-10
+same-length-10 c = search needs
+
+returns-2 : tie.Need-returns-2
+returns-2 c =
+    let at-poll = to-poll c in
+    let else1 = to-else1 (at-poll .before) in
+    taken-up (is-sound (else1 .before .is-sound .ensures) (else1 .if1 .left))
+    (back _ _ _ _ _ _ (c .packed .ensures) (PollsOn _ _ _) (at-poll .poll .ensures))
+
+pub poll-some-spec : {M : Type 1} → statement M
+poll-some-spec =
+    tie.close
+    (tie.spec
+    is-sound-requires
+    refused-requires
+    same-length
+    same-length-2
+    same-length-3
+    same-length-4
+    same-length-5
+    returns
+    poll-requires
+    packed-requires
+    same-length-6
+    same-length-7
+    same-length-8
+    same-length-9
+    same-length-10
+    returns-2)

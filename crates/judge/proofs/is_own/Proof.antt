@@ -1,0 +1,46 @@
+-- `is_own` meets its contract: at the top level the two halves exclude each other (`own-top`).
+use borrow.Author.Needs.{needs}
+use native.Mathlib.Omega.{arith}
+use Prim.Native.Nat.{_+_}
+use Rattle.times.proofs.laws.Widths.{width-pos}
+use Rattle.contracts.proofs.laws.Tells.{tells-no}
+use Rattle.judge.proofs.laws.Judge.{own-told, own-top}
+use Rattle.judge.proofs.is_own.Statement.{statement}
+use Rattle.judge.proofs.is_own.Tie as tie
+
+add-if1 : tie.Need-add-if1
+add-if1 c = search needs
+
+rem-if1 : tie.Need-rem-if1
+rem-if1 c = search needs
+
+returns : tie.Need-returns
+returns c = tells-no (λ o. o .1 (c .if1 .taken))
+
+add-above : tie.Need-add-above
+add-above c = search needs
+
+returns-2 : tie.Need-returns-2
+returns-2 c = tells-no (own-top _ (omega arith) (c .if2 .taken) (c .before .if1 .left))
+
+slot-range-requires : tie.Need-slot-range-requires
+slot-range-requires c κs = omega (arith, c .before .before .pre, c .if2 .left)
+
+rem-result : tie.Need-rem-result
+rem-result c = omega (arith, c .slot-range .ensures, width-pos (c .before .before .before .args .level + 1))
+
+returns-3 : tie.Need-returns-3
+returns-3 c = own-told _ (omega arith) (c .before .before .if1 .left) (c .slot-range .ensures)
+
+pub is-own-spec : {M : Type 1} → statement M
+is-own-spec =
+    tie.close
+    (tie.spec
+    add-if1
+    rem-if1
+    returns
+    add-above
+    returns-2
+    slot-range-requires
+    rem-result
+    returns-3)

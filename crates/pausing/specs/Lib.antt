@@ -1,0 +1,2 @@
+pub mod Pausing
+pub mod Works

@@ -1,0 +1,78 @@
+-- `poll_some` meets its claim: the reading's answer decides whether the store is asked (`polled-some`, `some-asks-nothing`).
+use borrow.Author.Needs.{needs}
+use Rattle.tick.proofs.laws.Reading.{not-ok, polled-some, some-asks-nothing}
+use Rattle.tick.proofs.poll_some.Statement.{statement}
+use Rattle.tick.proofs.poll_some.Tie as tie
+
+abbrev to-now : tie.After-poll-some → tie.After-now-of
+to-now c =
+    let a = c .before .before .before .before in
+    a .before .before
+
+abbrev to-poll : tie.After-slice-known10 → tie.After-poll-some
+to-poll c =
+    let a = c .before .before .before .before in
+    let b = a .before .before .before .before in
+    b .before .before
+
+abbrev to-read : tie.After-enum-told → tie.After-read
+to-read c = c .before .before .before
+
+read-requires : tie.Need-read-requires
+read-requires c κs = search needs
+
+enum-told : tie.Need-enum-told
+enum-told c = search needs
+
+now-of-requires : tie.Need-now-of-requires
+now-of-requires c κs = search needs
+
+poll-some-requires : tie.Need-poll-some-requires
+poll-some-requires c κs = search needs
+
+unchanged-requires : tie.Need-unchanged-requires
+unchanged-requires c κs = search needs
+
+same-length : tie.Need-same-length
+same-length c = search needs
+
+same-length-2 : tie.Need-same-length-2
+same-length-2 c = search needs
+
+same-length-3 : tie.Need-same-length-3
+same-length-3 c = search needs
+
+same-length-4 : tie.Need-same-length-4
+same-length-4 c = search needs
+
+same-length-5 : tie.Need-same-length-5
+same-length-5 c = search needs
+
+returns : tie.Need-returns
+returns c =
+    let at-poll = to-poll c in
+    let at-now = to-now at-poll in
+    let at-told = at-now .before in
+    polled-some (to-read at-told .read .ensures) (at-told .enum-told .given .1) (at-now .now-of .ensures) (at-poll .poll-some .ensures)
+
+returns-2 : tie.Need-returns-2
+returns-2 c =
+    let r = c .before .before .before .read in
+    some-asks-nothing _ _ _ _ _ _ (r .ensures) (not-ok (r .result .answer) (c .before .match .keys2)) (c .unchanged .ensures)
+
+pub poll-some-spec : {M : Type 1} → statement M
+poll-some-spec =
+    tie.close
+    (tie.spec
+    read-requires
+    enum-told
+    now-of-requires
+    poll-some-requires
+    unchanged-requires
+    same-length
+    same-length-2
+    same-length-3
+    same-length-4
+    same-length-5
+    returns
+    returns-2)

@@ -1,0 +1,85 @@
+-- A poll in hand that answers has done what a whole poll promises, over the store in hand.
+use mathlib.Core.Path.{_≡_, refl, sym, ap, _∙_, subst}
+use mathlib.Core.Logic.{inl}
+use mathlib.Core.List.{List, _∷_, nil≢cons}
+use mathlib.Core.Option.{Option, none, some}
+use Prim.Native.Nat.{ℕ, suc, _+_, _-_, _*_, _/_, _<_}
+use native.Mathlib.Nat.{le-trans}
+use native.Mathlib.Omega.{arith}
+use Rattle.times.specs.Times.{floor}
+use Rattle.times.proofs.laws.Quotients.{floor-le, floor-64}
+use Rattle.stack.specs.Places.{slots, expired}
+use Rattle.wheel.specs.Wheel.{Lists, Drains, drained, moved}
+use Rattle.wheel.proofs.laws.Sums.{hits, lies-times, times-lies}
+use Rattle.wheel.proofs.laws.Drain.{amount, Drained, drain-ends, drains-law}
+use Rattle.wheel.specs.Poll.{Waits, Fair, clockAfter}
+use Rattle.wheel.proofs.laws.Poll.{Promise, poll-law}
+use Rattle.wheel.specs.Limited.{ended, start, Limited}
+use Rattle.wheel.proofs.laws.Limited.{Finishes, limited-polls}
+use Rattle.wheel.specs.Midway.{InHand}
+
+-- ---- the answer of a poll in hand (Poll.antt's `end-drain` needs no more than this)
+
+waits-same : (L M : Lists) → ((v : ℕ → ℕ) → amount v M ≡ amount v L) → (y : ℕ) → Waits L y → Waits M y
+unfolding amount
+waits-same L M e y k = times-lies slots M y (omega (arith, e (hits y), lies-times slots L y (k .0) (k .1) (k .2)))
+
+end-drain : {d : ℕ → ℕ} {now e : ℕ} {L : Lists} {m c : ℕ} {M : Lists} {got : Option ℕ} {moves drains e′ : ℕ} {N : Lists} → Drained d e L m c M
+    → Promise d now c M got moves drains e′ N → Promise d now e L got (m + moves) (suc drains) e′ N
+unfolding amount
+end-drain {d} {now} {e} {L} {m} {c} {M} {got} {moves} {drains} {e′} {N} D R =
+    record {
+      fair = fair-back got (R .fair);
+      kept = λ v. R .kept v ∙ D .kept v;
+      clock = R .clock ∙ clock-back got (R .fair);
+      rule = R .rule;
+      counted = omega (arith, R .counted, D .fallen);
+      few = omega (arith, R .few, D .some);
+      none = λ z. absurd (omega arith);
+      aside = λ q h. R .aside q h ∙ D .aside q h;
+    }
+  where
+    there : (y : ℕ) → Waits L y → Waits M y
+    there y k = waits-same L M (D .kept) y k
+
+    back : (y : ℕ) → Waits M y → Waits L y
+    back y k = waits-same M L (λ v. sym (D .kept v)) y k
+
+    fair-back : (o : Option ℕ) → Fair d now M o → Fair d now L o
+    fair-back none f = λ y k. f y (there y k)
+    fair-back (some x) f = (back x (f .0), f .1, λ y k. f .2 y (there y k))
+
+    clock-back : (o : Option ℕ) → Fair d now M o → clockAfter d now c o ≡ clockAfter d now e o
+    clock-back none f = refl
+    clock-back (some x) f =
+        let k = back x (f .0) in
+        omega (arith, D .rises, D .whole, D .reached (k .0) x (k .1) (k .2))
+
+some-moves : {d : ℕ → ℕ} {k h m x : ℕ} {L M : Lists} {l : List ℕ} → L h ≡ x ∷ l → Drains d k h L m M → 0 < m
+some-moves is (drained e) = absurd (nil≢cons (sym e ∙ is))
+some-moves is (moved e r) = omega arith
+
+module _ {d : ℕ → ℕ} {now p e : ℕ} {L : Lists} (H : InHand d now p e L) where
+  rest-drained : {m : ℕ} {M : Lists} → Drains d (p / 64 - 1) p L m M → Drained d e L m (start e p) M
+  rest-drained {m} {M} D =
+      let R = drains-law d (p / 64 - 1) p (omega (arith, H .high)) (H .below) D in
+      let f = H .filled in
+      let a : floor (suc (p / 64 - 1)) (d (f .0)) ≡ start e p = H .rule .hand (f .0) (rw (f .2) (inl refl)) in
+      record {
+        rule = drain-ends (R .0 .rule (start e p) (H .rule)) (R .1);
+        some = some-moves (f .2) D;
+        fallen = R .0 .fallen;
+        kept = R .0 .kept;
+        aside = R .0 .aside;
+        rises = H .late;
+        whole = ap (λ (z : ℕ). z / 64 * 64) (sym a) ∙ floor-64 (p / 64 - 1) (d (f .0)) ∙ a;
+        reached = λ q y hq my. le-trans (H .rule .spot q y hq my .lies .start) (floor-le (q / 64) (d y));
+      }
+
+  -- a least due timer or none of those in hand, the rest kept, the clock of a whole poll, 01's rule again
+  pub hand-ends : {b m n e′ : ℕ} {g : Option ℕ} {N : Lists} → Limited d now (some p) b e L (ended g) m n e′ N → Promise d now e L g m n e′ N
+  hand-ends {b} {m} {n} {e′} {g} {N} r =
+      let Q : Finishes d now p e L g m n e′ N = limited-polls r in
+      let D = rest-drained (Q .rest) in
+      let P = end-drain D (poll-law (D .rule) (D .aside expired (omega arith) ∙ H .stack) (H .due) (Q .polls)) in
+      subst (λ (i : ℕ). Promise d now e L g m i e′ N) (sym (Q .one)) (subst (λ (i : ℕ). Promise d now e L g i (suc (Q .drains)) e′ N) (sym (Q .all)) P)
