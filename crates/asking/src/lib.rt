@@ -1,11 +1,12 @@
 // Lines to calls.
 use decimals::Num;
 use delay_queue::Call;
+use splitting::First;
 ghost use mathlib.Core.Path.{_≡_};
 ghost use mathlib.Core.List.{_∷_};
 ghost use Rattle.contracts.specs.Lent.{old};
 ghost use Rattle.asking.specs.Text.{ReadClaim};
-ghost use Rattle.asking.specs.Parts.{EndsAt, Begins, Holds, inFront, callOf};
+ghost use Rattle.asking.specs.Parts.{Holds, inFront, callOf};
 
 // What a line asks: one call, or nothing that the bench knows.
 pub enum Line {
@@ -20,42 +21,6 @@ enum Fields {
     Two(u64, u64),
     Three(u64, u64, u64),
     Bad,
-}
-
-// What numbers begin with: no number, one that is all of them, or one behind which the next begins at that place.
-enum First {
-    Only(u64),
-    Then(u64, usize),
-    Bad,
-}
-
-// Where the first field of s ends: at the first space, or at the end.
-fn field_end(s: &[u8]) -> usize
-    ensures { λ r. ⌜ EndsAt (old s) r ⌝ }
-{
-    let mut i = 0;
-    while i < s.len() {
-        if s[i] == b' ' {
-            return i;
-        }
-        i += 1;
-    }
-    i
-}
-
-// The first of the numbers that begin behind a space.
-fn first_of(s: &[u8]) -> First
-    ensures { λ r. ⌜ Begins (old s) r ⌝ }
-{
-    let e = field_end(s);
-    let x = decimals::number(&s[..e]);
-    let Num::Is(a) = x else {
-        return First::Bad;
-    };
-    if s.len() <= e {
-        return First::Only(a);
-    }
-    First::Then(a, e + 1)
 }
 
 // A number more, in front of one or two.
@@ -86,7 +51,7 @@ fn one(s: &[u8]) -> Fields
 fn one_or_two(s: &[u8]) -> Fields
     ensures { λ r. ⌜ Holds 2 (32 ∷ old s) r ⌝ }
 {
-    let x = first_of(s);
+    let x = splitting::first_of(s);
     match x {
         First::Only(a) => Fields::One(a),
         First::Then(a, f) => {
@@ -101,7 +66,7 @@ fn one_or_two(s: &[u8]) -> Fields
 fn one_to_three(s: &[u8]) -> Fields
     ensures { λ r. ⌜ Holds 3 (32 ∷ old s) r ⌝ }
 {
-    let x = first_of(s);
+    let x = splitting::first_of(s);
     match x {
         First::Only(a) => Fields::One(a),
         First::Then(a, f) => {

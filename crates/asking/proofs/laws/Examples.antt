@@ -14,10 +14,12 @@ use Rattle.decimals.specs.Text.{bytes, worth, Decimal, Spaced}
 use Rattle.decimals.proofs.laws.Plain.{every, at, digits, Plain, text, values, spaced}
 use Rattle.asking.specs.declared.Line.the-variants as L
 use Rattle.asking.specs.declared.Fields.the-variants as F
-use Rattle.asking.specs.declared.First.the-variants as S
+use Rattle.splitting.specs.declared.First.the-variants as S
+use Rattle.splitting.specs.Fields.{EndsAt, Begins}
+use Rattle.splitting.proofs.laws.Fields.{first-bad, others}
 use Rattle.asking.specs.Text.{letter, numbers, Says}
-use Rattle.asking.specs.Parts.{EndsAt, Begins, Holds, callOf}
-use Rattle.asking.proofs.laws.Reading.{first-bad, none-at-all, others, more}
+use Rattle.asking.specs.Parts.{Holds, callOf}
+use Rattle.asking.proofs.laws.Reading.{none-at-all, more}
 use Rattle.asking.proofs.laws.Finding.{line}
 
 -- ---- lines that are right
@@ -85,7 +87,7 @@ two-spaces : (c : Call) → Says (bytes "i 7  70 0") c → ⊥
 unfolding worth every
 two-spaces =
     unsaid (code "i") (bytes " 7  70 0") (omega arith)
-    (more 2 (others (bytes "7  70 0") 1 ends (omega arith) seven) (omega arith) F.Bad F.Bad (none-at-all 2 (bytes " 70 0") no-first) refl)
+    (more 2 2 (others (bytes "7  70 0") 1 ends (omega arith) seven .1) (omega arith) F.Bad F.Bad (none-at-all 2 (bytes " 70 0") no-first) refl)
   where
     first : (k : ℕ) → k < 1 → getD (bytes "7  70 0") k 0 ≡ code " " → ⊥
     first zero h e = omega arith

@@ -3,9 +3,7 @@ use mathlib.Core.Path.{_≡_, refl, sym, ap, ap₂, _∙_, subst}
 use mathlib.Core.List.{List, [], _∷_, head-eq-of-cons-eq, tail-eq-of-cons-eq}
 use mathlib.Core.Logic.{by-cases}
 use Prim.Native.Nat.{ℕ, _-_, _≤_, _<_}
-use native.Mathlib.Decide.{ℕ-discrete}
 use native.Mathlib.Omega.{arith}
-use borrow.Author.Tests.{eq-eqb, ne-eqb}
 use lib.ListN.{length, take, drop, getD}
 use Rattle.delay_queue.specs.declared.Call.{Call}
 use Rattle.asking.specs.declared.Line.{Line}
@@ -15,33 +13,17 @@ use Rattle.asking.specs.declared.Fields.the-variants as F
 use Rattle.decimals.specs.Text.{Spaced}
 use Rattle.asking.specs.Text.{letter, numbers, Says, ReadClaim}
 use Rattle.decimals.proofs.laws.Spacing.{one-list}
-use Rattle.asking.specs.Parts.{Holds, fieldsOf, calls, pick, first, callOf}
+use Rattle.asking.specs.Parts.{Holds, fieldsOf, calls, callOf}
 use Rattle.asking.proofs.laws.Asking.{same-call, own, many, one-call}
-use Rattle.asking.proofs.laws.Reading.{from}
+use Rattle.splitting.specs.Letters.{All, withLetter}
+use Rattle.splitting.proofs.laws.Fields.{from}
+use Rattle.splitting.proofs.laws.Letters.{letter-found, letter-absent}
 
 -- ---- the first call with a letter
 
-hit : {b : ℕ} (c : Call) (cs : List Call) → b ≡ letter c → first b (c ∷ cs) ≡ L.Asks c
-hit {b} c cs e = ap (λ t. pick t (L.Asks c) (first b cs)) (eq-eqb b (letter c) e)
-
-miss : {b : ℕ} (c : Call) (cs : List Call) → (b ≡ letter c → ⊥) → first b (c ∷ cs) ≡ first b cs
-miss {b} c cs n = ap (λ t. pick t (L.Asks c) (first b cs)) (ne-eqb b (letter c) n)
-
-abbrev pub All : (Call → Type 0) → List Call → Type 0
-All P [] = Unit
-All P (c ∷ cs) = P c × All P cs
-
--- what is found has the letter, and whatever holds of them all
-found : (P : Call → Type 0) (b : ℕ) (cs : List Call) → All P cs → (d : Call) → first b cs ≡ L.Asks d → (b ≡ letter d) × P d
-found P b [] a d e = let z : _≡_ {A = ℕ} 0 1 = cc in absurd (omega arith)
-found P b (c ∷ cs) a d e =
-    by-cases (ℕ-discrete b (letter c))
-    (λ h. let m : c ≡ d = same-call (sym (hit c cs h) ∙ e) in (h ∙ ap letter m, rw m at (a .0)))
-    (λ n. found P b cs (a .1) d (sym (miss c cs n) ∙ e))
-
-absent : (b : ℕ) (cs : List Call) → All (λ c. b ≡ letter c → ⊥) cs → L.Bad ≡ first b cs
-absent b [] n = refl
-absent b (c ∷ cs) n = absent b cs (n .1) ∙ sym (miss c cs (n .0))
+found : (P : Call → Type 0) (b : ℕ) (cs : List Call) → All P cs → (d : Call) → withLetter letter (λ c. L.Asks c) L.Bad b cs ≡ L.Asks d
+    → (b ≡ letter d) × P d
+found = letter-found letter (λ c. L.Asks c) L.Bad (λ c d e. same-call e) (λ c e. let z : _≡_ {A = ℕ} 0 1 = cc in omega arith)
 
 -- ---- what `call_of` answers
 
@@ -50,7 +32,7 @@ here c e g = sym (ap₂ (λ (x : ℕ) (h : Fields). callOf x h) e g ∙ own c)
 
 pub nowhere : (b : ℕ) {f g : Fields} → f ≡ g → All (λ c. b ≡ letter c → ⊥) (calls g) → L.Bad ≡ callOf b f
 unfolding callOf
-nowhere b {f} {g} e n = absent b (calls g) n ∙ ap (λ h. callOf b h) (sym e)
+nowhere b {f} {g} e n = letter-absent letter (λ c. L.Asks c) L.Bad b (calls g) n ∙ ap (λ h. callOf b h) (sym e)
 
 -- ---- the claim from its two halves, of which the second says all that is left to say of a bad line
 

@@ -1,6 +1,7 @@
 -- `one` reads the one number behind a space: `the-one` where there is one, `not-one` where there is none.
 use borrow.Author.Needs.{needs}
-use Rattle.asking.proofs.laws.Reading.{the-one, not-one}
+use Rattle.asking.proofs.laws.Reading.{not-one}
+use Rattle.splitting.proofs.laws.Fields.{the-one}
 use Rattle.asking.proofs.one.Statement.{statement}
 use Rattle.asking.proofs.one.Tie as tie
 

@@ -1,10 +1,10 @@
--- `first_of` finds the first number behind a space: one law of `Reading` for each way out.
+-- `first_of` finds the first number behind a space: one law of `Fields` for each way out.
 use borrow.Author.Needs.{needs}
 use native.Mathlib.Omega.{arith}
 use lib.ListN.{length-take}
-use Rattle.asking.proofs.laws.Reading.{first-bad, only-one, others}
-use Rattle.asking.proofs.first_of.Statement.{statement}
-use Rattle.asking.proofs.first_of.Tie as tie
+use Rattle.splitting.proofs.laws.Fields.{first-bad, only-one, others}
+use Rattle.splitting.proofs.first_of.Statement.{statement}
+use Rattle.splitting.proofs.first_of.Tie as tie
 
 field-end-requires : tie.Need-field-end-requires
 field-end-requires c κs = search needs

@@ -5,8 +5,8 @@ use mathlib.Core.Path.{_≡_}
 use native.Mathlib.Omega.{arith}
 use Prim.Native.Nat.{ℕ, _-_, _≤_, _<_}
 use lib.ListN.{length, getD}
-use Rattle.asking.proofs.field_end.Statement.{statement}
-use Rattle.asking.proofs.field_end.Tie as tie
+use Rattle.splitting.proofs.field_end.Statement.{statement}
+use Rattle.splitting.proofs.field_end.Tie as tie
 
 abbrev Inv-loop : tie.InvT-loop
 Inv-loop s i₀ i = (i ≤ length s) × ((k : ℕ) → k < i → getD s k 0 ≡ 32 → ⊥)
