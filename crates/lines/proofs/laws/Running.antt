@@ -24,7 +24,8 @@ module _ {A : Type 0} (Takes : List ℕ → A → A → Type 0) where
     pub then : (line′ : List ℕ) (k′ : ℕ) (a′ : A) → Chunk Takes got i line k a line′ k′ a′ → Chunk Takes got 0 line₀ n a₀ line′ k′ a′
 
 module _ {A : Type 0} {Takes : List ℕ → A → A → Type 0} where
-  along-more : {ls ms : List (List ℕ)} {a b c : A} → Along Takes ls a b → Along Takes ms b c → Along Takes (ls ++ ms) a c
+  -- lines, and others behind them
+  pub along-more : {ls ms : List (List ℕ)} {a b c : A} → Along Takes ls a b → Along Takes ms b c → Along Takes (ls ++ ms) a c
   along-more none y = y
   along-more (more x r) y = more x (along-more r y)
 
