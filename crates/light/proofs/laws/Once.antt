@@ -2,10 +2,8 @@
 use mathlib.Core.Path.{_≡_, refl, sym, ap, _∙_}
 use mathlib.Core.Logic.{by-cases}
 use mathlib.Core.List.{List, _∷_, List-discrete}
-use Prim.Native.Nat.{ℕ, _≤_}
-use native.Mathlib.Decide.{ℕ-discrete, decLt}
-use native.Mathlib.Omega.{arith}
-use lib.ListN.{length}
+use Prim.Native.Nat.{ℕ}
+use native.Mathlib.Decide.{ℕ-discrete}
 use Rattle.lines.specs.Running.{Chunk}
 use Rattle.lines.proofs.laws.Running.{chunk-once as once-a-chunk}
 use Rattle.decimals.specs.declared.Num.{Num}
@@ -14,7 +12,6 @@ use Rattle.decimals.proofs.laws.Decimals.{one-number}
 use Rattle.light.specs.declared.State.{State}
 use Rattle.light.specs.Light.{Amounts, Writes}
 use Rattle.light.specs.Steps.{AmountOf, next, Stepped}
-use Rattle.writing.specs.Writing.{Fronts}
 
 pub amount-once : (l : List ℕ) (r s : Num) → AmountOf l r → AmountOf l s → r ≡ s
 amount-once l (N.Is n) (N.Is m) p q = ap (λ (x : ℕ). N.Is x) (one-number (p .0) (q .0))
@@ -30,13 +27,6 @@ pub chunk-once : {got : List ℕ} {i k x y : ℕ} {line l m : List ℕ} {t a b :
     → Chunk Stepped got i line k t m y b
     → (l ≡ m) × (x ≡ y) × (a ≡ b)
 chunk-once c d = once-a-chunk (λ l t a b. step-once) c d
-
--- `text`
-pub front-once : {l o p q : List ℕ} {r s : ℕ} → Fronts l o r p → Fronts l o s q → (r ≡ s) × (p ≡ q)
-front-once {l} {o} a b =
-    by-cases (decLt (length o) (length l))
-    (λ h. (a .full h .0 ∙ sym (b .full h .0), a .full h .1 ∙ sym (b .full h .1)))
-    (λ h. let f : length l ≤ length o = omega arith in (a .room f .0 ∙ sym (b .room f .0), a .room f .1 ∙ sym (b .room f .1)))
 
 -- a whole run: there is no third text
 pub writes-once : {ls : List (List ℕ)} {t u : List ℕ} → Writes ls t → Writes ls u → t ≡ u

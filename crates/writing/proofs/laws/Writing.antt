@@ -147,3 +147,10 @@ no-room h = record { room = λ f. absurd (omega arith); full = λ _. (refl, refl
 pub front-within : {l o : List ℕ} {r : ℕ} {o′ : List ℕ} → Fronts l o r o′ → r ≤ length o
 front-within {l} {o} f =
     by-cases (decLt (length o) (length l)) (λ h. omega (arith, f .full h .0)) (λ h. omega (arith, f .room (omega arith) .0))
+
+-- and what stands in o then is one text alone
+pub front-once : {l o p q : List ℕ} {r s : ℕ} → Fronts l o r p → Fronts l o s q → (r ≡ s) × (p ≡ q)
+front-once {l} {o} a b =
+    by-cases (decLt (length o) (length l))
+    (λ h. (a .full h .0 ∙ sym (b .full h .0), a .full h .1 ∙ sym (b .full h .1)))
+    (λ h. let f : length l ≤ length o = omega arith in (a .room f .0 ∙ sym (b .room f .0), a .room f .1 ∙ sym (b .room f .1)))
