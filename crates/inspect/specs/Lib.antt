@@ -1,0 +1,2 @@
+-- The program `inspect`. `Text` says what it writes.
+pub mod Text

@@ -1,0 +1,10 @@
+pub mod Reading
+pub mod Closing
+pub mod Steps
+pub mod Taking
+pub mod Inspecting
+pub mod Met
+pub mod Once
+pub mod Verdict
+pub mod Promises
+pub mod Examples

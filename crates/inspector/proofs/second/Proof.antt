@@ -1,0 +1,44 @@
+-- `second` reads a dash or a number: `second-dash`, and `second-bad` where it is neither.
+use borrow.Author.Needs.{needs}
+use mathlib.Core.Path.{refl}
+use mathlib.Core.Logic.{⊎-elim}
+use Rattle.inspector.proofs.laws.Reading.{second-dash, second-bad}
+use Rattle.inspector.proofs.second.Statement.{statement}
+use Rattle.inspector.proofs.second.Tie as tie
+
+shared-slice-read-if2 : tie.Need-shared-slice-read-if2
+shared-slice-read-if2 c = search needs
+
+returns : tie.Need-returns
+returns c = second-dash _ _ (c .before .before .if1 .taken) (c .if2 .taken)
+
+number-requires : tie.Need-number-requires
+number-requires c κs = search needs
+
+enum-known-x : tie.Need-enum-known-x
+enum-known-x c = search needs
+
+enum-told : tie.Need-enum-told
+enum-told c = search needs
+
+returns-2 : tie.Need-returns-2
+returns-2 c = (refl, rw (c .before .x .given .1) at (c .before .before .before .number .ensures))
+
+returns-3 : tie.Need-returns-3
+returns-3 c =
+    let n = c .before .before in
+    let a = n .before .before in
+    second-bad (a .before .args .a) _ (rw (c .enum-told .given .1) at (n .number .ensures))
+    (⊎-elim (λ w e. w .2 .left) (λ w e. absurd (w .left e)) (n .before .if1 .came))
+
+pub second-spec : {M : Type 1} → statement M
+second-spec =
+    tie.close
+    (tie.spec
+    shared-slice-read-if2
+    returns
+    number-requires
+    enum-known-x
+    enum-told
+    returns-2
+    returns-3)
