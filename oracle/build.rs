@@ -1,10 +1,12 @@
 //! Brings the original's text to the compiler. Nothing of it is retyped:
-//!  * entries join a list's tail, by the edits of tails.rs in delay_queue.rs: the one change;
+//!  * entries join a list's tail, by the edits of tails.rs in delay_queue.rs;
+//!  * a seventh level is the parking list, by those of parking.rs in the wheel: the two changes;
 //!  * src/tokio_util is copied byte for byte otherwise, with two lines added at the end of
 //!    delay_queue.rs that let src/whole.rs see its private fields;
 //!  * for src/queue.rs, whole items of delay_queue.rs are cut out, each one slice of the file.
 //!
 //! The original's folder is $NGAWDRELO_RUST, or shared/docs/src beside the repository.
+mod parking;
 mod tails;
 
 use std::env;
@@ -52,7 +54,10 @@ fn main() {
 
     fs::create_dir_all(copy.join("wheel")).unwrap();
     for file in ["mod.rs", "wheel/mod.rs", "wheel/level.rs", "wheel/stack.rs"] {
-        fs::write(copy.join(file), read(&original.join(file))).unwrap();
+        match parking::edited(file, &read(&original.join(file))) {
+            Ok(text) => fs::write(copy.join(file), text).unwrap(),
+            Err(line) => return println!("cargo::error={line}"),
+        }
     }
     let queue = match tails::edited(&read(&original.join("delay_queue.rs"))) {
         Ok(text) => text,

@@ -20,6 +20,8 @@ const MIXES: [[u64; 8]; 6] = [
 ];
 /// Most deadlines of a stretch lie within two to such a power of elapsed.
 const REACHES: [u64; 9] = [3, 7, 8, 12, 13, 18, 24, 30, 36];
+/// So far before its block's end the clock is brought where a stretch lives about that.
+const BEFORE: [u64; 8] = [0, 1, 2, 63, 64, 70, 4160, 1 << 25];
 const GIVEN: usize = 64;
 /// Large stores begin at the edges of the bench's room and of the limit.
 const EDGES: [u64; 6] = [
@@ -103,6 +105,7 @@ pub fn give(seed: u64, most_records: u64, taker: &mut impl Taker) {
         given: vec![],
         reach: REACHES[0],
         repeats: true,
+        edge: false,
         mix: MIXES[5],
     };
     generator.run();
@@ -117,6 +120,8 @@ struct Generator<'a, T> {
     reach: u64,
     /// Timers of this stretch may repeat.
     repeats: bool,
+    /// It lives about the end of elapsed's block.
+    edge: bool,
     mix: [u64; 8],
 }
 
@@ -183,6 +188,10 @@ impl<T: Taker> Generator<'_, T> {
         self.reach = self.rng.pick(&REACHES);
         self.repeats = self.rng.chance(3, 4);
         self.mix = self.rng.pick(&MIXES);
+        self.edge = self.rng.chance(1, 2);
+        if self.edge {
+            self.to_the_edge();
+        }
         let seldom = if self.is_large() { 3 } else { 12 };
         if self.rng.chance(1, seldom) {
             self.rush();
@@ -193,6 +202,28 @@ impl<T: Taker> Generator<'_, T> {
         for _ in 0..=self.rng.below(most) {
             self.step();
         }
+    }
+
+    /// Brings the clock to just before its block's end, if nothing is due before; now and then whatever is due.
+    fn to_the_edge(&mut self) {
+        let before = self.rng.pick(&BEFORE);
+        let now = self.block_last() - before;
+        if self.rng.chance(1, 3) && !self.is_large() {
+            self.poll_until_none(now);
+        } else {
+            let poll = self.poll(now);
+            self.command(poll);
+        }
+    }
+
+    /// The last millisecond of elapsed's block.
+    fn block_last(&self) -> u64 {
+        self.elapsed() | FARTHEST
+    }
+
+    /// Where the next block starts. The last one has none.
+    fn next_start(&self) -> Option<u64> {
+        self.block_last().checked_add(1)
     }
 
     fn step(&mut self) {
@@ -290,7 +321,7 @@ impl<T: Taker> Generator<'_, T> {
             5 => 2,
             6 => self.rng.below(8),
             7 => self.rng.below(pending + 1),
-            8 => self.rng.below(5 * pending + 1),
+            8 => self.rng.below(6 * pending + 1),
             9 | 10 => (left + self.rng.below(3)).saturating_sub(1),
             _ => u64::MAX - self.rng.below(2),
         }
@@ -323,15 +354,15 @@ impl<T: Taker> Generator<'_, T> {
         }
     }
 
-    /// None half of the time; else short, about a slot's width, within reach, a few times up to the block's
-    /// end, or so long that the next time is the last.
+    /// None half of the time; else short, about a slot's width, within reach, a few times up to the block's end, about it and past it, about the
+    /// longest that goes on for ever, or so long that the next time is the last.
     fn period(&mut self, when: u64) -> u64 {
         if !self.repeats || self.rng.chance(1, 2) {
             return 0;
         }
         let first = when.max(self.elapsed());
         let left = FARTHEST - (first & FARTHEST);
-        match self.rng.below(14) {
+        match self.rng.below(17) {
             0 => 1,
             1 => 1 + self.rng.below(70),
             2..=4 => {
@@ -345,6 +376,8 @@ impl<T: Taker> Generator<'_, T> {
                 let times = 2 + self.rng.below(4);
                 self.near(left / times)
             }
+            13 | 14 => left + 1 + self.ahead(),
+            15 => self.near(FARTHEST - 63),
             _ => match self.rng.below(4) {
                 0 => self.near(u64::MAX),
                 1 => self.rng.next(),
@@ -392,7 +425,7 @@ impl<T: Taker> Generator<'_, T> {
             };
             match self.command(insert) {
                 Some(Answer::Key(_)) => (),
-                Some(Answer::No(4 | 5 | 11)) if same.is_none() => (),
+                Some(Answer::No(4 | 11)) if same.is_none() => (),
                 _ => break,
             }
         }
@@ -400,7 +433,7 @@ impl<T: Taker> Generator<'_, T> {
         let now = self.now();
         self.poll_until_none(now);
         if self.rng.chance(1, 2) {
-            let now = (self.elapsed() >> BLOCK_BITS << BLOCK_BITS) + FARTHEST;
+            let now = self.block_last().saturating_add(self.rng.pick(&[0, 1, 70, 1 << 30]));
             self.poll_until_none(now);
         }
     }
@@ -414,14 +447,18 @@ impl<T: Taker> Generator<'_, T> {
         };
         self.command(command);
         if self.rng.chance(1, 2) {
-            let base = match self.rng.below(7) {
+            let base = match self.rng.below(10) {
                 0 => self.rng.below(1 << 20),
                 1 => (1 + self.rng.below(8)) << BLOCK_BITS,
-                2 => ((1 + self.rng.below(8)) << BLOCK_BITS) - self.rng.below(200),
-                3 => u64::MAX - self.rng.below(1 << 40),
-                4 => u64::MAX - self.rng.below(200),
+                2 | 3 => ((1 + self.rng.below(8)) << BLOCK_BITS) - self.rng.below(200),
+                4 => u64::MAX - self.rng.below(1 << 40),
+                5 => u64::MAX - self.rng.below(200),
                 // The first clocks at which a deadline of 0 is too old.
-                5 => OLDEST,
+                6 => OLDEST,
+                // The seventh level of the original begins another turn.
+                7 => ((1 + self.rng.below((1 << 22) - 1)) << 42) - self.rng.below(200),
+                // Before the last block.
+                8 => (u64::MAX << BLOCK_BITS) - self.rng.below(200),
                 _ => self.rng.next(),
             };
             let now = self.near(base);
@@ -510,8 +547,26 @@ impl<T: Taker> Generator<'_, T> {
         self.rng.next() & ((1 << bits) - 1)
     }
 
+    /// About a block's start that lies ahead: at it, beside it, about the start of a slot behind it, within reach of it, as far as may be.
+    fn about_start(&mut self, start: u64) -> u64 {
+        match self.rng.below(10) {
+            0..4 => start,
+            4 | 5 => self.near(start),
+            6 => start - 1 - self.rng.below(70),
+            7 => {
+                let slots = self.rng.pick(&WIDTHS) * self.rng.below(65);
+                self.near(start.saturating_add(slots))
+            }
+            8 => start.saturating_add(self.ahead()),
+            _ => self.near(self.elapsed().saturating_add(FARTHEST)),
+        }
+    }
+
     /// A deadline.
     fn when(&mut self) -> u64 {
+        if let (true, Some(start)) = (self.edge && self.rng.chance(1, 2), self.next_start()) {
+            return self.about_start(start);
+        }
         let elapsed = self.elapsed();
         let block_start = elapsed >> BLOCK_BITS << BLOCK_BITS;
         match self.rng.below(24) {
@@ -563,6 +618,13 @@ impl<T: Taker> Generator<'_, T> {
 
     /// A time to poll at, seldom gone back.
     fn now(&mut self) -> u64 {
+        if let (true, Some(start)) = (self.edge && self.rng.chance(1, 3), self.next_start()) {
+            return match self.rng.below(8) {
+                0..4 => start - 1 - self.rng.below(3),
+                4 | 5 => start,
+                _ => self.about_start(start),
+            };
+        }
         let elapsed = self.elapsed();
         match self.rng.below(24) {
             0..=3 => elapsed,
@@ -603,12 +665,11 @@ impl<T: Taker> Generator<'_, T> {
     /// Far back, at the block's end, or (seldom, for it ends the store's use) far ahead.
     fn far_now(&mut self) -> u64 {
         let elapsed = self.elapsed();
-        let block_end = (elapsed >> BLOCK_BITS << BLOCK_BITS) + FARTHEST;
         match self.rng.below(12) {
             0 => self.rng.below(2),
             1 => elapsed.wrapping_sub(self.rng.below(1 << 20)),
-            2 => block_end,
-            3 => block_end.wrapping_add(1),
+            2 => self.block_last(),
+            3 => self.block_last().wrapping_add(1),
             4 if self.rng.chance(1, 20) => u64::MAX,
             5 if self.rng.chance(1, 20) => self.rng.next(),
             _ => elapsed,

@@ -8,7 +8,7 @@ include!(concat!(env!("OUT_DIR"), "/delay_queue_parts.rs"));
 
 mod watch;
 
-use crate::rules::WIDTHS;
+use crate::rules::{EXPIRED, PARKING, SLOTS, WIDTHS};
 use std::cell::RefCell;
 use std::rc::Rc;
 pub use watch::Counts;
@@ -105,9 +105,13 @@ impl Queue {
         (data.inner, data.when)
     }
 
-    /// What the last poll did to the wheel's lists.
+    /// What the last poll did to the wheel's lists, by their places.
     pub fn counts(&self) -> Counts {
-        self.notes.borrow().counts.clone()
+        let mut counts = self.notes.borrow().counts.clone();
+        for (list, _) in &mut counts.emptied {
+            *list = place(*list);
+        }
+        counts
     }
 
     /// The expired stack, head first.
@@ -115,15 +119,20 @@ impl Queue {
         self.walk(self.expired.head, self.expired.tail)
     }
 
-    /// The wheel's lists, head first; slot s of level k is list 64 k + s.
+    /// The wheel's lists, head first; slot s of level k is list 64 k + s. The parking list, the one slot of the seventh
+    /// level that is filled, comes after them.
     pub fn lists(&self) -> Vec<Vec<usize>> {
         let notes = self.notes.borrow();
         let ends = notes.heads.iter().zip(&notes.tails);
-        ends.map(|(&head, &tail)| self.walk(head, tail)).collect()
+        let mut lists: Vec<Vec<usize>> = ends.map(|(&head, &tail)| self.walk(head, tail)).collect();
+        let mut parked = lists.split_off(PARKING).into_iter().filter(|list| !list.is_empty());
+        lists.push(parked.next().unwrap_or_default());
+        assert_eq!(parked.next(), None, "one block is parked");
+        lists
     }
 
-    /// Tells each timer's list, number, value and deadline: the wheel's lists, then the expired stack
-    /// as the last, head first.
+    /// Tells each timer's list, number, value and deadline: the wheel's lists, then the parking list, then the
+    /// expired stack as the last, head first.
     pub fn each(&self, mut tell: impl FnMut(usize, usize, u64, u64)) {
         let notes = self.notes.borrow();
         let heads = notes.heads.iter().chain([&self.expired.head]);
@@ -131,7 +140,7 @@ impl Queue {
             let mut at = head;
             while let Some(key) = at {
                 let data = &self.slab[key];
-                tell(list, key.index, data.inner, data.when);
+                tell(place(list), key.index, data.inner, data.when);
                 at = data.next;
             }
         }
@@ -151,11 +160,20 @@ impl Queue {
         list
     }
 
-    /// The rows of occupied bits. They are private to the wheel, but its debug text shows them.
+    /// The rows of occupied bits of the six levels. They are private to the wheel, but its debug text shows them.
     pub fn occupied(&self) -> [u64; WIDTHS.len()] {
         let text = format!("{:?}", self.wheel);
         let rows = text.split("occupied: ").skip(1);
         let row = |rest: &str| rest.split(' ').next().unwrap().parse().unwrap();
-        rows.map(row).collect::<Vec<_>>().try_into().unwrap()
+        rows.map(row).take(WIDTHS.len()).collect::<Vec<_>>().try_into().unwrap()
+    }
+}
+
+/// The place of one of the wheel's lists, or of the expired stack after them: all slots of the seventh level are the parking list.
+fn place(list: usize) -> usize {
+    match list.checked_sub(PARKING) {
+        None => list,
+        Some(slot) if slot < SLOTS => PARKING,
+        Some(_) => EXPIRED,
     }
 }

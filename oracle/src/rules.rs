@@ -2,8 +2,13 @@
 
 /// How many milliseconds a slot spans at each level.
 pub const WIDTHS: [u64; 6] = [1, 64, 4096, 262_144, 16_777_216, 1_073_741_824];
+/// The height of a parked timer, and what the parking list spans: a block.
+pub const PARKED: usize = WIDTHS.len();
 pub const SLOTS: usize = 64;
-/// A deadline must lie in the same block of 2^36 milliseconds as elapsed.
+/// The places of the parking list and of the expired stack, after the slots; slot s of level k is 64 k + s.
+pub const PARKING: usize = WIDTHS.len() * SLOTS;
+pub const EXPIRED: usize = PARKING + 1;
+/// A deadline lies in elapsed's block of 2^36 milliseconds, or in the next, where it is parked (02 [12]).
 pub const BLOCK_BITS: u32 = 36;
 /// The farthest that a deadline may lie ahead of elapsed.
 pub const FARTHEST: u64 = 68_719_476_735;
@@ -22,6 +27,25 @@ pub fn level(elapsed: u64, deadline: u64) -> usize {
         .rev()
         .find(|&k| elapsed / WIDTHS[k] != deadline / WIDTHS[k])
         .unwrap_or(0)
+}
+
+/// The level, or that of the parking list for a deadline in another block than elapsed's.
+pub fn height(elapsed: u64, deadline: u64) -> usize {
+    if block(elapsed) == block(deadline) {
+        level(elapsed, deadline)
+    } else {
+        PARKED
+    }
+}
+
+/// What a slot of this height spans, or the parking list.
+pub fn width(height: usize) -> u64 {
+    WIDTHS.get(height).copied().unwrap_or(1 << BLOCK_BITS)
+}
+
+/// Where the next block starts.
+pub fn block_end(elapsed: u64) -> u64 {
+    (block(elapsed) + 1) << BLOCK_BITS
 }
 
 pub fn slot(level: usize, deadline: u64) -> usize {

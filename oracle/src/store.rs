@@ -5,10 +5,10 @@ mod model;
 
 use crate::line::Answer;
 use crate::original::Original;
-use crate::rules::{block, key, level, unpack, FARTHEST, LAST_TURN, OLDEST, SLOTS, WIDTHS};
+use crate::rules::{height, key, unpack, EXPIRED, FARTHEST, LAST_TURN, OLDEST, PARKED, SLOTS};
 use checks::Before;
 use hand::{Hand, Lists};
-use model::{Model, EXPIRED};
+use model::Model;
 use std::collections::{BTreeMap, VecDeque};
 use std::fmt::Write;
 use std::mem;
@@ -38,7 +38,7 @@ struct Record {
 /// A pending timer, as the original holds it.
 #[derive(Clone, Copy, PartialEq, Eq, Debug)]
 pub struct Entry {
-    /// Slot s of level k is 64 k + s; the expired stack comes after the slots.
+    /// Slot s of level k is 64 k + s; the parking list comes after the slots, then the expired stack.
     pub place: usize,
     pub record: usize,
     pub turn: u64,
@@ -198,7 +198,7 @@ impl Store {
 
     /// More moves may be needed than the limit allows: something is to be drained, and it lies high enough.
     fn may_stop(&self, now: u64, limit: u64) -> bool {
-        let most = (WIDTHS.len() - 1) * self.pending.len();
+        let most = PARKED * self.pending.len();
         limit < most as u64 && !self.original.has_expired() && self.wheel_wake().is_some_and(|wake| wake <= now)
     }
 
@@ -271,7 +271,7 @@ impl Store {
         }
     }
 
-    /// The now of the poll in hand, and the slot that its next move is taken from.
+    /// The now of the poll in hand, and the place that its next move is taken from: a slot's or the parking list's.
     pub fn in_hand(&self) -> Option<(u64, usize)> {
         self.hand.as_ref().map(|hand| (hand.now, hand.place()))
     }
@@ -370,7 +370,7 @@ impl Store {
         self.find(key).is_some()
     }
 
-    /// Elapsed and all lists, head first: `# e=ELAPSED x=[..] LEVEL.SLOT=[..] ..`.
+    /// Elapsed and all lists, head first: `# e=ELAPSED x=[..] LEVEL.SLOT=[..] ..`, the parking list as 6.0.
     pub fn contents(&self) -> String {
         let lists = self.lists();
         let mut text = format!("# e={} x={}", self.elapsed(), show(&lists[EXPIRED]));
@@ -383,7 +383,8 @@ impl Store {
         text
     }
 
-    /// The original's lists in record numbers, head first: the slots, then the expired stack. While a poll is in hand, those in between.
+    /// The original's lists in record numbers, head first: the slots, the parking list, the expired stack. While a poll is in hand, those in
+    /// between.
     fn lists(&self) -> Vec<Vec<usize>> {
         if let Some(hand) = &self.hand {
             let mut lists = vec![vec![]; EXPIRED + 1];
@@ -422,7 +423,7 @@ impl Store {
         named.then_some(record)
     }
 
-    /// Refusals 11, 4 and 5, of a deadline as it was handed in: "it applies before raising to elapsed" (02 [8]).
+    /// Refusals 11 and 4, of a deadline as it was handed in: "it applies before raising to elapsed" (02 [8]).
     fn refused(&self, when: u64) -> Option<u8> {
         let below = self.elapsed().saturating_sub(when);
         let number = if below > OLDEST {
@@ -434,18 +435,10 @@ impl Store {
         number
     }
 
-    /// Refusals 4 and 5.
+    /// Refusal 4. "Refusal 5 is then never given" (02 [12]).
     fn too_far(&self, when: u64) -> Option<u8> {
         let elapsed = self.elapsed();
-        if when <= elapsed {
-            None
-        } else if when - elapsed > FARTHEST {
-            Some(4)
-        } else if block(when) != block(elapsed) {
-            Some(5)
-        } else {
-            None
-        }
+        (when.saturating_sub(elapsed) > FARTHEST).then_some(4)
     }
 
     fn take(&mut self) -> usize {
@@ -455,8 +448,8 @@ impl Store {
         })
     }
 
-    /// Where a timer that was handed out is placed again. "If refusals 4 or 5 would meet that deadline
-    /// at the elapsed time after the hand-out, or it passes 2^64-1", nowhere (02 [7]). Refusal 11 is not asked.
+    /// Where a timer that was handed out is placed again. If refusal 4 would meet that deadline "at the elapsed time after the hand-out, or it
+    /// passes 2^64-1", nowhere (02 [7], [12]). Refusal 11 is not asked.
     fn again(&self, record: usize) -> Option<u64> {
         let Record {
             period, deadline, ..
@@ -506,7 +499,7 @@ impl Store {
 
     fn height(&self, record: usize) -> usize {
         match self.records[record].place {
-            Place::Wheel => level(self.elapsed(), self.records[record].deadline),
+            Place::Wheel => height(self.elapsed(), self.records[record].deadline),
             _ => 0,
         }
     }

@@ -5,12 +5,12 @@ use crate::script::Script;
 use std::collections::BTreeMap;
 use std::fmt;
 
-/// Every kind there is. `last` counts those of `out` that end so, `drains 5` polls with five drains,
+/// Every kind there is. `last` counts those of `out` that end so, `drains 6` polls with six drains,
 /// answered `out` or `none`.
 const KINDS: [&str; 25] = [
     "ok", "key", "gone", "out", "last", "none", "wake", "wake -", "len", "bad", "no 1", "no 2",
-    "no 3", "no 4", "no 5", "no 6", "no 7", "no 8", "no 11", "drains 0", "drains 1", "drains 2",
-    "drains 3", "drains 4", "drains 5",
+    "no 3", "no 4", "no 6", "no 7", "no 8", "no 11", "drains 0", "drains 1", "drains 2",
+    "drains 3", "drains 4", "drains 5", "drains 6",
 ];
 /// Where polls may have a limit; the drains of `yet` are not counted among the others.
 const LIMITED: [&str; 2] = ["yet", "no 12"];

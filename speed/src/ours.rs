@@ -1,7 +1,7 @@
 //! Our queue, through the functions that crates/harness exports. A slice crosses as its pointer and its length.
 //! oracle/scale-program takes this file too.
 
-type State = [u64; 12];
+type State = [u64; 13];
 type Heads = [[u16; 64]; 6];
 
 /// A command of the benchmark.
@@ -36,7 +36,8 @@ extern "C" {
 
 /// A store, lent anew to each call.
 pub struct Store {
-    /// Elapsed, six rows, n, the heads of the expired stack and of the free list, the slot in hand and the time of its poll.
+    /// Elapsed, six rows, n, the heads of the expired stack and of the free list, the place in hand and the time of its poll, the head of the
+    /// parking list.
     pub state: State,
     pub heads: Heads,
     /// Two words a record: the value of record i is word 2 i, its period the next.
@@ -73,7 +74,7 @@ impl Store {
     /// Memory for so many records, and no store in it.
     pub fn room(n: usize) -> Store {
         Store {
-            state: [0; 12],
+            state: [0; 13],
             heads: [[0; 64]; 6],
             values: vec![0; 2 * n],
             deadlines: vec![0; n],

@@ -53,14 +53,14 @@ fn slot(out: &mut [u8], pen: Pen, nexts: &[u16], n: u16, k: u64, s: u64, h: u16)
     list(out, u, nexts, n, h)
 }
 
-// All slots, levels and slots rising.
+// All slots, levels and slots rising, and behind them the parking list as slot 0 of level 6.
 fn slots(out: &mut [u8], pen: Pen, state: Wheel, heads: &[[u16; 64]; 6], nexts: &[u16]) -> Pen {
     let stacks = state.stacks;
     let n = stacks.n;
-    let tops = [n, stacks.expired, stacks.free];
+    let tops = [n, stacks.expired, stacks.free, stacks.parking];
     let mut p = pen;
     let mut place = 0u16;
-    while place < stack::SLOTS {
+    while place <= stack::PARKING {
         let h = stack::head_of(&tops, heads, place);
         let level = stack::level_of(place);
         let s = stack::slot_of(place);

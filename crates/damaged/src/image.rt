@@ -35,16 +35,18 @@ pub const HAND: usize = 88;
 
 pub const UNTIL: usize = 89;
 
-pub const OCCUPIED: usize = 90;
+pub const PARKING: usize = 90;
 
-pub const HEADS: usize = 96;
+pub const OCCUPIED: usize = 91;
+
+pub const HEADS: usize = 97;
 
 pub const SLOTS: usize = stack::SLOTS as usize;
 
 // One number for the words of the slices that the row does not have: 0 while they are as they were made.
-const REST: usize = 480;
+const REST: usize = 481;
 
-pub type Image = [u64; 481];
+pub type Image = [u64; 482];
 
 // How many calls answered no 2, and how many left every word as it was.
 struct Seen {
@@ -54,9 +56,9 @@ struct Seen {
 
 // Words that no call has written yet.
 fn blank(x: u64) -> Image
-    ensures { λ r. ⌜ length r ≡ 481 ⌝ }
+    ensures { λ r. ⌜ length r ≡ 482 ⌝ }
 {
-    [x; 481]
+    [x; 482]
 }
 
 // The contracts give the lengths alone, so that no proof meets the words. A record of such words is a retired one: its turn is the
@@ -116,7 +118,7 @@ fn narrow(x: u64) -> u16 {
 
 // The first `count` words of a slice, out of the row.
 fn take_words(words: &mut [u64], image: &Image, from: usize, count: usize)
-    requires { ⌜ (count ≤ length (now words)) × (from + count ≤ 480) ⌝ }
+    requires { ⌜ (count ≤ length (now words)) × (from + count ≤ 481) ⌝ }
 {
     let mut i: usize = 0;
     while i < count {
@@ -134,7 +136,7 @@ fn pairs_in(image: &Image) -> [u64; 2050]
 }
 
 fn words_in(image: &Image, from: usize) -> [u64; 1025]
-    requires { ⌜ from ≤ 468 ⌝ }
+    requires { ⌜ from ≤ 469 ⌝ }
     ensures { λ r. ⌜ length r ≡ 1025 ⌝ }
 {
     let mut words = words();
@@ -143,7 +145,7 @@ fn words_in(image: &Image, from: usize) -> [u64; 1025]
 }
 
 fn numbers_in(image: &Image, from: usize) -> [u16; 1025]
-    requires { ⌜ from ≤ 468 ⌝ }
+    requires { ⌜ from ≤ 469 ⌝ }
     ensures { λ r. ⌜ length r ≡ 1025 ⌝ }
 {
     let mut numbers = numbers();
@@ -167,6 +169,7 @@ fn state_in(image: &Image) -> Wheel {
         n: narrow(image[N]),
         expired: narrow(image[EXPIRED]),
         free: narrow(image[FREE]),
+        parking: narrow(image[PARKING]),
     };
     Wheel {
         elapsed: image[ELAPSED],
@@ -197,7 +200,7 @@ fn put_head(heads: &mut [[u16; 64]; 6], i: usize, x: u16)
 
 // The first `count` words of a slice, into the row.
 fn note_slice(image: &mut Image, from: usize, words: &[u64], count: usize)
-    requires { ⌜ (count ≤ length (now words)) × (from + count ≤ 480) ⌝ }
+    requires { ⌜ (count ≤ length (now words)) × (from + count ≤ 481) ⌝ }
 {
     let mut i: usize = 0;
     while i < count {
@@ -212,13 +215,13 @@ fn note_pairs(image: &mut Image, pairs: &[u64; 2050]) {
 }
 
 fn note_words(image: &mut Image, from: usize, words: &[u64; 1025])
-    requires { ⌜ from ≤ 468 ⌝ }
+    requires { ⌜ from ≤ 469 ⌝ }
 {
     note_slice(image, from, words, 12);
 }
 
 fn note_numbers(image: &mut Image, from: usize, numbers: &[u16; 1025])
-    requires { ⌜ from ≤ 468 ⌝ }
+    requires { ⌜ from ≤ 469 ⌝ }
 {
     let mut i: usize = 0;
     while i < 12 {
@@ -240,6 +243,7 @@ fn note_state(image: &mut Image, state: Wheel) {
     image[N] = wide(stacks.n);
     image[EXPIRED] = wide(stacks.expired);
     image[FREE] = wide(stacks.free);
+    image[PARKING] = wide(stacks.parking);
     image[ELAPSED] = state.elapsed;
     image[HAND] = wide(state.hand);
     image[UNTIL] = state.until;
@@ -325,7 +329,7 @@ fn ask(image: &mut Image, part: Part, call: Call) -> bool {
 
 fn same(a: &Image, b: &Image) -> bool {
     let mut i: usize = 0;
-    while i < 481 {
+    while i < 482 {
         if a[i] != b[i] {
             return false;
         }
@@ -423,6 +427,67 @@ pub fn too_low() -> Image {
 pub fn between() -> Image {
     let mut image = high();
     ask(&mut image, whole(), Call::PollSome(5000, 1));
+    image
+}
+
+// The store of nine with 2 and then 3 parked, at the next block's start and 50 later.
+pub fn parked(x: u64) -> Image {
+    let mut image = begun(9, x);
+    ask(&mut image, whole(), Call::Insert(11, 105, 0));
+    ask(&mut image, whole(), Call::Insert(12, 1 << 36, 0));
+    ask(&mut image, whole(), Call::Insert(13, (1 << 36) + 50, 0));
+    ask(&mut image, whole(), Call::Insert(14, 5000, 0));
+    ask(&mut image, whole(), Call::Insert(15, 2000000000, 0));
+    ask(&mut image, whole(), Call::Insert(16, 60, 0));
+    image
+}
+
+// The same with 2 cut out of its list: its mark says that it is parked, and it is in no list.
+pub fn unparked() -> Image {
+    let mut image = parked(77);
+    image[PARKING] = 3;
+    image[PREVS + 3] = 3;
+    image[NEXTS + 2] = wide(links::NOBODY);
+    image[PREVS + 2] = wide(links::NOBODY);
+    image
+}
+
+// The store with two parked, once the expired one is handed out, with a poll at the next block's start in hand: it drains the parking list
+// before the rest is out.
+pub fn hasty() -> Image {
+    let mut image = parked(77);
+    ask(&mut image, whole(), Call::Poll(100));
+    image[HAND] = wide(stack::PARKING);
+    image[UNTIL] = 1 << 36;
+    image
+}
+
+// A poll 50 after the next block's start in hand, after the first of two moves out of the parking list: 1 is in slot 0 of level 5, and 2 still
+// there. 3 is free.
+pub fn parking() -> Image {
+    let mut image = begun(4, 77);
+    ask(&mut image, whole(), Call::Insert(11, 1 << 36, 0));
+    ask(&mut image, whole(), Call::Insert(12, (1 << 36) + 50, 0));
+    ask(&mut image, whole(), Call::PollSome((1 << 36) + 50, 1));
+    image
+}
+
+// Both moved, and the poll between two drains: it goes on in slot 0 of level 5, which starts at elapsed, the block's start.
+pub fn crossed() -> Image {
+    let mut image = parking();
+    ask(&mut image, whole(), Call::PollSome((1 << 36) + 50, 1));
+    image
+}
+
+// The same with 3 parked, in the block after: no poll would have drained the parking list and left one there.
+pub fn parked_too() -> Image {
+    let mut image = crossed();
+    image[FREE] = wide(links::NOBODY);
+    image[PARKING] = 3;
+    image[DEADLINES + 3] = 1 << 37;
+    image[NEXTS + 3] = wide(links::NOBODY);
+    image[PREVS + 3] = 3;
+    image[MARKS + 3] = wide(stack::PARKING);
     image
 }
 
@@ -547,12 +612,13 @@ fn say_word(at: usize) {
         EXPIRED => say(b"expired"),
         FREE => say(b"free"),
         HAND => say(b"hand"),
-        _ => say(b"until"),
+        UNTIL => say(b"until"),
+        _ => say(b"parking"),
     }
 }
 
 fn say_row(at: usize)
-    requires { ⌜ 90 ≤ at ⌝ }
+    requires { ⌜ 91 ≤ at ⌝ }
 {
     if at < HEADS {
         say_entry(b"occupied", at - OCCUPIED);
@@ -579,7 +645,7 @@ pub fn show_whole(image: &Image) {
 
 // The store with the word at `at` changed to x.
 pub fn show(image: &Image, at: usize, x: u64)
-    requires { ⌜ at < 480 ⌝ }
+    requires { ⌜ at < 481 ⌝ }
 {
     let mut changed = *image;
     changed[at] = x;
@@ -610,7 +676,7 @@ fn one_more(x: u64) -> u64 {
 }
 
 fn ask_raised(image: &Image, at: usize) -> Seen
-    requires { ⌜ at < 480 ⌝ }
+    requires { ⌜ at < 481 ⌝ }
     ensures { λ r. ⌜ (r .refused ≤ 8) × (r .kept ≤ 8) ⌝ }
 {
     let mut changed = *image;
@@ -620,7 +686,7 @@ fn ask_raised(image: &Image, at: usize) -> Seen
 
 // The store with one word raised by one: each of the `count` words from `from` on in turn.
 pub fn show_each(image: &Image, from: usize, count: usize)
-    requires { ⌜ (from ≤ 480) × (count ≤ 480 - from) ⌝ }
+    requires { ⌜ (from ≤ 481) × (count ≤ 481 - from) ⌝ }
 {
     let mut refused = 0u64;
     let mut kept = 0u64;

@@ -14,6 +14,7 @@ use image::MARKS;
 use image::N;
 use image::NEXTS;
 use image::OCCUPIED;
+use image::PARKING;
 use image::PREVS;
 use image::TURNS;
 use image::UNTIL;
@@ -95,9 +96,10 @@ fn turns(image: &Image) {
 }
 
 fn marks(image: &Image) {
-    // a pending one: another slot, the expired stack, free, nobody
+    // a pending one: another slot, the expired stack, the parking list, free, nobody
     show(image, MARKS + 1, 42);
     show(image, MARKS + 1, stack::EXPIRED as u64);
+    show(image, MARKS + 1, stack::PARKING as u64);
     show(image, MARKS + 2, stack::FREE as u64);
     show(image, MARKS + 4, NOBODY);
     // the slot of the same number at another level; an expired one as free
@@ -134,7 +136,10 @@ fn numbers(image: &Image) {
     show(image, HAND, 0);
     show(image, UNTIL, 1);
     show(image, UNTIL, 100);
-    show_each(image, N, 12);
+    // nobody is parked: a pending one, past the last record
+    show(image, PARKING, 5);
+    show(image, PARKING, 9);
+    show_each(image, N, 13);
 }
 
 fn rows(image: &Image) {
@@ -263,7 +268,88 @@ fn held(image: &Image) {
     show(image, DEADLINES + 3, 191);
     show(image, DEADLINES + 3, 256);
     show(image, DEADLINES + 2, 264);
-    show_each(image, N, 12);
+    show_each(image, N, 13);
+}
+
+// Two timers parked, 2 and then 3.
+fn parked(image: &Image) {
+    image::say(b"two timers parked:\n");
+    image::show_whole(image);
+    // a deadline of the next block, its first and its last; of this block, of the one after
+    show(image, DEADLINES + 2, 1 << 36);
+    show(image, DEADLINES + 2, (1 << 37) - 1);
+    show(image, DEADLINES + 2, (1 << 36) - 1);
+    show(image, DEADLINES + 2, 1 << 37);
+    show(image, DEADLINES + 3, 210);
+    // the clock in the block of the parked ones
+    show(image, ELAPSED, 1 << 36);
+    // the head: none, the second, past the last record, a free one
+    show(image, PARKING, NOBODY);
+    show(image, PARKING, 3);
+    show(image, PARKING, 9);
+    show(image, PARKING, 7);
+    // links: ends too early, goes round, into a slot; the tail that the head names, and a link back
+    show(image, NEXTS + 2, NOBODY);
+    show(image, NEXTS + 3, 2);
+    show(image, NEXTS + 3, 1);
+    show(image, PREVS + 2, 2);
+    show(image, PREVS + 2, NOBODY);
+    show(image, PREVS + 3, NOBODY);
+    show(image, PREVS + 3, 4);
+    // marks: a slot, the expired stack, free, nobody; one of a slot says that it is parked
+    show(image, MARKS + 2, 320);
+    show(image, MARKS + 2, stack::EXPIRED as u64);
+    show(image, MARKS + 3, stack::FREE as u64);
+    show(image, MARKS + 3, NOBODY);
+    show(image, MARKS + 1, stack::PARKING as u64);
+    // in hand, with no now
+    show(image, HAND, stack::PARKING as u64);
+    show_each(image, N, 13);
+    image::say(b"one cut out of the parking list, its mark left:\n");
+    image::show_whole(&image::unparked());
+    image::say(b"the parking list in hand at the next block's start, while slots are filled:\n");
+    image::show_whole(&image::hasty());
+}
+
+// A poll in hand, whose next move is the head of the parking list: elapsed lies in the block before.
+fn parking(image: &Image) {
+    image::say(b"a poll in hand, inside the drain of the parking list:\n");
+    image::show_whole(image);
+    // the block's start, any later time; before it, none
+    show(image, UNTIL, 1 << 36);
+    show(image, UNTIL, u64::MAX);
+    show(image, UNTIL, (1 << 36) - 1);
+    show(image, UNTIL, 0);
+    // any clock of the block before; in the block itself, in the one after
+    show(image, ELAPSED, 0);
+    show(image, ELAPSED, (1 << 36) - 1);
+    show(image, ELAPSED, 1 << 36);
+    show(image, ELAPSED, 1 << 37);
+    // the slot that is filled, the expired stack, nobody
+    show(image, HAND, 320);
+    show(image, HAND, stack::EXPIRED as u64);
+    show(image, HAND, NOBODY);
+    // one still parked, and one moved, of another block
+    show(image, DEADLINES + 2, (1 << 36) - 1);
+    show(image, DEADLINES + 2, 1 << 37);
+    show(image, DEADLINES + 1, (1 << 36) - 1);
+    show(image, DEADLINES + 1, 1 << 37);
+    show_each(image, N, 13);
+}
+
+// The poll between two drains at the block's start: it goes on in elapsed's own slot.
+fn crossed(image: &Image) {
+    image::say(b"the parking list drained, the poll in hand at the block's start:\n");
+    image::show_whole(image);
+    show(image, UNTIL, 1 << 36);
+    show(image, UNTIL, (1 << 36) - 1);
+    // 0 is no such start, nor is a time past it
+    show(image, ELAPSED, 0);
+    show(image, ELAPSED, (1 << 36) + 1);
+    show(image, HAND, NOBODY);
+    show_each(image, N, 13);
+    image::say(b"the same with one parked:\n");
+    image::show_whole(&image::parked_too());
 }
 
 // Damages of more than one word.
@@ -307,4 +393,7 @@ fn main() {
     lost(&image::cut());
     held(&image::held(77));
     midway();
+    parked(&image::parked(77));
+    parking(&image::parking());
+    crossed(&image::crossed());
 }

@@ -5,12 +5,14 @@ use lib.ListN.{replicate}
 use Rattle.links.specs.Lists.{nobody}
 use Rattle.wheel.specs.declared.Wheel.{Wheel}
 
--- elapsed is 0, no slot is occupied, there is no record, nobody is expired or free, and no poll is in hand. So it is not sound: "Before an accepted f all others answer `no 2`"
+-- elapsed is 0, no slot is occupied, there is no record, nobody is expired, free or parked, and no poll is in hand. So it is not sound: "Before an accepted f
+-- all others answer `no 2`"
 pub record NoStoreClaim (w : Wheel) : Type 0 where
   pub elapsed : w .elapsed ≡ 0
   pub occupied : w .occupied ≡ replicate {A = ℕ} 6 0
   pub records : w .stacks .n ≡ 0
   pub expired : w .stacks .expired ≡ nobody
   pub free : w .stacks .free ≡ nobody
+  pub parking : w .stacks .parking ≡ nobody
   pub hand : w .hand ≡ nobody
   pub until : w .until ≡ 0

@@ -67,6 +67,7 @@ pub fn no_store() -> Wheel
         n: 0,
         expired: links::NOBODY,
         free: links::NOBODY,
+        parking: links::NOBODY,
     };
     Wheel {
         elapsed: 0,
@@ -102,7 +103,7 @@ fn packed(
     answer: Answer,
     elapsed: u64,
     rows: [u64; 6],
-    tops: [u16; 3],
+    tops: [u16; 4],
     slots: [[u16; 64]; 6],
     hand: u16,
     until: u64,
@@ -115,6 +116,7 @@ fn packed(
         n: tops[0],
         expired: tops[1],
         free: tops[2],
+        parking: tops[3],
     };
     let state = Wheel {
         elapsed,
@@ -199,7 +201,7 @@ fn format_no(
 
 // A fresh store of n records in what is lent: values, periods and deadlines are 0, as elapsed and the occupied rows are.
 fn make(
-    tops: &mut [u16; 3],
+    tops: &mut [u16; 4],
     heads: &mut [[u16; 64]; 6],
     values: &mut [u64],
     deadlines: &mut [u64],
@@ -241,7 +243,7 @@ pub fn format(
     if number != 0 {
         return refused(number, state, heads);
     }
-    let mut tops = [0u16; 3];
+    let mut tops = [0u16; 4];
     let mut slots = heads;
     make(
         &mut tops,
@@ -284,7 +286,7 @@ pub fn insert(
     let elapsed = state.elapsed;
     let mut rows = state.occupied;
     let stacks = state.stacks;
-    let mut tops = [stacks.n, stacks.expired, stacks.free];
+    let mut tops = [stacks.n, stacks.expired, stacks.free, stacks.parking];
     let mut slots = heads;
     let answer = queue::insert(
         elapsed,
@@ -328,7 +330,7 @@ pub fn reset(
     let elapsed = state.elapsed;
     let mut rows = state.occupied;
     let stacks = state.stacks;
-    let mut tops = [stacks.n, stacks.expired, stacks.free];
+    let mut tops = [stacks.n, stacks.expired, stacks.free, stacks.parking];
     let mut slots = heads;
     let answer = queue::reset(
         elapsed,
@@ -370,7 +372,7 @@ pub fn remove(
     let elapsed = state.elapsed;
     let mut rows = state.occupied;
     let stacks = state.stacks;
-    let mut tops = [stacks.n, stacks.expired, stacks.free];
+    let mut tops = [stacks.n, stacks.expired, stacks.free, stacks.parking];
     let mut slots = heads;
     let answer = queue::remove(
         elapsed,
@@ -412,7 +414,7 @@ pub fn poll_some(
     let elapsed = state.elapsed;
     let mut rows = state.occupied;
     let stacks = state.stacks;
-    let mut tops = [stacks.n, stacks.expired, stacks.free];
+    let mut tops = [stacks.n, stacks.expired, stacks.free, stacks.parking];
     let mut slots = heads;
     let out = queue::poll(
         elapsed,
@@ -468,7 +470,7 @@ pub fn poll(
 }
 
 // From when on a poll has something to do: from elapsed on if a timer has expired, else from the start of the wheel's
-// first slot on.
+// first slot on, or of the next block if timers are parked alone.
 pub fn next_wake(
     state: Wheel,
     heads: [[u16; 64]; 6],
@@ -487,7 +489,13 @@ pub fn next_wake(
     }
     let rows = state.occupied;
     let stacks = state.stacks;
-    queue::next_wake(state.elapsed, &rows, stacks.expired)
+    queue::next_wake(
+        state.elapsed,
+        &rows,
+        deadlines,
+        stacks.expired,
+        stacks.parking,
+    )
 }
 
 // How many timers are pending.
@@ -532,7 +540,7 @@ pub fn clear(
     let elapsed = state.elapsed;
     let mut rows = state.occupied;
     let stacks = state.stacks;
-    let mut tops = [stacks.n, stacks.expired, stacks.free];
+    let mut tops = [stacks.n, stacks.expired, stacks.free, stacks.parking];
     let mut slots = heads;
     let answer = queue::clear(
         elapsed,

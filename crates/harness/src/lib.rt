@@ -11,7 +11,7 @@ use wheel::Wheel;
 ghost use Prim.Native.Nat.{_+_, _≤_};
 ghost use lib.ListN.{length};
 ghost use Rattle.records.specs.Words.{lent, after, holding, Sound};
-ghost use Rattle.wheel.specs.Expiration.{NotPassed};
+ghost use Rattle.wheel.specs.Expiration.{CanLook};
 
 // Calls by number, in the order of `Call`. A call is four words: its number, then a value, a key or N, then a deadline, a time or a first
 // turn, then a period or a limit on moves. A command of the benchmark is two: its number in the top four bits and the key below, then the
@@ -90,7 +90,7 @@ fn summed(op: u64, sum: u64, answer: Answer, elapsed: u64) -> u64 {
 fn turn(
     elapsed: u64,
     rows: &mut [u64; 6],
-    tops: &mut [u16; 3],
+    tops: &mut [u16; 4],
     heads: &mut [[u16; 64]; 6],
     values: &mut [u64],
     deadlines: &mut [u64],
@@ -184,7 +184,7 @@ fn turn(
         let s = summed(op, sum, answer, e);
         return Ran { elapsed: e, sum: s };
     }
-    let answer = queue::next_wake(elapsed, rows, tops[1]);
+    let answer = queue::next_wake(elapsed, rows, deadlines, tops[1], tops[3]);
     let s = told(sum, answer);
     Ran { elapsed, sum: s }
 }
@@ -193,7 +193,7 @@ fn turn(
 fn script_on(
     elapsed: u64,
     rows: &mut [u64; 6],
-    tops: &mut [u16; 3],
+    tops: &mut [u16; 4],
     heads: &mut [[u16; 64]; 6],
     values: &mut [u64],
     deadlines: &mut [u64],
@@ -241,7 +241,7 @@ fn script_on(
 fn freely(
     elapsed: u64,
     rows: &mut [u64; 6],
-    tops: &mut [u16; 3],
+    tops: &mut [u16; 4],
     heads: &mut [[u16; 64]; 6],
     values: &mut [u64],
     deadlines: &mut [u64],
@@ -305,7 +305,7 @@ fn freely(
             a,
         );
     }
-    queue::next_wake(elapsed, rows, tops[1])
+    queue::next_wake(elapsed, rows, deadlines, tops[1], tops[3])
 }
 
 fn is_poll(op: u64) -> bool {
@@ -325,7 +325,7 @@ fn limit_of(op: u64, c: u64) -> u64 {
 fn called(
     elapsed: u64,
     rows: &mut [u64; 6],
-    tops: &mut [u16; 3],
+    tops: &mut [u16; 4],
     heads: &mut [[u16; 64]; 6],
     values: &mut [u64],
     deadlines: &mut [u64],
@@ -480,7 +480,7 @@ fn least(x: usize, y: usize) -> usize
 fn answers_on(
     elapsed: u64,
     rows: &mut [u64; 6],
-    tops: &mut [u16; 3],
+    tops: &mut [u16; 4],
     heads: &mut [[u16; 64]; 6],
     values: &mut [u64],
     deadlines: &mut [u64],
@@ -543,13 +543,14 @@ fn low(x: u64) -> u16 {
 }
 
 // The state across the border: elapsed, six rows, n, the heads of the expired stack and of the free list, the slot whose drain is in hand and
-// the time of its poll.
-fn state_of(s: &[u64; 12]) -> Wheel {
+// the time of its poll, the head of the parking list.
+fn state_of(s: &[u64; 13]) -> Wheel {
     let occupied = [s[1], s[2], s[3], s[4], s[5], s[6]];
     let stacks = Stacks {
         n: low(s[7]),
         expired: low(s[8]),
         free: low(s[9]),
+        parking: low(s[12]),
     };
     Wheel {
         elapsed: s[0],
@@ -561,11 +562,12 @@ fn state_of(s: &[u64; 12]) -> Wheel {
 }
 
 // The parts put together again.
-fn wheel_of(elapsed: u64, rows: [u64; 6], tops: [u16; 3], hand: u16, until: u64) -> Wheel {
+fn wheel_of(elapsed: u64, rows: [u64; 6], tops: [u16; 4], hand: u16, until: u64) -> Wheel {
     let stacks = Stacks {
         n: tops[0],
         expired: tops[1],
         free: tops[2],
+        parking: tops[3],
     };
     Wheel {
         elapsed,
@@ -576,7 +578,7 @@ fn wheel_of(elapsed: u64, rows: [u64; 6], tops: [u16; 3], hand: u16, until: u64)
     }
 }
 
-fn keep_state(s: &mut [u64; 12], wheel: Wheel) {
+fn keep_state(s: &mut [u64; 13], wheel: Wheel) {
     let stacks = wheel.stacks;
     s[0] = wheel.elapsed;
     s[1] = wheel.occupied[0];
@@ -590,12 +592,13 @@ fn keep_state(s: &mut [u64; 12], wheel: Wheel) {
     s[9] = stacks.free as u64;
     s[10] = wheel.hand as u64;
     s[11] = wheel.until;
+    s[12] = stacks.parking as u64;
 }
 
 // Whether the store is sound.
 #[no_mangle]
 pub extern "C" fn harness_judge(
-    state: &[u64; 12],
+    state: &[u64; 13],
     heads: &[[u16; 64]; 6],
     values: &[u64],
     deadlines: &[u64],
@@ -619,7 +622,7 @@ pub extern "C" fn harness_judge(
 // The whole script by the calls that judge nothing, on a store with no poll in hand. The store is judged once, before the first.
 #[no_mangle]
 pub extern "C" fn harness_inner(
-    state: &mut [u64; 12],
+    state: &mut [u64; 13],
     heads: &mut [[u16; 64]; 6],
     values: &mut [u64],
     deadlines: &mut [u64],
@@ -648,7 +651,7 @@ pub extern "C" fn harness_inner(
     let elapsed = before.elapsed;
     let mut rows = before.occupied;
     let stacks = before.stacks;
-    let mut tops = [stacks.n, stacks.expired, stacks.free];
+    let mut tops = [stacks.n, stacks.expired, stacks.free, stacks.parking];
     let end = script_on(
         elapsed,
         &mut rows,
@@ -669,7 +672,7 @@ pub extern "C" fn harness_inner(
 // Calls that judge nothing, with their answers. The store is judged once, before the first: whether it is sound.
 #[no_mangle]
 pub extern "C" fn harness_answers(
-    state: &mut [u64; 12],
+    state: &mut [u64; 13],
     heads: &mut [[u16; 64]; 6],
     values: &mut [u64],
     deadlines: &mut [u64],
@@ -696,7 +699,7 @@ pub extern "C" fn harness_answers(
     let elapsed = before.elapsed;
     let mut rows = before.occupied;
     let stacks = before.stacks;
-    let mut tops = [stacks.n, stacks.expired, stacks.free];
+    let mut tops = [stacks.n, stacks.expired, stacks.free, stacks.parking];
     let left = answers_on(
         elapsed,
         &mut rows,
@@ -751,7 +754,7 @@ fn call_of(op: u64, a: u64, b: u64, c: u64) -> Call {
 // One call as users make it, which judges the store first, with its answer.
 #[no_mangle]
 pub extern "C" fn harness_call(
-    state: &mut [u64; 12],
+    state: &mut [u64; 13],
     heads: &mut [[u16; 64]; 6],
     values: &mut [u64],
     deadlines: &mut [u64],
@@ -797,7 +800,7 @@ fn first_of(first: u64, i: u64) -> u64 {
 // The whole script by the calls that users make: every one judges the store first.
 #[no_mangle]
 pub extern "C" fn harness_judged(
-    state: &mut [u64; 12],
+    state: &mut [u64; 13],
     heads: &mut [[u16; 64]; 6],
     values: &mut [u64],
     deadlines: &mut [u64],
@@ -882,7 +885,7 @@ fn ending_words(ending: Ending) -> [u64; 2] {
 // where reading stopped, and the words of why.
 #[no_mangle]
 pub extern "C" fn harness_replay(
-    state: &mut [u64; 12],
+    state: &mut [u64; 13],
     heads: &mut [[u16; 64]; 6],
     values: &mut [u64],
     deadlines: &mut [u64],

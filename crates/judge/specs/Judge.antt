@@ -6,19 +6,20 @@ use Prim.Native.Nat.{ℕ, suc, _%_, _^_, _≤_, _<_}
 use Rattle.times.specs.Times.{width}
 use Rattle.links.specs.Lists.{nobody}
 use Rattle.links.specs.Links.{at}
-use Rattle.stack.specs.Places.{slots, expired, levelAt}
+use Rattle.stack.specs.Places.{slots, parking, expired, levelAt}
 use Rattle.wheel.specs.Limited.{start}
-use Rattle.wheel.specs.Midway.{Belongs}
+use Rattle.wheel.specs.Midway.{Belongs, Parked}
 use Rattle.records.specs.Records.{lastTurn}
 
 -- ---- the records
 
--- turn and deadline of a record, by its mark, where the slot h of level low + 1, which starts at c, is drained; with no poll in hand low is 0, h is nobody
--- and c is elapsed
+-- turn and deadline of a record, by its mark, where the list h of height low + 1, which starts at c, is drained; with no poll in hand low
+-- is 0, h is nobody and c is elapsed
 pub record RecordAgrees (low h c w t m : ℕ) : Type 0 where
   pub some : 0 < t
   pub last : t < 2 ^ 48
   pub wheel : m < slots → Belongs low h c m w
+  pub parked : m ≡ parking → Parked h c w
   pub stack : m ≡ expired → w ≡ c
   pub retired : m ≡ nobody → t ≡ lastTurn
 
@@ -27,16 +28,18 @@ RecordsAgree low h c n ds ts ms = (i : ℕ) → i < n → RecordAgrees low h c (
 
 -- ---- a poll in hand
 
--- e is a multiple of the width of the level above, and not of 2^36
-abbrev pub OwnStart : ℕ → ℕ → Type 0
-OwnStart k e = (e % width (suc k) ≡ 0) × (e % 2 ^ 36 ≢ 0)
+-- e is a multiple of the width of the level above; where it is a block's start, it is not 0 and nothing is parked, by the head of the
+-- parking list
+abbrev pub OwnStart : ℕ → ℕ → ℕ → Type 0
+OwnStart k e parked = (e % width (suc k) ≡ 0) × (e % 2 ^ 36 ≡ 0 → (0 < e) × (parked ≡ nobody))
 
--- what is asked beside the records of a poll at `until` with the drain of p in hand, by the heads of p and of the expired stack
-pub record CanHold (e until p head first : ℕ) : Type 0 where
-  pub below : p < slots
+-- what is asked beside the records of a poll at `until` with the drain of p in hand, by the heads of p, of the expired stack and of the
+-- parking list
+pub record CanHold (e until p head first parked : ℕ) : Type 0 where
+  pub below : p < expired
   pub high : 0 < levelAt p
   pub filled : head ≢ nobody
   pub stack : first ≡ nobody
   pub late : e ≤ start e p
   pub due : start e p ≤ until
-  pub own : start e p ≡ e → OwnStart (levelAt p) e
+  pub own : start e p ≡ e → OwnStart (levelAt p) e parked

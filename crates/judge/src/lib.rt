@@ -9,8 +9,8 @@ ghost use Rattle.records.specs.Words.{Sound};
 ghost use Rattle.records.specs.Store.{before};
 ghost use Rattle.stack.specs.Words.{stacksOf};
 ghost use Rattle.stack.specs.Heads.{headOf};
-ghost use Rattle.stack.specs.Places.{expired};
-ghost use Rattle.wheel.specs.Midway.{Belongs};
+ghost use Rattle.stack.specs.Places.{parking, expired};
+ghost use Rattle.wheel.specs.Midway.{Belongs, Parked};
 ghost use Rattle.judge.specs.Judge.{RecordAgrees, RecordsAgree, OwnStart, CanHold};
 
 // Whether the slices are long enough for n records, of which each has two words of `values`.
@@ -44,7 +44,7 @@ pub fn has_room(
     k <= marks.len()
 }
 
-// Whether a timer with the deadline belongs in the slot `place`, where the slot `hand` of level low + 1, which starts at
+// Whether a timer with the deadline belongs in the slot `place`, where the list `hand` of height low + 1, which starts at
 // `clock`, is drained. With no poll in hand: 0, nobody and elapsed.
 fn is_place(low: usize, hand: u16, clock: u64, when: u64, place: u16) -> bool
     requires { ⌜ low < 6 ⌝ }
@@ -68,6 +68,17 @@ fn is_place(low: usize, hand: u16, clock: u64, when: u64, place: u16) -> bool
     place == stack::slot_place(low, slot)
 }
 
+// Whether a timer with the deadline belongs on the parking list: in the block after the clock's, or in the clock's own if it is
+// the parking list that is drained.
+fn is_parked(hand: u16, clock: u64, when: u64) -> bool
+    ensures { λ r. ⌜ Tells (Parked hand clock when) r ⌝ }
+{
+    if hand == stack::PARKING {
+        return times::same_block(clock, when);
+    }
+    times::next_block(clock, when)
+}
+
 // Whether the turn is in range, and the last one where the mark tells no place, and the deadline obeys the rule of the
 // place.
 fn record_agrees(low: usize, hand: u16, clock: u64, when: u64, turn: u64, mark: u16) -> bool
@@ -82,6 +93,9 @@ fn record_agrees(low: usize, hand: u16, clock: u64, when: u64, turn: u64, mark: 
     }
     if stack::is_slot(mark) {
         return is_place(low, hand, clock, when, mark);
+    }
+    if mark == stack::PARKING {
+        return is_parked(hand, clock, when);
     }
     if mark == stack::EXPIRED {
         return when == clock;
@@ -116,14 +130,17 @@ fn records_agree(
     true
 }
 
-// Whether elapsed is a multiple of the width of the level above, and no block's start: then a drain of elapsed's slot
-// there may have filled elapsed's slot of this level.
-fn is_own(elapsed: u64, level: usize) -> bool
+// Whether elapsed is a multiple of the width of the level above: then a drain of the list there may have filled elapsed's slot
+// of this level. At a block's start, that of the parking list, of which `parked` is the head, began the poll.
+fn is_own(elapsed: u64, level: usize, parked: u16) -> bool
     requires { ⌜ level < 6 ⌝ }
-    ensures { λ r. ⌜ Tells (OwnStart level elapsed) r ⌝ }
+    ensures { λ r. ⌜ Tells (OwnStart level elapsed parked) r ⌝ }
 {
     if elapsed % (times::MAX_DURATION + 1) == 0 {
-        return false;
+        if elapsed == 0 {
+            return false;
+        }
+        return parked == links::NOBODY;
     }
     let above = level + 1;
     if above == times::NUM_LEVELS {
@@ -133,12 +150,12 @@ fn is_own(elapsed: u64, level: usize) -> bool
 }
 
 // Whether a poll at `until` can have the drain of `hand` in hand, but for the records.
-fn can_hold(elapsed: u64, tops: &[u16; 3], heads: &[[u16; 64]; 6], hand: u16, until: u64) -> bool
+fn can_hold(elapsed: u64, tops: &[u16; 4], heads: &[[u16; 64]; 6], hand: u16, until: u64) -> bool
     ensures { λ r. ⌜
         Tells (CanHold elapsed until hand (headOf (stacksOf (old tops)) (old heads) hand)
-        (headOf (stacksOf (old tops)) (old heads) expired)) r ⌝ }
+        (headOf (stacksOf (old tops)) (old heads) expired) (headOf (stacksOf (old tops)) (old heads) parking)) r ⌝ }
 {
-    if !stack::is_slot(hand) {
+    if stack::EXPIRED <= hand {
         return false;
     }
     let level = stack::level_of(hand);
@@ -151,13 +168,17 @@ fn can_hold(elapsed: u64, tops: &[u16; 3], heads: &[[u16; 64]; 6], hand: u16, un
     if stack::head_of(tops, heads, stack::EXPIRED) != links::NOBODY {
         return false;
     }
+    if hand == stack::PARKING {
+        return times::block_over(elapsed, until);
+    }
     let slot = stack::slot_of(hand);
     let start = times::slot_start(elapsed, level, slot);
     if until < start {
         return false;
     }
     if start == elapsed {
-        return is_own(elapsed, level);
+        let parked = stack::head_of(tops, heads, stack::PARKING);
+        return is_own(elapsed, level, parked);
     }
     elapsed < start
 }
@@ -185,7 +206,7 @@ pub fn is_sound(
         return false;
     }
     let rows = state.occupied;
-    let tops = [n, stacks.expired, stacks.free];
+    let tops = [n, stacks.expired, stacks.free, stacks.parking];
     let e = state.elapsed;
     if !wheel::is_whole(e, &rows, &tops, &heads, nexts, prevs, marks) {
         return false;
@@ -202,7 +223,6 @@ pub fn is_sound(
         return false;
     }
     let level = stack::level_of(hand);
-    let slot = stack::slot_of(hand);
-    let start = times::slot_start(e, level, slot);
+    let start = wheel::list_start(e, hand);
     records_agree(level - 1, hand, start, n, deadlines, turns, marks)
 }

@@ -159,12 +159,12 @@ fn members(out: &mut [u8], pen: Pen, nexts: &[u16], n: u16, head: u16) -> Pen {
     pen::byte(out, p, b'\n')
 }
 
-// The expired stack, where it is not empty.
-fn expired(out: &mut [u8], pen: Pen, nexts: &[u16], n: u16, head: u16) -> Pen {
+// A list that is no slot behind its name, where it is not empty.
+fn named(out: &mut [u8], pen: Pen, name: &[u8], nexts: &[u16], n: u16, head: u16) -> Pen {
     if head == links::NOBODY {
         return pen;
     }
-    let p = pen::text(out, pen, b"expired");
+    let p = pen::text(out, pen, name);
     members(out, p, nexts, n, head)
 }
 
@@ -181,7 +181,7 @@ fn slot(out: &mut [u8], pen: Pen, nexts: &[u16], n: u16, k: u64, s: u64, head: u
 }
 
 // All slots, levels and slots rising.
-fn slots(out: &mut [u8], pen: Pen, tops: &[u16; 3], heads: &[[u16; 64]; 6], nexts: &[u16]) -> Pen {
+fn slots(out: &mut [u8], pen: Pen, tops: &[u16; 4], heads: &[[u16; 64]; 6], nexts: &[u16]) -> Pen {
     let n = tops[0];
     let mut p = pen;
     let mut place = 0u16;
@@ -195,7 +195,7 @@ fn slots(out: &mut [u8], pen: Pen, tops: &[u16; 3], heads: &[[u16; 64]; 6], next
     p
 }
 
-// Where each record is: free, retired, expired, or in a slot.
+// Where each record is: free, retired, expired, in a slot, or parked.
 fn lists(
     out: &mut [u8],
     pen: Pen,
@@ -205,11 +205,12 @@ fn lists(
     marks: &[u16],
 ) -> Pen {
     let n = stacks.n;
-    let tops = [n, stacks.expired, stacks.free];
+    let tops = [n, stacks.expired, stacks.free, stacks.parking];
     let p = free(out, pen, nexts, n, stacks.free);
     let q = retired(out, p, marks, n);
-    let r = expired(out, q, nexts, n, stacks.expired);
-    slots(out, r, &tops, heads, nexts)
+    let r = named(out, q, b"expired", nexts, n, stacks.expired);
+    let t = slots(out, r, &tops, heads, nexts);
+    named(out, t, b"parked", nexts, n, stacks.parking)
 }
 
 // What a record holds beside its links.
@@ -323,7 +324,8 @@ fn opening(out: &mut [u8], pen: Pen, n: u16, elapsed: u64) -> Pen {
     pen::byte(out, q, b'\n')
 }
 
-// The poll in hand, where there is one: its now, and level and slot of the list that its next move is taken from.
+// The poll in hand, where there is one: its now, and level and slot of the list that its next move is taken from, 6 and 0
+// where that is the parking list.
 fn hand(out: &mut [u8], pen: Pen, place: u16, until: u64) -> Pen {
     if place == links::NOBODY {
         return pen;

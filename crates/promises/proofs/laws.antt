@@ -1,3 +1,4 @@
+pub mod Across
 pub mod Alike
 pub mod Bounded
 pub mod Chained
@@ -26,6 +27,7 @@ pub mod NoStore
 pub mod Once
 pub mod Order
 pub mod Outs
+pub mod Parked
 pub mod Past
 pub mod Polling
 pub mod Precedes

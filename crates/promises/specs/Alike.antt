@@ -13,6 +13,7 @@ use Rattle.records.specs.Words.{QueueWords, queueWords, words, count, elapsed, 
 use Rattle.queue.specs.declared.Answer.{Answer}
 use Rattle.delay_queue.specs.declared.Call.{Call}
 use Rattle.delay_queue.specs.Claims.{CallClaim}
+use Rattle.promises.specs.OneCall.{zeros}
 use Rattle.promises.specs.Past.{sizeOf}
 use Rattle.promises.specs.Runs.{isFormat}
 
@@ -70,5 +71,4 @@ abbrev pub more : List ℕ
 more = 0 ∷ 7 ∷ []
 
 abbrev pub longer : QueueWords
-longer = words (record { elapsed = 0; occupied = []; stacks = record { n = 0; expired = 0; free = 0 }; hand = 0; until = 0 }) []
-    (0 ∷ more) more more more more more
+longer = words zeros [] (0 ∷ more) more more more more more

@@ -4,7 +4,7 @@ use mathlib.Core.Bool.{true, cond}
 use mathlib.Core.List.{List, [], _∷_, _++_}
 use Prim.Native.Nat.{ℕ, _+_, _*_, _≤_}
 use lib.Dec.{ltb}
-use Rattle.stack.specs.Places.{slots, levelAt}
+use Rattle.stack.specs.Places.{expired, levelAt}
 use Rattle.wheel.specs.Drain.{heights}
 use Rattle.queue.specs.declared.Answer.{Answer}
 use Rattle.queue.specs.Told.{Told, told, Hands}
@@ -31,9 +31,9 @@ pub record Fresh (t : QueueWords) : Type 0 where
   pub formats : CallClaim (C.Format n turn) lent answer t
   pub done : told answer ≡ T.ok
 
--- "A timer's height is its level, 0 on the expired stack": that of a timer in the place p
+-- "A timer's height is its level, 0 on the expired stack": that of a timer in the place p. The parking list has "height 6" (02 [12])
 abbrev pub heightAt : ℕ → ℕ
-heightAt p = cond (ltb p slots) (levelAt p) 0
+heightAt p = cond (ltb p expired) (levelAt p) 0
 
 -- 02 [7]: "that poll's moves are counted before re-placing": the timer y is handed out and set again by a poll that answers x
 abbrev pub IsSetAgain : View → Told → ℕ → Type 0
@@ -53,10 +53,10 @@ abbrev pub ReportsLost : QueueWords → Asked → QueueWords → Type 0
 ReportsLost s x t = (now : ℕ) → PollAt (x .call) now → LosesLevels (view s) (told (x .answer)) (view t)
 
 -- "each poll reports as many moves as the pending timers lost in levels during it, so all moves come to at most five for each accepted insert or reset",
--- and "a re-placing counts as an insert" (02 [7])
+-- and "a re-placing counts as an insert" (02 [7]). 02 [12]: "Demand 3's five becomes six."
 pub record MovesBounded {s u : QueueWords} {l : List Asked} (R : Runs s l u) : Type 0 where
   pub each : Each ReportsLost R
-  pub all : moves l ≤ 5 * (tally isPlacing l + resettings R)
+  pub all : moves l ≤ 6 * (tally isPlacing l + resettings R)
 
 -- ---- waiting
 

@@ -6,7 +6,7 @@ use Prim.Native.Nat.{ℕ, _≤_, _<_}
 use lib.Dec.{ltb}
 use Rattle.times.specs.Times.{floor}
 use Rattle.links.specs.Lists.{Mem}
-use Rattle.stack.specs.Places.{slots, expired, free, levelAt}
+use Rattle.stack.specs.Places.{expired, free, levelAt}
 use Rattle.wheel.specs.Words.{wheelWords}
 use Rattle.records.specs.View.{View}
 use Rattle.records.specs.Words.{QueueWords, queueWords, markOf}
@@ -17,22 +17,23 @@ use Rattle.promises.specs.Polling.{IsPending}
 
 -- ---- the wheel's answer
 
--- x lies on the wheel, in the slot p of level p / 64
-pub record OnSlot (v : View) (x p : ℕ) : Type 0 where
-  pub slot : p < slots
+-- x lies in the list p of height p / 64: on the wheel, in a slot, or on the parking list (02 [12])
+pub record InList (v : View) (x p : ℕ) : Type 0 where
+  pub below : p < expired
   pub member : Mem x (v .lists p)
 
--- what is promised of a wake at w: it is not past; no deadline on the wheel is before it; it is the deadline of a timer on the wheel, rounded down to the
--- width of its level, and of every timer whose deadline is least. At level 0 nothing is rounded.
+-- what is promised of a wake at w: it is not past; no deadline on the wheel or parked is before it; it is the deadline of such a timer,
+-- rounded down to the width of its height, and of every timer whose deadline is least. At level 0 nothing is rounded; at height 6 the width
+-- is a block's.
 pub record WakesAt (v : View) (w : ℕ) : Type 0 where
   pub not-past : v .elapsed ≤ w
-  pub in-time : (x p : ℕ) → OnSlot v x p → w ≤ v .deadline x
+  pub in-time : (x p : ℕ) → InList v x p → w ≤ v .deadline x
   pub item : ℕ
   pub place : ℕ
-  pub waits : OnSlot v item place
+  pub waits : InList v item place
   pub rounded : w ≡ floor (levelAt place) (v .deadline item)
   pub exact : place < 64 → w ≡ v .deadline item
-  pub least : (x p : ℕ) → OnSlot v x p → ((y q : ℕ) → OnSlot v y q → v .deadline x ≤ v .deadline y) → w ≡ floor (levelAt p) (v .deadline x)
+  pub least : (x p : ℕ) → InList v x p → ((y q : ℕ) → InList v y q → v .deadline x ≤ v .deadline y) → w ≡ floor (levelAt p) (v .deadline x)
 
 -- ---- next wake
 
@@ -64,6 +65,6 @@ pub record Idle (s : QueueWords) (now : ℕ) (a : Answer) (t : QueueWords) : Typ
 
 -- ---- length
 
--- the mark of a pending record is a slot or the expired stack
+-- the mark of a pending record is a list of timers
 abbrev pub isPending : QueueWords → ℕ → Bool
 isPending s i = ltb (markOf s i) free

@@ -7,6 +7,7 @@ use lib.ListN.{replicate}
 use Rattle.links.specs.Lists.{nobody}
 use Rattle.stack.specs.Places.{free}
 use Rattle.stack.specs.Format.{over, formatted}
+use Rattle.wheel.specs.declared.Wheel.{Wheel}
 use Rattle.wheel.specs.Words.{wheelWords}
 use Rattle.queue.specs.declared.Answer.{Answer}
 use Rattle.queue.specs.Told.{Told, told}
@@ -59,9 +60,12 @@ pub data Ends (n : ℕ) (s : QueueWords) (a : Answer) (t : QueueWords) : Type 0 
 abbrev pub word : List ℕ
 word = 0 ∷ []
 
+-- the state before any format, every word 0
+abbrev pub zeros : Wheel
+zeros = record { elapsed = 0; occupied = []; stacks = record { n = 0; expired = 0; free = 0; parking = 0 }; hand = 0; until = 0 }
+
 abbrev pub blank : QueueWords
-blank = words (record { elapsed = 0; occupied = []; stacks = record { n = 0; expired = 0; free = 0 }; hand = 0; until = 0 }) []
-    (0 ∷ word) word word word word word
+blank = words zeros [] (0 ∷ word) word word word word word
 
 abbrev pub one : QueueWords
 one = queueWords (wheelWords 0 (replicate 6 0) (formatted 1 word word word)) (over 2 (λ i. 0) (0 ∷ word)) (over 1 (λ i. 0) word)

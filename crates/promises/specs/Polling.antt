@@ -12,7 +12,7 @@ use Rattle.records.specs.Words.{elapsed}
 
 -- ---- what is said
 
--- r waits in a slot or on the expired stack
+-- r waits in a slot, on the parking list or on the expired stack
 abbrev pub IsPending : View → ℕ → Type 0
 IsPending v r = (p : ℕ) × At v r p
 

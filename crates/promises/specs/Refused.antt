@@ -8,7 +8,7 @@ use Rattle.stack.specs.Places.{free}
 use Rattle.queue.specs.declared.Answer.{Answer}
 use Rattle.queue.specs.Told.{told}
 use Rattle.records.specs.View.{View}
-use Rattle.records.specs.Records.{At, TooOld, TooFar, OtherBlock, numberIn, turnIn}
+use Rattle.records.specs.Records.{At, TooOld, TooFar, numberIn, turnIn}
 use Rattle.records.specs.Words.{QueueWords, count, elapsed, view, MidPoll, Sound, slices, PastKept}
 use Rattle.queue.specs.Calls.{Refused}
 use Rattle.delay_queue.specs.declared.Call.{Call}
@@ -31,9 +31,9 @@ pub data Lines : Type 1 where
   line : ℕ → Type 0 → Lines → Lines
 
 -- the lines of the deadline w, at elapsed e. 11: "more than 3,600,000 below elapsed", "judged after 3 or 6 and before 4" (02 [8]); 4: "deadline less elapsed is
--- over 68,719,476,735"; 5: "as 4, but not over, and floor(w/2^36) differs from floor(e/2^36)"
+-- over 68,719,476,735"; 02 [12]: "Refusal 5 is then never given; 4 stays"
 abbrev pub deadlineLines : ℕ → ℕ → Lines
-deadlineLines e w = line 11 (TooOld e w) (line 4 (TooFar e w) (line 5 (OtherBlock e w) end))
+deadlineLines e w = line 11 (TooOld e w) (line 4 (TooFar e w) end)
 
 -- 12: "polls with another now"; 7: "now is below elapsed"
 abbrev pub pollLines : QueueWords → ℕ → Lines

@@ -1,8 +1,8 @@
 -- Words of the promises on timers that repeat (02 [7]).
 use mathlib.Core.Path.{_≡_}
-use mathlib.Core.Logic.{_⊎_, _≢_}
+use mathlib.Core.Logic.{_⊎_}
 use mathlib.Core.List.{List, [], _∷_}
-use Prim.Native.Nat.{ℕ, _+_, _/_, _<_}
+use Prim.Native.Nat.{ℕ, _+_, _<_}
 use Rattle.queue.specs.declared.Answer.{Answer}
 use Rattle.queue.specs.declared.Answer.the-variants as A
 use Rattle.queue.specs.Told.{told}
@@ -13,9 +13,10 @@ use Rattle.promises.specs.Runs.{Asked, Runs}
 use Rattle.promises.specs.Keys.{asked}
 use Rattle.promises.specs.OneCall as store
 
--- "If refusals 4 or 5 would meet that deadline at the elapsed time after the hand-out, or it passes 2^64-1": in numbers, with elapsed e and the deadline w
+-- "If refusals 4 or 5 would meet that deadline at the elapsed time after the hand-out, or it passes 2^64-1": in numbers, with elapsed e and
+-- the deadline w. 5 is never given (02 [12])
 abbrev pub NoNextTime : ℕ → ℕ → Type 0
-NoNextTime e w = (18446744073709551615 < w) ⊎ (e + 68719476735 < w) ⊎ (w / 68719476736 ≢ e / 68719476736)
+NoNextTime e w = (18446744073709551615 < w) ⊎ (e + 68719476735 < w)
 
 -- the call is no accepted reset of k
 abbrev pub NotReset : ℕ → Asked → Type 0

@@ -8,7 +8,7 @@ use Rattle.stack.specs.Places.{free}
 use Rattle.queue.specs.declared.Answer.{Answer}
 use Rattle.queue.specs.Told.{Told, told, ok, key, gone, len, no}
 use Rattle.records.specs.View.{View, withElapsed, withValue, withPeriod, withHand, upd}
-use Rattle.records.specs.Records.{keyOf, Names, TooOld, TooFar, OtherBlock, Takes, taken, left, placed, freed}
+use Rattle.records.specs.Records.{keyOf, Names, TooOld, TooFar, Takes, taken, left, placed, freed}
 use Rattle.queue.specs.Steps.{QueuePolls, PollsSome, PollsRest, NextWake, pending, Clears}
 use Rattle.records.specs.Words.{QueueWords, AtRest, MidPoll, Sound, PastKept, count, view, elapsed}
 
@@ -24,22 +24,20 @@ pub record Answered (s : QueueWords) (a : Answer) (t : Told) (v : View) (s′ : 
   pub view : view s′ ≡ v
   pub kept : PastKept (count s) s s′
 
--- "insert 2, 3, 4, 5", with 11 "judged after 3 or 6 and before 4" (02 [8]): 2, 3, 11, 4, 5
+-- "insert 2, 3, 4, 5", with 11 "judged after 3 or 6 and before 4" (02 [8]), and 5 "never given" (02 [12]): 2, 3, 11, 4
 pub record InsertOn (s : QueueWords) (value when period : ℕ) (a : Answer) (s′ : QueueWords) : Type 0 where
   pub full : view s .lists free ≡ [] → Refused 3 s a s′
   pub old : (r : ℕ) (l : List ℕ) → view s .lists free ≡ r ∷ l → TooOld (elapsed s) when → Refused 11 s a s′
   pub far : (r : ℕ) (l : List ℕ) → view s .lists free ≡ r ∷ l → TooFar (elapsed s) when → Refused 4 s a s′
-  pub other : (r : ℕ) (l : List ℕ) → view s .lists free ≡ r ∷ l → OtherBlock (elapsed s) when → Refused 5 s a s′
   pub done : (r : ℕ) (l : List ℕ) → view s .lists free ≡ r ∷ l → Takes (elapsed s) when
       → Answered s a (key (keyOf (view s) r))
       (placed r when (withPeriod (upd (view s .period) r period) (withValue (upd (view s .value) r value) (taken l (view s))))) s′
 
--- "reset 2, 6, 4, 5", with 11 likewise: 2, 6, 11, 4, 5
+-- "reset 2, 6, 4, 5", likewise: 2, 6, 11, 4
 pub record ResetOn (s : QueueWords) (k when : ℕ) (a : Answer) (s′ : QueueWords) : Type 0 where
   pub dead : ((r p : ℕ) → Names (view s) k r p → ⊥) → Refused 6 s a s′
   pub old : (r p : ℕ) → Names (view s) k r p → TooOld (elapsed s) when → Refused 11 s a s′
   pub far : (r p : ℕ) → Names (view s) k r p → TooFar (elapsed s) when → Refused 4 s a s′
-  pub other : (r p : ℕ) → Names (view s) k r p → OtherBlock (elapsed s) when → Refused 5 s a s′
   pub done : (r p : ℕ) → Names (view s) k r p → Takes (elapsed s) when → Answered s a ok (placed r when (left p r (view s))) s′
 
 -- "remove 2, 6"

@@ -11,7 +11,7 @@ use Rattle.links.specs.Links.{at}
 use Rattle.links.specs.Count.{cnt}
 use Rattle.stack.specs.Places.{expired, free}
 use Rattle.wheel.specs.Midway.{Obeys}
-use Rattle.wheel.specs.Rows.{Rows}
+use Rattle.wheel.specs.Expiration.{Sees}
 use Rattle.wheel.specs.Words.{WheelWords, WheelWhole, Pops, lists, count as countIn}
 use Rattle.wheel.specs.Turns.{PollsTo}
 use Rattle.queue.specs.declared.Answer.{Answer}
@@ -55,16 +55,16 @@ pub record HandsOut (s : QueueWords) (i moves drains : ℕ) (a : Answer) (s′ :
 
 -- ---- next wake
 
--- the words that next wake is lent are those of v: its clock, its occupied slots, and the head of its expired stack, nobody if that is empty
-pub record Shows (e : ℕ) (occ : List ℕ) (head : ℕ) (v : View) : Type 0 where
+-- the words that next wake is lent are those of v: its clock, what a look sees of its wheel, and the head of its expired stack, nobody if that is empty
+pub record Shows (e : ℕ) (occ ds : List ℕ) (head parked : ℕ) (v : View) : Type 0 where
   pub elapsed : v .elapsed ≡ e
-  pub rows : Rows occ (v .lists)
+  pub wheel : Sees (at ds) e occ parked (v .lists)
   pub empty : head ≡ nobody → v .lists expired ≡ []
   pub first : head ≢ nobody → (l : List ℕ) × (v .lists expired ≡ head ∷ l)
 
 -- ---- length
 
--- the records whose mark is a slot or the expired stack
+-- the records whose mark is a list of timers
 unfoldable pub pendingIn : (ℕ → ℕ) → ℕ → ℕ
 pendingIn mk n = cnt (λ i. ltb (mk i) free) n
 

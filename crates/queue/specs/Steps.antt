@@ -3,10 +3,9 @@ use mathlib.Core.Path.{_≡_}
 use mathlib.Core.List.{List, [], _∷_}
 use mathlib.Core.Option.{Option, none, some}
 use Prim.Native.Nat.{ℕ, suc, _+_, _<_}
-use Rattle.times.specs.Times.{startAt}
 use Rattle.links.specs.Lists.{nobody, change}
 use Rattle.stack.specs.Places.{expired, free}
-use Rattle.wheel.specs.Wheel.{Lists, FirstSlot, EmptyWheel, Polls}
+use Rattle.wheel.specs.Wheel.{Lists, NextList, NoneWaits, Polls}
 use Rattle.wheel.specs.Sums.{total}
 use Rattle.wheel.specs.Limited.{Outcome, ended as stopped, yet, Limited}
 use Rattle.wheel.specs.Turns.{gotten}
@@ -30,7 +29,7 @@ pub data GoesOn (v : View) (r m n : ℕ) (u : View) : Told → View → Type 0 w
   again : 0 < v .period r → (NoMore (u .elapsed) (v .deadline r + v .period r) → ⊥)
       → GoesOn v r m n u (out (keyOf v r) (v .value r) (v .deadline r) m n) (placed r (v .deadline r + v .period r) u)
   -- "If refusals 4 or 5 would meet that deadline at the elapsed time after the hand-out, or it passes 2^64-1, the record is freed and the answer says it
-  -- was the last time."
+  -- was the last time." 5 meets none any more (02 [12]): one for the next block is parked
   ended : 0 < v .period r → NoMore (u .elapsed) (v .deadline r + v .period r)
       → GoesOn v r m n u (last (keyOf v r) (v .value r) (v .deadline r) m n) (freed r u)
 
@@ -67,10 +66,11 @@ pub data PollsRest (v : View) (now : ℕ) : Told → View → Type 0 where
       → PollsRest v now x w
   nothing-rest : {limit m n : ℕ} {u : View} → TakesSome v now limit (stopped none) m n u → PollsRest v now (T.none m n) u
 
--- "Next wake is `poll_at`: nothing for an empty wheel, else the start of the first slot as above."
+-- "Next wake is `poll_at`: nothing for an empty wheel, else the start of the first slot as above." 02 [12]: "A wake with only parked timers is the block
+-- start."
 pub data Wakes (v : View) : Told → Type 0 where
-  sleeps : EmptyWheel (v .lists) → Wakes v never
-  starts : {k s : ℕ} → FirstSlot (v .elapsed) (v .lists) k s → Wakes v (wake (startAt (v .elapsed) k s))
+  sleeps : NoneWaits (v .lists) → Wakes v never
+  starts : {k p c : ℕ} → NextList (v .elapsed) (v .lists) k p c → Wakes v (wake c)
 
 -- 02 [1]: "From now on next wake is elapsed whenever the expired stack holds anything, and the wheel's answer otherwise. This mends 01's line on next
 -- wake." The wheel's answer is `Wakes`

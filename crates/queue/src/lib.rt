@@ -12,7 +12,7 @@ ghost use Rattle.records.specs.View.{View};
 ghost use Rattle.queue.specs.Steps.{NextWake};
 ghost use Rattle.links.specs.Links.{at};
 ghost use Rattle.wheel.specs.Words.{lent as wheelLent, before as wheelBefore, after as wheelAfter};
-ghost use Rattle.wheel.specs.Expiration.{NotPassed};
+ghost use Rattle.wheel.specs.Expiration.{CanLook};
 
 // An answer.
 pub enum Answer {
@@ -52,7 +52,7 @@ pub struct Out {
 pub fn insert(
     elapsed: u64,
     rows: &mut [u64; 6],
-    tops: &mut [u16; 3],
+    tops: &mut [u16; 4],
     heads: &mut [[u16; 64]; 6],
     values: &mut [u64],
     deadlines: &mut [u64],
@@ -100,7 +100,7 @@ pub fn insert(
 pub fn reset(
     elapsed: u64,
     rows: &mut [u64; 6],
-    tops: &mut [u16; 3],
+    tops: &mut [u16; 4],
     heads: &mut [[u16; 64]; 6],
     values: &[u64],
     deadlines: &mut [u64],
@@ -144,7 +144,7 @@ pub fn reset(
 pub fn remove(
     elapsed: u64,
     rows: &mut [u64; 6],
-    tops: &mut [u16; 3],
+    tops: &mut [u16; 4],
     heads: &mut [[u16; 64]; 6],
     values: &[u64],
     deadlines: &[u64],
@@ -175,7 +175,7 @@ pub fn remove(
 fn hand_out(
     elapsed: u64,
     rows: &mut [u64; 6],
-    tops: &mut [u16; 3],
+    tops: &mut [u16; 4],
     heads: &mut [[u16; 64]; 6],
     values: &[u64],
     deadlines: &mut [u64],
@@ -227,7 +227,7 @@ fn hand_out(
 fn poll_idx(
     elapsed: u64,
     rows: &mut [u64; 6],
-    tops: &mut [u16; 3],
+    tops: &mut [u16; 4],
     heads: &mut [[u16; 64]; 6],
     deadlines: &[u64],
     nexts: &mut [u16],
@@ -297,7 +297,7 @@ fn poll_no(elapsed: u64, hand: u16, until: u64, time: u64) -> u64
 pub fn poll(
     elapsed: u64,
     rows: &mut [u64; 6],
-    tops: &mut [u16; 3],
+    tops: &mut [u16; 4],
     heads: &mut [[u16; 64]; 6],
     values: &[u64],
     deadlines: &mut [u64],
@@ -382,23 +382,30 @@ pub fn poll(
     }
 }
 
-// When a poll next has something to do: at once if a timer has expired, else when the wheel has. `expired` is the head of
-// the expired stack.
-pub fn next_wake(elapsed: u64, rows: &[u64; 6], expired: u16) -> Answer
-    requires { ⌜ NotPassed elapsed (now rows) ⌝ }
-    ensures { λ r. ⌜ ((v : View) → Shows elapsed (old rows) expired v → NextWake v (told r)) ⌝ }
+// When a poll next has something to do: at once if a timer has expired, else when the wheel has. `expired` and `parking` are the
+// heads of the expired stack and of the parking list.
+pub fn next_wake(
+    elapsed: u64,
+    rows: &[u64; 6],
+    deadlines: &[u64],
+    expired: u16,
+    parking: u16,
+) -> Answer
+    requires { ⌜ CanLook elapsed (now rows) (now deadlines) parking ⌝ }
+    ensures { λ r. ⌜
+        ((v : View) → Shows elapsed (old rows) (old deadlines) expired parking v → NextWake v (told r)) ⌝ }
 {
     if expired != links::NOBODY {
         return Answer::Wake(elapsed);
     }
-    let wake = wheel::poll_at(elapsed, rows);
+    let wake = wheel::poll_at(elapsed, rows, deadlines, parking);
     match wake {
         wheel::Wake::At(time) => Answer::Wake(time),
         wheel::Wake::Never => Answer::NoWake,
     }
 }
 
-// How many of n records are pending: those in a slot or on the expired stack.
+// How many of n records are pending: those in a slot, on the parking list or on the expired stack.
 pub fn length(n: u16, marks: &[u16]) -> u64
     requires { ⌜ n ≤ length (now marks) ⌝ }
     ensures { λ r. ⌜ r ≡ pendingIn (at (old marks)) n ⌝ }
@@ -418,7 +425,7 @@ pub fn length(n: u16, marks: &[u16]) -> u64
 fn clear_one(
     elapsed: u64,
     rows: &mut [u64; 6],
-    tops: &mut [u16; 3],
+    tops: &mut [u16; 4],
     heads: &mut [[u16; 64]; 6],
     values: &[u64],
     deadlines: &[u64],
@@ -445,7 +452,7 @@ fn clear_one(
 pub fn clear(
     elapsed: u64,
     rows: &mut [u64; 6],
-    tops: &mut [u16; 3],
+    tops: &mut [u16; 4],
     heads: &mut [[u16; 64]; 6],
     values: &[u64],
     deadlines: &[u64],

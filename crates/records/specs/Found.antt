@@ -8,22 +8,20 @@ use Rattle.records.specs.declared.Found.{Found}
 use Rattle.records.specs.declared.Found.the-variants as F
 use Rattle.records.specs.declared.Again.{Again}
 use Rattle.records.specs.declared.Again.the-variants as G
-use Rattle.records.specs.Records.{turnIn, numberIn, TooFar, OtherBlock, Near, TooOld, Takes, NoMore}
+use Rattle.records.specs.Records.{turnIn, numberIn, TooFar, Near, TooOld, Takes, NoMore}
 
--- ---- refusals 4, 5 and 11
+-- ---- refusals 4 and 11
 
--- 4 where the deadline is too far, 5 where it lies in another block, and 0 just where it is neither
+-- 4 where the deadline is too far, and 0 just where it is not
 pub record AheadNo (e w r : ℕ) : Type 0 where
   pub far : TooFar e w → r ≡ 4
-  pub other : OtherBlock e w → r ≡ 5
   pub near : Near e w → r ≡ 0
   pub taken : r ≡ 0 → Near e w
 
--- 11 where it is too old, 4 and 5 as above, and 0 just where it is taken
+-- 11 where it is too old, 4 as above, and 0 just where it is taken
 pub record DeadlineNo (e w r : ℕ) : Type 0 where
   pub old : TooOld e w → r ≡ 11
   pub far : TooFar e w → r ≡ 4
-  pub other : OtherBlock e w → r ≡ 5
   pub near : Takes e w → r ≡ 0
   pub taken : r ≡ 0 → Takes e w
 

@@ -5,6 +5,7 @@ use mathlib.Core.Logic.{_≢_}
 use mathlib.Core.List.{List}
 use Prim.Native.Nat.{ℕ, _+_, _^_, _<_, max}
 use lib.ListN.{length, set}
+use Rattle.times.specs.Times.{block}
 use Rattle.links.specs.Lists.{nobody, change}
 use Rattle.links.specs.Links.{at}
 use Rattle.stack.specs.Places.{free, put}
@@ -39,6 +40,10 @@ abbrev pub LooseAt : QueueWords → ℕ → Type 0
 LooseAt s i = LooseIn (s .wheel) i
 
 -- ---- placed
+
+-- w is over e, and in its block
+abbrev pub HasSlot : ℕ → ℕ → Type 0
+HasSlot e w = (e < w) × (block w ≡ block e)
 
 -- what the code leaves: the entry in its list, its deadline in its word
 pub record PlacesTo (t : WheelWords) (ds : List ℕ) (i when : ℕ) (t′ : WheelWords) (ds′ : List ℕ) : Type 0 where

@@ -1,13 +1,13 @@
 -- Records and their keys, and what happens to one record, in document 01's words. What stands between quotation marks is its text.
 use mathlib.Core.Path.{_≡_}
-use mathlib.Core.Logic.{_≢_, _⊎_}
+use mathlib.Core.Logic.{_⊎_}
 use mathlib.Core.Bool.{cond}
 use mathlib.Core.List.{List}
 use Prim.Native.Nat.{ℕ, _+_, _-_, _*_, _/_, _%_, _^_, _≤_, _<_, max}
 use lib.Dec.{eqb}
 use Rattle.times.specs.Times.{maxDuration, block}
 use Rattle.links.specs.Lists.{Mem, without, change}
-use Rattle.stack.specs.Places.{expired, free, put}
+use Rattle.stack.specs.Places.{parking, expired, free, put}
 use Rattle.wheel.specs.Wheel.{placeFor}
 use Rattle.records.specs.View.{View, withLists, withDeadline, withTurn, upd}
 
@@ -31,7 +31,7 @@ keyOf v r = packed (v .turn r) r
 abbrev pub lastTurn : ℕ
 lastTurn = 2 ^ 48 - 1
 
--- r waits in the place p, a slot or the expired stack
+-- r waits in the place p, a slot, the parking list or the expired stack
 pub record At (v : View) (r p : ℕ) : Type 0 where
   pub timed : p < free
   pub member : Mem r (v .lists p)
@@ -43,23 +43,19 @@ pub record Names (v : View) (key r p : ℕ) : Type 0 where
   pub pending : At v r p
   pub turn : v .turn r ≡ turnIn key
 
--- ---- refusals 4 and 5: "judged only when w is over e"
+-- ---- refusal 4: "judged only when w is over e". 02 [12]: "Refusal 5 is then never given; 4 stays."
 
 -- "deadline less elapsed is over 68,719,476,735"
 abbrev pub TooFar : ℕ → ℕ → Type 0
 TooFar e w = (e < w) × (maxDuration < w - e)
 
--- "as 4, but not over, and floor(w/2^36) differs from floor(e/2^36)"
-abbrev pub OtherBlock : ℕ → ℕ → Type 0
-OtherBlock e w = (e < w) × (w - e ≤ maxDuration) × (block w ≢ block e)
-
 abbrev pub Near : ℕ → ℕ → Type 0
-Near e w = e < w → block w ≡ block e
+Near e w = e < w → w - e ≤ maxDuration
 
 -- 02 [7]: "If refusals 4 or 5 would meet that deadline at the elapsed time after the hand-out, or it passes 2^64-1": a timer is not set again to w, which
--- is a number and no word
+-- is a number and no word. 5 meets none (02 [12])
 abbrev pub NoMore : ℕ → ℕ → Type 0
-NoMore e w = (2 ^ 64 ≤ w) ⊎ TooFar e w ⊎ OtherBlock e w
+NoMore e w = (2 ^ 64 ≤ w) ⊎ TooFar e w
 
 -- ---- refusal 11
 
@@ -83,9 +79,9 @@ unfoldable pub left : ℕ → ℕ → View → View
 left p r v = withLists (change (v .lists) p (without r (v .lists p))) v
 
 -- "Insert and reset first raise the deadline to elapsed if it is smaller. A deadline equal to elapsed goes on the expired stack, a later one"
--- to its slot
+-- to its slot, 02 [12]: "one parking list for deadlines in the next block"
 unfoldable pub target : ℕ → ℕ → ℕ
-target e w = cond (eqb w e) expired (placeFor e w)
+target e w = cond (eqb w e) expired (cond (eqb (block w) (block e)) (placeFor e w) parking)
 
 -- "New entries .. now join a list's tail": `put`
 unfoldable pub placed : ℕ → ℕ → View → View

@@ -1,11 +1,13 @@
 // Records in lent slices: their keys and turns, where a deadline may lie, and how one joins the wheel or leaves the store.
 ghost use mathlib.Core.Path.{_≡_};
-ghost use Prim.Native.Nat.{_+_, _^_, _≤_, _<_};
+ghost use Prim.Native.Nat.{_+_, _^_, _≤_, _<_, max};
 ghost use lib.ListN.{length};
 ghost use Rattle.contracts.specs.Lent.{old, new};
+ghost use Rattle.contracts.specs.Tells.{Tells};
+ghost use Rattle.stack.specs.Places.{slots, free};
 ghost use Rattle.wheel.specs.Words.{lent, before, after};
-ghost use Rattle.records.specs.Records.{packed, turnIn, numberIn};
-ghost use Rattle.records.specs.Inner.{PlacesTo, CanPlace, LeavesTo, CanFree};
+ghost use Rattle.records.specs.Records.{packed, turnIn, numberIn, target};
+ghost use Rattle.records.specs.Inner.{HasSlot, PlacesTo, CanPlace, LeavesTo, CanFree};
 ghost use Rattle.records.specs.Found.{AheadNo, DeadlineNo, AgainIs, FindIs};
 
 // The last turn: a record that leaves at it is retired.
@@ -29,23 +31,17 @@ pub enum Again {
     Never,
 }
 
-// 4 or 5 for a deadline that lies too far ahead of elapsed or in another block, 0 for one that does not.
+// 4 for a deadline that lies too far ahead of elapsed, 0 for one that does not.
 fn ahead_no(elapsed: u64, when: u64) -> u64
     ensures { λ r. ⌜ AheadNo elapsed when r ⌝ }
 {
-    if when <= elapsed {
-        return 0;
-    }
     if times::too_far(elapsed, when) {
         return 4;
     }
-    if times::same_block(elapsed, when) {
-        return 0;
-    }
-    5
+    0
 }
 
-// 11, 4 or 5 for a deadline that is refused, 0 for one that is taken.
+// 11 or 4 for a deadline that is refused, 0 for one that is taken.
 pub fn deadline_no(elapsed: u64, when: u64) -> u64
     ensures { λ r. ⌜ DeadlineNo elapsed when r ⌝ }
 {
@@ -73,11 +69,43 @@ pub fn next_time(elapsed: u64, deadline: u64, period: u64) -> Again
     Again::At(when)
 }
 
-// The loose record `item` is placed: on the expired stack if its deadline is not over elapsed, else in its slot.
+// Whether a deadline has a slot: it is over elapsed and lies in its block.
+fn has_slot(elapsed: u64, when: u64) -> bool
+    ensures { λ r. ⌜ Tells (HasSlot elapsed when) r ⌝ }
+{
+    if when <= elapsed {
+        return false;
+    }
+    times::same_block(elapsed, when)
+}
+
+// A deadline, raised to elapsed if it is smaller.
+fn raised(elapsed: u64, when: u64) -> u64
+    ensures { λ r. ⌜ r ≡ max when elapsed ⌝ }
+{
+    if when <= elapsed {
+        return elapsed;
+    }
+    when
+}
+
+// The list of a deadline that has no slot: the expired stack if it is not over elapsed, else the parking list.
+fn aside(elapsed: u64, when: u64) -> u16
+    requires { ⌜ (HasSlot elapsed when → ⊥) ⌝ }
+    ensures { λ r. ⌜ (r ≡ target elapsed (max when elapsed)) × (slots ≤ r) × (r < free) ⌝ }
+{
+    if when <= elapsed {
+        return stack::EXPIRED;
+    }
+    stack::PARKING
+}
+
+// The loose record `item` is placed: on the expired stack if its deadline is not over elapsed, else in its slot, or on the parking
+// list if it lies in the next block.
 pub fn place(
     elapsed: u64,
     rows: &mut [u64; 6],
-    tops: &mut [u16; 3],
+    tops: &mut [u16; 4],
     heads: &mut [[u16; 64]; 6],
     deadlines: &mut [u64],
     nexts: &mut [u16],
@@ -91,30 +119,21 @@ pub fn place(
         PlacesTo (before elapsed rows tops heads nexts prevs marks) (old deadlines)
         item when (after elapsed rows tops heads nexts prevs marks) (new deadlines) ⌝ }
 {
-    if when <= elapsed {
-        deadlines[item as usize] = elapsed;
-        wheel::push(
-            elapsed,
-            rows,
-            tops,
-            heads,
-            nexts,
-            prevs,
-            marks,
-            stack::EXPIRED,
-            item,
-        );
+    if has_slot(elapsed, when) {
+        deadlines[item as usize] = when;
+        wheel::insert(elapsed, rows, tops, heads, nexts, prevs, marks, when, item);
         return;
     }
-    deadlines[item as usize] = when;
-    wheel::insert(elapsed, rows, tops, heads, nexts, prevs, marks, when, item);
+    deadlines[item as usize] = raised(elapsed, when);
+    let list = aside(elapsed, when);
+    wheel::push(elapsed, rows, tops, heads, nexts, prevs, marks, list, item);
 }
 
 // The loose record `item` is freed, its turn raised by one; at the last turn it is retired.
 pub fn leave(
     elapsed: u64,
     rows: &[u64; 6],
-    tops: &mut [u16; 3],
+    tops: &mut [u16; 4],
     heads: &mut [[u16; 64]; 6],
     nexts: &mut [u16],
     prevs: &mut [u16],

@@ -5,6 +5,7 @@ use mathlib.Core.List.{List}
 use Prim.Native.Nat.{ℕ, _+_}
 use lib.ListN.{length, drop, replicate}
 use Rattle.links.specs.Lists.{nobody}
+use Rattle.stack.specs.Heads.{stacksBy}
 use Rattle.wheel.specs.declared.Wheel.{Wheel}
 use Rattle.queue.specs.declared.Answer.{Answer}
 use Rattle.queue.specs.Told.{told}
@@ -23,7 +24,7 @@ use Rattle.journal.specs.Journal.{Acts, unwritten}
 -- the state that `no_store` hands back
 abbrev pub noWheel : Wheel
 noWheel =
-    record { elapsed = 0; occupied = replicate 6 0; stacks = record { n = 0; expired = nobody; free = nobody }; hand = nobody; until = 0 }
+    record { elapsed = 0; occupied = replicate 6 0; stacks = stacksBy 0 nobody nobody nobody; hand = nobody; until = 0 }
 
 -- nobody is the head of any slot
 unfoldable pub noHeads : List (List ℕ)

@@ -26,7 +26,7 @@ noRows = replicate 6 noRow
 
 unfoldable pub formatted : ℕ → List ℕ → List ℕ → List ℕ → StackWords
 formatted n ns ps ms =
-    words (n ∷ 65535 ∷ 0 ∷ []) noRows (set (over n (λ i. i + 1) ns) (n - 1) nobody) (over n (before n) ps) (over n (λ i. free) ms)
+    words (n ∷ 65535 ∷ 0 ∷ 65535 ∷ []) noRows (set (over n (λ i. i + 1) ns) (n - 1) nobody) (over n (before n) ps) (over n (λ i. free) ms)
 
 -- of the links that `format` is lent
 abbrev pub formattedOf : ℕ → Turned (List ℕ) → Turned (List ℕ) → Turned (List ℕ) → StackWords

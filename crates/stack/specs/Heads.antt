@@ -1,4 +1,4 @@
--- The heads of the places: six rows of 64 for the slots, and the two of `Stacks`.
+-- The heads of the places: six rows of 64 for the slots, and the three of `Stacks`.
 use mathlib.Core.Path.{_≡_}
 use mathlib.Core.List.{List, []}
 use mathlib.Core.Bool.{cond}
@@ -7,7 +7,7 @@ use lib.ListN.{length, getD, set}
 use lib.Dec.{eqb, ltb}
 use Rattle.links.specs.Lists.{nobody}
 use Rattle.stack.specs.declared.Stacks.{Stacks}
-use Rattle.stack.specs.Places.{slots, expired, free}
+use Rattle.stack.specs.Places.{slots, parking, expired, free}
 
 -- the head of slot s of level k, and the rows with v there
 abbrev pub slotHead : List (List ℕ) → ℕ → ℕ → ℕ
@@ -20,7 +20,7 @@ withSlotHead hh k s v = set hh k (set (getD hh k []) s v)
 unfoldable pub headOf : Stacks → List (List ℕ) → ℕ → ℕ
 headOf st hh p =
     cond (ltb p slots) (slotHead hh (p / 64) (p % 64))
-    (cond (eqb p expired) (st .expired) (cond (eqb p free) (st .free) nobody))
+    (cond (eqb p parking) (st .parking) (cond (eqb p expired) (st .expired) (cond (eqb p free) (st .free) nobody)))
 
 -- the rows with v at the slot p
 abbrev pub setSlot : List (List ℕ) → ℕ → ℕ → List (List ℕ)
@@ -30,10 +30,13 @@ setSlot hh p v = withSlotHead hh (p / 64) (p % 64) v
 unfoldable pub rowsWith : List (List ℕ) → ℕ → ℕ → List (List ℕ)
 rowsWith hh p v = cond (ltb p slots) (setSlot hh p v) hh
 
+abbrev pub stacksBy : ℕ → ℕ → ℕ → ℕ → Stacks
+stacksBy n x f p = record { n = n; expired = x; free = f; parking = p }
+
 unfoldable pub stacksWith : Stacks → ℕ → ℕ → Stacks
 stacksWith st p v =
-    cond (ltb p slots) st (cond (eqb p expired) (record { n = st .n; expired = v; free = st .free })
-    (record { n = st .n; expired = st .expired; free = v }))
+    cond (ltb p slots) st (cond (eqb p parking) (stacksBy (st .n) (st .expired) (st .free) v)
+    (cond (eqb p expired) (stacksBy (st .n) v (st .free) (st .parking)) (stacksBy (st .n) (st .expired) v (st .parking))))
 
 -- six rows of 64
 pub record Shape (hh : List (List ℕ)) : Type 0 where

@@ -1,4 +1,5 @@
--- The places, as numbers: "every record is in exactly one place (free, retired, expired stack or one slot)". Retired is no list and has no number.
+-- The places, as numbers: "every record is in exactly one place (free, retired, expired stack or one slot)", or 02 [12]'s "one parking list". Retired
+-- is no list and has no number.
 use mathlib.Core.Bool.{cond}
 use mathlib.Core.List.{List, [], _∷_, _++_}
 use Prim.Native.Nat.{ℕ, _+_, _*_, _/_, _%_}
@@ -20,21 +21,25 @@ slotAt p = p % 64
 abbrev pub slots : ℕ
 slots = 384
 
+-- 02 [12]: "Add one parking list .., height 6": as a number it would be a slot of a seventh level, and it is none
+abbrev pub parking : ℕ
+parking = 384
+
 abbrev pub expired : ℕ
-expired = 384
+expired = 385
 
 abbrev pub free : ℕ
-free = 385
+free = 386
 
 abbrev pub places : ℕ
-places = 386
+places = 387
 
--- the highest level, and the most that the heights of all records come to
-abbrev pub topLevel : ℕ
-topLevel = 5
+-- the greatest height, that of a parked timer, and the most that the heights of all records come to
+abbrev pub topHeight : ℕ
+topHeight = 6
 
 abbrev pub mostHeights : ℕ
-mostHeights = topLevel * nobody
+mostHeights = topHeight * nobody
 
 -- where i comes into the list l of the place p, the only word that says it: "New entries and drained entries now join a list's tail", and the free
 -- list alone has "freed ones last freed first"

@@ -10,7 +10,7 @@ use Rattle.contracts.specs.Lent.{Lent, Turned, old, new}
 use Rattle.links.specs.Links.{Links, links, at, joined, added, headWith, cutOut, headAfter, CanJoin, CanCut}
 use Rattle.stack.specs.declared.Stacks.{Stacks}
 use Rattle.stack.specs.Places.{slotPlace, free, places}
-use Rattle.stack.specs.Heads.{headOf, rowsWith, stacksWith, slotHead}
+use Rattle.stack.specs.Heads.{headOf, rowsWith, stacksBy, stacksWith, slotHead}
 
 pub record StackWords : Type 0 where
   pub stacks : Stacks
@@ -20,9 +20,9 @@ pub record StackWords : Type 0 where
 abbrev pub stackWords : Stacks → List (List ℕ) → Links → StackWords
 stackWords st hh ls = record { stacks = st; heads = hh; links = ls }
 
--- the three words of `tops`: how many records there are, and the heads of the lists that are no slot
+-- the four words of `tops`: how many records there are, and the heads of the lists that are no slot
 abbrev pub stacksOf : List ℕ → Stacks
-stacksOf tops = record { n = at tops 0; expired = at tops 1; free = at tops 2 }
+stacksOf tops = stacksBy (at tops 0) (at tops 1) (at tops 2) (at tops 3)
 
 abbrev pub words : List ℕ → List (List ℕ) → List ℕ → List ℕ → List ℕ → StackWords
 words tops hh ns ps ms = stackWords (stacksOf tops) hh (links ns ps ms)

@@ -1,4 +1,4 @@
-// The lists of the places: the slots of the six levels, the expired stack and the free list.
+// The lists of the places: the slots of the six levels, the parking list, the expired stack and the free list.
 use links::Walk;
 ghost use mathlib.Core.Path.{_≡_};
 ghost use Prim.Native.Nat.{_<_};
@@ -12,22 +12,26 @@ ghost use Rattle.stack.specs.Words.{push, remove, pop, CanPush, CanRemov
 ghost use Rattle.stack.specs.Judge.{WalksLevel, rest};
 ghost use Rattle.stack.specs.Format.{formattedOf};
 
-// A place is a number: slot s of level k is 64 k + s, and the two lists that are no slot follow. A record's mark is its place, or nobody.
+// A place is a number: slot s of level k is 64 k + s, and the three lists that are no slot follow, so that place / 64 is the height of
+// every timer but an expired one. A record's mark is its place, or nobody.
 // No other crate knows the numbers: it asks the functions below.
 pub const SLOTS: u16 = 384;
 
-pub const EXPIRED: u16 = 384;
+pub const PARKING: u16 = 384;
 
-pub const FREE: u16 = 385;
+pub const EXPIRED: u16 = 385;
 
-const PLACES: u16 = 386;
+pub const FREE: u16 = 386;
 
-// How many records there are, and the heads of the expired stack and of the free list, as the caller keeps them. Here they are lent
-// as the three words of `tops`. The heads of the slots are six rows of 64.
+const PLACES: u16 = 387;
+
+// How many records there are, and the heads of the lists that are no slot, as the caller keeps them. Here they are lent as the four
+// words of `tops`. The heads of the slots are six rows of 64.
 pub struct Stacks {
     pub n: u16,
     pub expired: u16,
     pub free: u16,
+    pub parking: u16,
 }
 
 pub fn slot_place(level: usize, slot: usize) -> u16
@@ -56,7 +60,7 @@ pub fn slot_of(place: u16) -> usize
     place as usize % 64
 }
 
-// Whether it is a list of timers, so that a record with this mark is pending: a slot's, or the expired stack.
+// Whether it is a list of timers, so that a record with this mark is pending: a slot's, the parking list or the expired stack.
 pub fn is_pending(place: u16) -> bool
     ensures { λ r. ⌜ r ≡ ltb place free ⌝ }
 {
@@ -64,7 +68,7 @@ pub fn is_pending(place: u16) -> bool
 }
 
 // The head of the place.
-pub fn head_of(tops: &[u16; 3], heads: &[[u16; 64]; 6], place: u16) -> u16
+pub fn head_of(tops: &[u16; 4], heads: &[[u16; 64]; 6], place: u16) -> u16
     requires { ⌜ place < places ⌝ }
     ensures { λ r. ⌜ r ≡ headOf (stacksOf (old tops)) (old heads) place ⌝ }
 {
@@ -73,15 +77,18 @@ pub fn head_of(tops: &[u16; 3], heads: &[[u16; 64]; 6], place: u16) -> u16
         let s = place as usize % 64;
         return heads[k][s];
     }
+    if place == PARKING {
+        return tops[3];
+    }
     if place == EXPIRED {
         return tops[1];
     }
     tops[2]
 }
 
-// `item` becomes the head of the place, and every other head is kept. The three words are stored together: a list that is stored
+// `item` becomes the head of the place, and every other head is kept. The four words are stored together: a list that is stored
 // whole needs no law of its length.
-fn set_head(tops: &mut [u16; 3], heads: &mut [[u16; 64]; 6], place: u16, item: u16)
+fn set_head(tops: &mut [u16; 4], heads: &mut [[u16; 64]; 6], place: u16, item: u16)
     requires { ⌜ place < places ⌝ }
     ensures { λ _. ⌜ stacksOf (new tops) ≡ stacksWith (stacksOf (old tops)) place item ⌝ }
     ensures { λ _. ⌜ new heads ≡ rowsWith (old heads) place item ⌝ }
@@ -92,16 +99,20 @@ fn set_head(tops: &mut [u16; 3], heads: &mut [[u16; 64]; 6], place: u16, item: u
         heads[k][s] = item;
         return;
     }
-    if place == EXPIRED {
-        *tops = [tops[0], item, tops[2]];
+    if place == PARKING {
+        *tops = [tops[0], tops[1], tops[2], item];
         return;
     }
-    *tops = [tops[0], tops[1], item];
+    if place == EXPIRED {
+        *tops = [tops[0], item, tops[2], tops[3]];
+        return;
+    }
+    *tops = [tops[0], tops[1], item, tops[3]];
 }
 
 // The loose record `item` comes into the list of the place: to the head of the free list, to the tail of every other.
 pub fn push(
-    tops: &mut [u16; 3],
+    tops: &mut [u16; 4],
     heads: &mut [[u16; 64]; 6],
     nexts: &mut [u16],
     prevs: &mut [u16],
@@ -124,7 +135,7 @@ pub fn push(
 
 // The record `item` leaves its list, wherever it stands there, and is loose.
 pub fn remove(
-    tops: &mut [u16; 3],
+    tops: &mut [u16; 4],
     heads: &mut [[u16; 64]; 6],
     nexts: &mut [u16],
     prevs: &mut [u16],
@@ -142,7 +153,7 @@ pub fn remove(
 
 // The head of the list of the place leaves it, and is loose. From an empty list nobody does.
 pub fn pop(
-    tops: &mut [u16; 3],
+    tops: &mut [u16; 4],
     heads: &mut [[u16; 64]; 6],
     nexts: &mut [u16],
     prevs: &mut [u16],
@@ -208,7 +219,7 @@ pub struct Level {
 
 // Walks the lists of the level. Each head is looked at once.
 pub fn walk_level(
-    tops: &[u16; 3],
+    tops: &[u16; 4],
     heads: &[[u16; 64]; 6],
     nexts: &[u16],
     prevs: &[u16],
@@ -252,7 +263,7 @@ pub fn walk_level(
 
 // Whether the lists that are no slots are whole too, and the records that are left are just the loose ones.
 pub fn walk_rest(
-    tops: &[u16; 3],
+    tops: &[u16; 4],
     heads: &[[u16; 64]; 6],
     nexts: &[u16],
     prevs: &[u16],
@@ -278,7 +289,7 @@ pub fn walk_rest(
 
 // Every list is empty but the free one, which holds 0, 1, .., n - 1.
 pub fn format(
-    tops: &mut [u16; 3],
+    tops: &mut [u16; 4],
     heads: &mut [[u16; 64]; 6],
     nexts: &mut [u16],
     prevs: &mut [u16],
@@ -288,7 +299,7 @@ pub fn format(
     requires { ⌜ (0 < n) × Room n (linked nexts prevs marks) ⌝ }
     ensures { λ _. ⌜ after tops heads nexts prevs marks ≡ formattedOf n nexts prevs marks ⌝ }
 {
-    *tops = [n, links::NOBODY, 0];
+    *tops = [n, links::NOBODY, 0, links::NOBODY];
     *heads = [[links::NOBODY; 64]; 6];
     let mut before = n - 1;
     let mut i = 0u16;

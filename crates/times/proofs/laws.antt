@@ -2,3 +2,4 @@ pub mod Widths
 pub mod Quotients
 pub mod Starts
 pub mod Levels
+pub mod Blocks

@@ -54,6 +54,14 @@ pub record Lies (k e w : ℕ) : Type 0 where
 abbrev pub maxDuration : ℕ
 maxDuration = 68719476735
 
--- refusal 5: "floor(w/2^36) differs from floor(e/2^36)"
+-- the block of w: "floor(w/2^36)"
 abbrev pub block : ℕ → ℕ
 block w = w / 2 ^ 36
+
+-- 02 [12]: "deadlines in the next block"
+abbrev pub NextBlock : ℕ → ℕ → Type 0
+NextBlock e w = block w ≡ block e + 1
+
+-- "the next block's start"
+unfoldable pub blockEnd : ℕ → ℕ
+blockEnd e = (block e + 1) * 2 ^ 36

@@ -6,28 +6,29 @@ use mathlib.Core.Logic.{_≢_, _⊎_}
 use mathlib.Core.List.{List, [], _∷_}
 use mathlib.Core.Option.{none}
 use Prim.Native.Nat.{ℕ, suc, _-_, _≤_, _<_, max}
-use Rattle.times.specs.Times.{slotOf, levelOf, floor, block}
+use Rattle.times.specs.Times.{slotOf, levelOf, floor, block, NextBlock}
 use Rattle.links.specs.Lists.{nobody}
-use Rattle.stack.specs.Places.{slotPlace, slots, expired, levelAt}
+use Rattle.stack.specs.Places.{slotPlace, parking, expired, levelAt}
 use Rattle.wheel.specs.Wheel.{Lists, Rule}
 use Rattle.wheel.specs.Between.{Draining}
 use Rattle.wheel.specs.Limited.{Outcome, start, Limited}
 
--- e is a multiple of the width of level k, and not of 2^36
-abbrev pub Own : ℕ → ℕ → Type 0
-Own k e = (floor k e ≡ e) × (floor 6 e ≢ e)
+-- e is a multiple of the width of level k. Where it is a block's start, the drain of the parking list has begun the poll: nothing is
+-- parked
+abbrev pub Own : ℕ → ℕ → Lists → Type 0
+Own k e L = (floor k e ≡ e) × (floor 6 e ≡ e → (0 < e) × (L parking ≡ []))
 
--- a poll at `until` is in hand, and its next step is the move of the head of p. Where p starts at elapsed itself, a drain of the slot above
+-- a poll at `until` is in hand, and its next step is the move of the head of p. Where p starts at elapsed itself, a drain of the list above
 -- has filled it
 pub record InHand (d : ℕ → ℕ) (until p e : ℕ) (L : Lists) : Type 0 where
   pub high : 0 < levelAt p
-  pub below : p < slots
+  pub below : p < expired
   pub filled : (x : ℕ) × (l : List ℕ) × (L p ≡ x ∷ l)
   pub stack : L expired ≡ []
   pub late : e ≤ start e p
   pub due : start e p ≤ until
   pub rule : Draining d (levelAt p - 1) p (start e p) L
-  pub own : start e p ≡ e → Own (suc (levelAt p)) e
+  pub own : start e p ≡ e → Own (suc (levelAt p)) e L
 
 -- the rule that a wheel obeys: 01's between calls, or that of the poll at `until` whose drain of `hand` is in hand
 pub record Obeys (d : ℕ → ℕ) (until hand e : ℕ) (L : Lists) : Type 0 where
@@ -55,3 +56,9 @@ pub record Belongs (low h c p w : ℕ) : Type 0 where
   pub late : c ≤ w
   pub near : block w ≡ block c
   pub place : (p ≡ slotPlace (max low (levelOf c w)) (slotOf w (max low (levelOf c w)))) ⊎ ((p ≡ h) × (levelOf c w ≤ low))
+
+-- a parked timer with the deadline w: in the block after the clock c's, or, where the parking list is the one in hand, in that which
+-- starts at c
+pub record Parked (h c w : ℕ) : Type 0 where
+  pub aside : h ≢ parking → NextBlock c w
+  pub inside : h ≡ parking → block w ≡ block c

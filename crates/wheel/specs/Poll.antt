@@ -3,12 +3,12 @@
 use mathlib.Core.Option.{Option, none, some}
 use Prim.Native.Nat.{ℕ, _*_, _/_, _≤_, _<_, max}
 use Rattle.links.specs.Lists.{Mem}
-use Rattle.stack.specs.Places.{slots}
+use Rattle.stack.specs.Places.{expired}
 use Rattle.wheel.specs.Wheel.{Lists}
 
--- y waits in a slot
+-- y waits in a slot or is parked
 abbrev pub Waits : Lists → ℕ → Type 0
-Waits L y = (p : ℕ) × (p < slots) × Mem y (L p)
+Waits L y = (p : ℕ) × (p < expired) × Mem y (L p)
 
 -- handed out: waiting, due, and a least one. Nothing handed out: nothing due
 abbrev pub Fair : (ℕ → ℕ) → ℕ → Lists → Option ℕ → Type 0

@@ -10,12 +10,12 @@ use lib.Dec.{eqb}
 use Rattle.times.specs.Times.{block}
 use Rattle.links.specs.Lists.{nobody, change}
 use Rattle.links.specs.Links.{at}
-use Rattle.stack.specs.Places.{expired}
+use Rattle.stack.specs.Places.{slotPlace, expired}
 use Rattle.stack.specs.Whole as stack
 use Rattle.wheel.specs.Wheel.{Lists, arrive}
 use Rattle.wheel.specs.Limited.{Outcome, ended, yet, Limited}
 use Rattle.wheel.specs.Midway.{Obeys}
-use Rattle.wheel.specs.Words.{WheelWords, lists, count, WheelWhole, Becomes, LooseIn, CanPop}
+use Rattle.wheel.specs.Words.{WheelWords, lists, count, WheelWhole, Becomes, LooseIn}
 
 -- ---- insert: the deadline lies in elapsed's block, so that its level is one of the six
 
@@ -26,9 +26,15 @@ pub record CanInsert (t : WheelWords) (w i : ℕ) : Type 0 where
 
 -- ---- one move
 
--- a slot of level k + 1, and the deadlines of all records at hand
+-- slot s of level k, or the parking list, which is told as slot 0 of level 6
+pub record CanTake (t : WheelWords) (k s : ℕ) : Type 0 where
+  pub whole : WheelWhole t
+  pub slot : s < 64
+  pub below : slotPlace k s < expired
+
+-- above level 0, and the deadlines of all records at hand
 pub record CanMove (t : WheelWords) (ds : List ℕ) (k s : ℕ) : Type 0 where
-  pub pop : CanPop t k s
+  pub pop : CanTake t k s
   pub high : 0 < k
   pub deadlines : count t ≤ length ds
 

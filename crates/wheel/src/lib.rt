@@ -1,26 +1,26 @@
-// The timer wheel: six levels of 64 slots.
+// The timer wheel: six levels of 64 slots, and the parking list for deadlines in the next block.
 //
 // A function is lent the wheel in parts, always in this order: elapsed, the occupied row of each level, and the list layer's
 // `tops`, `heads`, `nexts`, `prevs` and `marks`. What it only reads, or only names in its contract, is shared.
 use stack::Stacks;
 ghost use mathlib.Core.Path.{_≡_};
-ghost use mathlib.Core.Logic.{_≢_};
-ghost use Prim.Native.Nat.{_-_, _≤_, _<_};
+ghost use Prim.Native.Nat.{_-_, _^_, _≤_, _<_};
 ghost use Rattle.times.specs.Times.{levelOf};
 ghost use Rattle.contracts.specs.Lent.{old};
 ghost use Rattle.contracts.specs.Tells.{Tells};
-ghost use Rattle.links.specs.Lists.{nobody};
 ghost use Rattle.links.specs.Links.{at};
-ghost use Rattle.stack.specs.Places.{slotPlace, slots, places};
+ghost use Rattle.stack.specs.Places.{slotPlace, slots, expired, places};
+ghost use Rattle.stack.specs.Heads.{headOf};
+ghost use Rattle.stack.specs.Words.{stacksOf};
 ghost use Rattle.wheel.specs.Wheel.{Lists};
-ghost use Rattle.wheel.specs.Rows.{Rows};
-ghost use Rattle.wheel.specs.Expiration.{NotPassed, NextIs, GoesTo, WakeIs};
+ghost use Rattle.wheel.specs.Limited.{start};
+ghost use Rattle.wheel.specs.Expiration.{CanLook, Sees, NextIs, CanGo, GoesTo, WakeIs};
 ghost use Rattle.wheel.specs.Words.{lent, before, after, WheelWhole, Arrives, Comes, Pops, Leaves};
 ghost use Rattle.wheel.specs.Words.{CanAdd, CanPush, CanPop, CanLeave};
 ghost use Rattle.wheel.specs.Judged.{CanJudge};
-ghost use Rattle.wheel.specs.Turns.{CanInsert, CanMove, MovesOne, DrainsTo, CanPoll, PollsTo};
+ghost use Rattle.wheel.specs.Turns.{CanInsert, CanTake, CanMove, MovesOne, DrainsTo, CanPoll, PollsTo};
 
-// Elapsed, the occupied row of each level, the list layer's state, and the slot whose drain is in hand with the now of its
+// Elapsed, the occupied row of each level, the list layer's state, and the list whose drain is in hand with the now of its
 // poll (nobody and 0 if no poll is), as the caller keeps them.
 pub struct Wheel {
     pub elapsed: u64,
@@ -30,7 +30,7 @@ pub struct Wheel {
     pub until: u64,
 }
 
-// Indicates when a slot must be processed next.
+// Indicates when a slot must be processed next. The parking list is told as slot 0 of level 6, where its place would lie.
 pub struct Expiration {
     pub level: usize,
     pub slot: usize,
@@ -46,7 +46,7 @@ pub enum Next {
 fn add_entry(
     elapsed: u64,
     rows: &mut [u64; 6],
-    tops: &[u16; 3],
+    tops: &[u16; 4],
     heads: &mut [[u16; 64]; 6],
     nexts: &mut [u16],
     prevs: &mut [u16],
@@ -65,11 +65,11 @@ fn add_entry(
     rows[level] = row::set(rows[level], slot);
 }
 
-// The loose record `item` joins a list that is no slot: the expired stack or the free list.
+// The loose record `item` joins a list that is no slot.
 pub fn push(
     elapsed: u64,
     rows: &[u64; 6],
-    tops: &mut [u16; 3],
+    tops: &mut [u16; 4],
     heads: &mut [[u16; 64]; 6],
     nexts: &mut [u16],
     prevs: &mut [u16],
@@ -89,7 +89,7 @@ pub fn push(
 pub fn pop(
     elapsed: u64,
     rows: &[u64; 6],
-    tops: &mut [u16; 3],
+    tops: &mut [u16; 4],
     heads: &mut [[u16; 64]; 6],
     nexts: &mut [u16],
     prevs: &mut [u16],
@@ -108,7 +108,7 @@ pub fn pop(
 fn pop_entry(
     elapsed: u64,
     rows: &mut [u64; 6],
-    tops: &[u16; 3],
+    tops: &[u16; 4],
     heads: &mut [[u16; 64]; 6],
     nexts: &mut [u16],
     prevs: &mut [u16],
@@ -132,11 +132,11 @@ fn pop_entry(
     item
 }
 
-// The record `item` leaves its list, a slot or the expired stack, and is loose.
+// The record `item` leaves its list, whichever it is, and is loose.
 pub fn remove(
     elapsed: u64,
     rows: &mut [u64; 6],
-    tops: &mut [u16; 3],
+    tops: &mut [u16; 4],
     heads: &mut [[u16; 64]; 6],
     nexts: &mut [u16],
     prevs: &mut [u16],
@@ -162,10 +162,12 @@ pub fn remove(
 }
 
 // The first occupied slot, from elapsed on, of the lowest non-empty level: its lowest one, since none that elapsed has
-// passed is occupied.
-pub fn next_expiration(elapsed: u64, rows: &[u64; 6]) -> Next
-    requires { ⌜ NotPassed elapsed (now rows) ⌝ }
-    ensures { λ r. ⌜ ((L : Lists) → Rows (old rows) L → NextIs elapsed L r) ⌝ }
+// passed is occupied. Where no slot is, the parking list, of which `parking` is the head. It starts where its deadlines' block
+// does: read off one of them, that is a u64 in the last block too.
+pub fn next_expiration(elapsed: u64, rows: &[u64; 6], deadlines: &[u64], parking: u16) -> Next
+    requires { ⌜ CanLook elapsed (now rows) (now deadlines) parking ⌝ }
+    ensures { λ r. ⌜
+        ((L : Lists) → Sees (at (old deadlines)) elapsed (old rows) parking L → NextIs elapsed L r) ⌝ }
 {
     let mut level: usize = 0;
     while level < times::NUM_LEVELS {
@@ -181,7 +183,14 @@ pub fn next_expiration(elapsed: u64, rows: &[u64; 6]) -> Next
         }
         level += 1;
     }
-    Next::Nothing
+    if parking == links::NOBODY {
+        return Next::Nothing;
+    }
+    Next::At(Expiration {
+        level: times::NUM_LEVELS,
+        slot: 0,
+        deadline: times::block_start(deadlines[parking as usize]),
+    })
 }
 
 // When the wheel next has something to do.
@@ -190,12 +199,13 @@ pub enum Wake {
     Never,
 }
 
-// The start of the first slot, if there is one.
-pub fn poll_at(elapsed: u64, rows: &[u64; 6]) -> Wake
-    requires { ⌜ NotPassed elapsed (now rows) ⌝ }
-    ensures { λ r. ⌜ ((L : Lists) → Rows (old rows) L → WakeIs elapsed L r) ⌝ }
+// The start of what comes next, if anything does.
+pub fn poll_at(elapsed: u64, rows: &[u64; 6], deadlines: &[u64], parking: u16) -> Wake
+    requires { ⌜ CanLook elapsed (now rows) (now deadlines) parking ⌝ }
+    ensures { λ r. ⌜
+        ((L : Lists) → Sees (at (old deadlines)) elapsed (old rows) parking L → WakeIs elapsed L r) ⌝ }
 {
-    let next = next_expiration(elapsed, rows);
+    let next = next_expiration(elapsed, rows, deadlines, parking);
     match next {
         Next::At(expiration) => Wake::At(expiration.deadline),
         Next::Nothing => Wake::Never,
@@ -206,7 +216,7 @@ pub fn poll_at(elapsed: u64, rows: &[u64; 6]) -> Wake
 pub fn insert(
     elapsed: u64,
     rows: &mut [u64; 6],
-    tops: &[u16; 3],
+    tops: &[u16; 4],
     heads: &mut [[u16; 64]; 6],
     nexts: &mut [u16],
     prevs: &mut [u16],
@@ -234,11 +244,43 @@ pub fn insert(
     );
 }
 
-// One move: the head of a slot above level 0 goes to its slot one level down. From an empty slot nobody does.
+// The head of a slot, or of the parking list as slot 0 of level 6, leaves it, and is loose. From an empty one nobody does.
+fn take_entry(
+    elapsed: u64,
+    rows: &mut [u64; 6],
+    tops: &mut [u16; 4],
+    heads: &mut [[u16; 64]; 6],
+    nexts: &mut [u16],
+    prevs: &mut [u16],
+    marks: &mut [u16],
+    level: usize,
+    slot: usize,
+) -> u16
+    requires { ⌜ CanTake (lent elapsed rows tops heads nexts prevs marks) level slot ⌝ }
+    ensures { λ r. ⌜
+        Pops (before elapsed rows tops heads nexts prevs marks)
+        (slotPlace level slot) r (after elapsed rows tops heads nexts prevs marks) ⌝ }
+{
+    if level < times::NUM_LEVELS {
+        return pop_entry(elapsed, rows, tops, heads, nexts, prevs, marks, level, slot);
+    }
+    pop(
+        elapsed,
+        rows,
+        tops,
+        heads,
+        nexts,
+        prevs,
+        marks,
+        stack::PARKING,
+    )
+}
+
+// One move: the head of a list above level 0 goes to its slot one level down. From an empty list nobody does.
 fn move_entry(
     elapsed: u64,
     rows: &mut [u64; 6],
-    tops: &[u16; 3],
+    tops: &mut [u16; 4],
     heads: &mut [[u16; 64]; 6],
     nexts: &mut [u16],
     prevs: &mut [u16],
@@ -252,7 +294,7 @@ fn move_entry(
         MovesOne (at (old deadlines)) (before elapsed rows tops heads nexts prevs marks)
         (level - 1) (slotPlace level slot) r (after elapsed rows tops heads nexts prevs marks) ⌝ }
 {
-    let item = pop_entry(elapsed, rows, tops, heads, nexts, prevs, marks, level, slot);
+    let item = take_entry(elapsed, rows, tops, heads, nexts, prevs, marks, level, slot);
     if item == links::NOBODY {
         return item;
     }
@@ -272,12 +314,12 @@ fn move_entry(
     item
 }
 
-// A slot above level 0 is drained: each entry, from the head, is moved one level down, `limit` of them at most. How many more
+// A list above level 0 is drained: each entry, from the head, is moved one level down, `limit` of them at most. How many more
 // could have been.
 fn poll_expiration(
     elapsed: u64,
     rows: &mut [u64; 6],
-    tops: &[u16; 3],
+    tops: &mut [u16; 4],
     heads: &mut [[u16; 64]; 6],
     nexts: &mut [u16],
     prevs: &mut [u16],
@@ -316,8 +358,41 @@ fn poll_expiration(
     }
 }
 
+// The place of a slot, or of the parking list as slot 0 of level 6.
+fn list_place(level: usize, slot: usize) -> u16
+    requires { ⌜ (slot < 64) × (slotPlace level slot < expired) ⌝ }
+    ensures { λ r. ⌜ r ≡ slotPlace level slot ⌝ }
+{
+    if level < times::NUM_LEVELS {
+        return stack::slot_place(level, slot);
+    }
+    stack::PARKING
+}
+
+// The head of that list.
+fn list_head(tops: &[u16; 4], heads: &[[u16; 64]; 6], level: usize, slot: usize) -> u16
+    requires { ⌜ (slot < 64) × (slotPlace level slot < expired) ⌝ }
+    ensures { λ r. ⌜ r ≡ headOf (stacksOf (old tops)) (old heads) (slotPlace level slot) ⌝ }
+{
+    if level < times::NUM_LEVELS {
+        return heads[level][slot];
+    }
+    tops[3]
+}
+
+// Where the list of a slot starts, or the parking list, if that is a u64.
+pub fn list_start(elapsed: u64, place: u16) -> u64
+    requires { ⌜ (place < expired) × (start elapsed place < 2 ^ 64) ⌝ }
+    ensures { λ r. ⌜ r ≡ start elapsed place ⌝ }
+{
+    if place == stack::PARKING {
+        return times::block_end(elapsed);
+    }
+    times::slot_start(elapsed, stack::level_of(place), stack::slot_of(place))
+}
+
 // What a poll hands out, or nobody, its moves and drains, and elapsed after it. With a drain in hand the poll has not ended:
-// `hand` is its slot, and else nobody.
+// `hand` is its list, and else nobody.
 pub struct Polled {
     pub elapsed: u64,
     pub item: u16,
@@ -326,17 +401,17 @@ pub struct Polled {
     pub drains: u64,
 }
 
-// Where a poll goes on: with the slot whose drain is in hand, and if there is none with the first one.
-fn next_slot(elapsed: u64, rows: &[u64; 6], hand: u16) -> Next
-    requires { ⌜ (hand ≡ nobody → NotPassed elapsed (now rows)) × (hand ≢ nobody → hand < slots) ⌝ }
-    ensures { λ r. ⌜ ((L : Lists) → Rows (old rows) L → GoesTo elapsed hand L r) ⌝ }
+// Where a poll goes on: with the list whose drain is in hand, and if there is none with the first one.
+fn next_list(elapsed: u64, rows: &[u64; 6], deadlines: &[u64], parking: u16, hand: u16) -> Next
+    requires { ⌜ CanGo elapsed (now rows) (now deadlines) parking hand ⌝ }
+    ensures { λ r. ⌜ GoesTo (at (old deadlines)) elapsed (old rows) parking hand r ⌝ }
 {
     if hand == links::NOBODY {
-        return next_expiration(elapsed, rows);
+        return next_expiration(elapsed, rows, deadlines, parking);
     }
     let level = stack::level_of(hand);
     let slot = stack::slot_of(hand);
-    let deadline = times::slot_start(elapsed, level, slot);
+    let deadline = list_start(elapsed, hand);
     Next::At(Expiration {
         level,
         slot,
@@ -344,12 +419,12 @@ fn next_slot(elapsed: u64, rows: &[u64; 6], hand: u16) -> Next
     })
 }
 
-// A poll at `time`, document 01's now, with `limit` moves at most, while the expired stack is empty. Looks for the next slot,
-// which is that of `hand` if a drain is in hand, and drains it unless it is one of level 0.
+// A poll at `time`, document 01's now, with `limit` moves at most, while the expired stack is empty. Looks for the next list,
+// which is `hand` if a drain is in hand, and drains it unless it is a slot of level 0.
 pub fn poll(
     elapsed: u64,
     rows: &mut [u64; 6],
-    tops: &[u16; 3],
+    tops: &mut [u16; 4],
     heads: &mut [[u16; 64]; 6],
     nexts: &mut [u16],
     prevs: &mut [u16],
@@ -370,7 +445,7 @@ pub fn poll(
     let mut moves = 0u64;
     let mut drains = 0u64;
     let item = loop {
-        let next = next_slot(e, rows, place);
+        let next = next_list(e, rows, deadlines, tops[3], place);
         let Next::At(expiration) = next else {
             e = time;
             break links::NOBODY;
@@ -399,8 +474,8 @@ pub fn poll(
             left,
         );
         moves = limit - left;
-        if heads[level][slot] != links::NOBODY {
-            place = stack::slot_place(level, slot);
+        if list_head(tops, heads, level, slot) != links::NOBODY {
+            place = list_place(level, slot);
             break links::NOBODY;
         }
         e = deadline;
@@ -420,7 +495,7 @@ pub fn poll(
 pub fn is_whole(
     elapsed: u64,
     rows: &[u64; 6],
-    tops: &[u16; 3],
+    tops: &[u16; 4],
     heads: &[[u16; 64]; 6],
     nexts: &[u16],
     prevs: &[u16],

@@ -1,13 +1,13 @@
 //! One script, as it is made: each command goes to the original and to ours, and all is compared.
 use crate::contents::{compare_rest, Contents};
 use crate::ours;
-use crate::tally::Tally;
+use crate::tally::{Seen, Tally};
 use crate::wrong::Wrong;
 use crate::Found;
 use oracle::bench::{Bench, Store};
 use oracle::generator::Taker;
 use oracle::line::{parse, Answer, Command};
-use oracle::rules::BENCH_ROOM;
+use oracle::rules::{unpack, BENCH_ROOM, PARKING};
 use std::mem;
 use std::thread;
 
@@ -168,12 +168,27 @@ impl Compared {
         };
         match self.contents.compare(store, &self.ours) {
             Ok(timers) => {
+                let parked = self.contents.parked();
                 self.tally.lists += 1;
                 self.tally.lists_in_hand += u64::from(store.in_hand().is_some());
                 self.tally.timers += timers;
+                self.tally.parked.lists += u64::from(parked > 0);
+                self.tally.parked.timers += parked;
+                self.tally.parked.lists_in_hand += u64::from(seen(Some(store)).parking);
             }
             Err(lists) => self.differ(lists),
         }
+    }
+
+    /// The deadline that a command has just placed a timer at.
+    fn placed(&self, command: Command, answer: Answer) -> Option<u64> {
+        let key = match (command, answer) {
+            (_, Answer::Key(key) | Answer::Out { key, .. }) => key,
+            (Command::Reset { key, .. }, Answer::Ok) => key,
+            _ => return None,
+        };
+        let store = self.bench.store()?;
+        store.holds(key).then(|| store.deadline(unpack(key).1))
     }
 
     fn in_hand(&self) -> bool {
@@ -230,13 +245,15 @@ impl Taker for Compared {
         }
         self.lines += 1;
         self.commands.push(command);
-        let elapsed = self.bench.store().map_or(0, Store::elapsed);
+        let before = seen(self.bench.store());
         let in_hand = self.in_hand();
         let answer = self.bench.command(command);
         self.tally.count_hand(in_hand, self.in_hand(), command);
         let again = matches!(answer, Answer::Out { key, .. } if self.bench.store().is_some_and(|store| store.holds(key)));
         self.tally.count(command, answer, again);
-        self.tally.past.count(elapsed, command, answer);
+        self.tally.past.count(before.elapsed, command, answer);
+        let placed = self.placed(command, answer);
+        self.tally.parked.count(before, seen(self.bench.store()), command, answer, placed);
         self.waiting.push(call(command));
         self.expected.push(answer);
         if alone || self.how != How::Inner || self.waiting.len() == self.at_once {
@@ -247,6 +264,14 @@ impl Taker for Compared {
 
     fn limits(&self) -> bool {
         true
+    }
+}
+
+/// Elapsed of a store, 0 if there is none, and whether its parking list is in hand.
+fn seen(store: Option<&Store>) -> Seen {
+    Seen {
+        elapsed: store.map_or(0, Store::elapsed),
+        parking: store.and_then(Store::in_hand).is_some_and(|(_, place)| place == PARKING),
     }
 }
 

@@ -2,13 +2,11 @@
 use crate::ours;
 use oracle::bench::{Entry, Store};
 use oracle::journal::recovered::Parts;
-use oracle::rules::SLOTS;
+use oracle::rules::{EXPIRED, PARKING, SLOTS};
 use std::fmt::Write;
 use std::mem;
 
 const NOBODY: u64 = 65535;
-/// The expired stack's place, after the slots.
-const EXPIRED: usize = 6 * SLOTS;
 
 /// Both sides' pending timers, kept from one comparison to the next.
 #[derive(Default)]
@@ -26,7 +24,7 @@ impl Contents {
         let size = store.size() as u64;
         if read.is_ok()
             && (ours.state[0], ours.state[7]) == (store.elapsed(), size)
-            && ours.state[10..] == hand_words(store.in_hand())
+            && ours.state[10..12] == hand_words(store.in_hand())
             && self.ours == self.original
         {
             return Ok(self.ours.len() as u64);
@@ -38,6 +36,11 @@ impl Contents {
         }
         let expected = show(size, store.elapsed(), hand_words(store.in_hand()), &self.original);
         Err([expected, there])
+    }
+
+    /// How many timers were parked.
+    pub fn parked(&self) -> u64 {
+        self.ours.iter().filter(|entry| entry.place == PARKING).count() as u64
     }
 }
 
@@ -113,7 +116,7 @@ pub fn parts(ours: &ours::Store) -> Result<Parts, String> {
 /// Our pending timers by place, head first. An error says what is not as it must be between calls.
 fn read(ours: &ours::Store, into: &mut Vec<Entry>) -> Result<(), String> {
     into.clear();
-    for place in 0..EXPIRED {
+    for place in 0..PARKING {
         let (level, slot) = (place / SLOTS, place % SLOTS);
         let head = ours.heads[level][slot].into();
         let occupied = ours.state[1 + level] >> slot & 1 == 1;
@@ -122,6 +125,7 @@ fn read(ours: &ours::Store, into: &mut Vec<Entry>) -> Result<(), String> {
         }
         walk(ours, place, head, into)?;
     }
+    walk(ours, PARKING, ours.state[12], into)?;
     walk(ours, EXPIRED, ours.state[8], into)
 }
 
@@ -157,7 +161,8 @@ fn walk(ours: &ours::Store, place: usize, head: u64, into: &mut Vec<Entry>) -> R
     Ok(())
 }
 
-/// Size, elapsed and the poll in hand, if one is, and each timer as LEVEL.SLOT:RECORD/TURN=VALUE@DEADLINE+PERIOD, x for the expired stack.
+/// Size, elapsed and the poll in hand, if one is, and each timer as LEVEL.SLOT:RECORD/TURN=VALUE@DEADLINE+PERIOD, 6.0 for the parking list, x for
+/// the expired stack.
 fn show(size: u64, elapsed: u64, [place, now]: [u64; 2], entries: &[Entry]) -> String {
     let mut text = format!("n={size} e={elapsed}");
     if [place, now] != [NOBODY, 0] {

@@ -15,7 +15,7 @@ const TOLD: [&str; 4] = ["length kept", "place", "ending", "number"];
 const DIRTY: usize = 256;
 
 /// Our recovery, with all that it says: the length kept, where it stopped and why, and the store, in slices that hold no store. Of a
-/// store with a timer in a slot one bit of this word is made wrong, to see that it is found.
+/// store with a timer in a slot, or a parked one if it is its word, one bit of this word is made wrong, to see that it is found.
 pub fn recovers(wrong: Option<usize>) -> Recovers {
     let mut ours = ours::Store::room(MOST_RECORDS as usize);
     let mut rng = Rng::new(9);
@@ -24,7 +24,7 @@ pub fn recovers(wrong: Option<usize>) -> Recovers {
         dirty(&mut ours, DIRTY, &mut rng);
         let mut told = ours.replay(journal);
         match wrong {
-            Some(word) if ours.state[7] > 0 && is_due(&ours) => match told.get_mut(word) {
+            Some(word) if ours.state[7] > 0 && is_due(word.saturating_sub(TOLD.len()), &ours) => match told.get_mut(word) {
                 Some(told) => *told ^= 1,
                 None => make(word - told.len(), &mut ours),
             },

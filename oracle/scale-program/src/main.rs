@@ -19,7 +19,7 @@ use oracle::exit::exit;
 use oracle::generator::{give, Taker};
 use oracle::journal::compare::Work;
 use oracle::rules::{BENCH_ROOM, MOST_RECORDS};
-use oracle::short;
+use oracle::short::{self, About};
 use std::env;
 use std::fmt;
 use std::fs;
@@ -34,7 +34,7 @@ use wrong::{Wrong, WORDS};
 
 const USAGE: &str = "usage: scale [--keep FOLDER] \
     [ judged FROM TO LINES | inner FROM TO LINES | checked FROM TO LINES \
-    | large judged|inner|checked FROM TO LINES | short DEPTH | wrong [WORD] | gauge FROM TO \
+    | large judged|inner|checked FROM TO LINES | short DEPTH | ends DEPTH | wrong [WORD] | gauge FROM TO \
     | journal FROM TO EVERY TIMES | journal wrong [WORD] | recovery ENTRIES | states TIMERS ]";
 /// Where a script with a difference is kept below the oracle's folder, unless --keep names another.
 const KEEP: &str = "target/differences";
@@ -76,7 +76,8 @@ fn run(words: &[&str]) -> Result<bool, String> {
         }
         ["large", how, from, to, lines] => seeds(MOST_RECORDS, how, from, to, lines)?,
         [how, from, to, lines] => seeds(BENCH_ROOM, how, from, to, lines)?,
-        ["short", depth] => Part::Short(depth_of(depth)?),
+        ["short", depth] => Part::Short(About::Slots, depth_of(depth)?),
+        ["ends", depth] => Part::Short(About::BlockEnds, depth_of(depth)?),
         ["gauge", from, to] => {
             let (from, to) = (number(from)?, number(to)?);
             return if from <= to { Ok(gauge::compare(from, to)) } else { Err(USAGE.into()) };
@@ -139,7 +140,7 @@ fn number(word: &str) -> Result<u64, String> {
 
 fn depth_of(word: &str) -> Result<u32, String> {
     let depth = number(word)?;
-    let too_deep = format!("short {depth}: at most {DEEPEST}");
+    let too_deep = format!("sequences of {depth}: at most {DEEPEST}");
     (1..=DEEPEST.into())
         .contains(&depth)
         .then_some(depth as u32)
@@ -155,7 +156,8 @@ fn whole(keep: &Path) -> Result<bool, String> {
         Part::Seeds(How::Inner, 20_481..=40_960, 5000, BENCH_ROOM),
         Part::Seeds(How::Checked, 40_961..=41_472, 5000, BENCH_ROOM),
         Part::Seeds(How::Inner, 1..=16, 400_000, MOST_RECORDS),
-        Part::Short(DEEPEST),
+        Part::Short(About::Slots, DEEPEST),
+        Part::Short(About::BlockEnds, DEEPEST),
     ] {
         let Some(tally) = part.run(keep, None)? else {
             return Ok(false);
@@ -191,8 +193,8 @@ fn all_wrong() -> Result<bool, String> {
 enum Part {
     /// These seeds, with so many lines each, on memory for so many records.
     Seeds(How, RangeInclusive<u64>, usize, u64),
-    /// Every sequence of so many commands.
-    Short(u32),
+    /// Every sequence of so many commands, about the first slots or block ends.
+    Short(About, u32),
 }
 
 /// A script that differs, and where.
@@ -214,7 +216,8 @@ impl Part {
                 let large = if large { "large " } else { "" };
                 format!("{large}{name} seeds {from}..{to}, {lines} lines each")
             }
-            Part::Short(depth) => format!("judged, every sequence of {depth} commands"),
+            Part::Short(About::Slots, depth) => format!("judged, every sequence of {depth} commands"),
+            Part::Short(About::BlockEnds, depth) => format!("judged, every sequence of {depth} commands about block ends"),
         }
     }
 
@@ -222,7 +225,7 @@ impl Part {
     fn pieces(&self) -> u64 {
         match self {
             Part::Seeds(_, seeds, ..) => seeds.end() - seeds.start() + 1,
-            Part::Short(depth) => short::count(*depth, true).div_ceil(CHUNK),
+            Part::Short(about, depth) => short::count(*about, *depth, true).div_ceil(CHUNK),
         }
     }
 
@@ -235,12 +238,12 @@ impl Part {
                 compared.end();
                 compared.done(format!("{} seed {seed}", how.name()))
             }
-            Part::Short(depth) => {
+            Part::Short(about, depth) => {
                 let mut compared = Compared::new(How::Judged, usize::MAX, BENCH_ROOM, wrong);
                 let first = number * CHUNK;
                 let mut at = first;
-                let range = first..short::count(*depth, true).min(first + CHUNK);
-                short::give(*depth, true, range, |commands| {
+                let range = first..short::count(*about, *depth, true).min(first + CHUNK);
+                short::give(*about, *depth, true, range, |commands| {
                     if compared.full() {
                         return;
                     }

@@ -1,18 +1,17 @@
 //! Every small store with a poll in hand, by brute force: our judge calls it sound exactly if a poll with a limit, from a store that it calls
 //! sound with no poll in hand, leaves it (02 [10], "exactly the states that the rules of the poll in hand pass through").
 use crate::ours;
-use oracle::rules::{block, slot, SLOTS, WIDTHS};
+use oracle::rules::{block, slot, EXPIRED, PARKED, PARKING, SLOTS, WIDTHS};
 use std::collections::{BTreeMap, BTreeSet, HashSet};
 
 const NOBODY: u64 = 65_535;
-/// The expired stack's place, after the slots.
-const EXPIRED: usize = SLOTS * WIDTHS.len();
 /// The number of a poll with a limit, and of the answer "not yet".
 const POLL_SOME: u64 = 5;
 const NOT_YET: u64 = 6;
 
-/// Times about the starts of slots: from 0 on, and about a block's start, up to its last level. Of three timers the first six are tried.
-const FAMILIES: [[u64; 8]; 2] = [
+/// Times about the starts of slots: from 0 on, from a block's start on, up to its last level, and about two block's starts, so that some are parked
+/// while others are not. Of three timers the first six are tried.
+const FAMILIES: [[u64; 8]; 3] = [
     [0, 64, 65, 4095, 4096, 4160, 1, 128],
     [
         1 << 36,
@@ -23,6 +22,16 @@ const FAMILIES: [[u64; 8]; 2] = [
         (1 << 36) + (1 << 30) + 65,
         (1 << 36) + 1,
         (1 << 36) + (1 << 30) + (1 << 24),
+    ],
+    [
+        (1 << 36) - 64,
+        (1 << 36) - 1,
+        1 << 36,
+        (1 << 36) + 65,
+        1 << 37,
+        (1 << 37) + (1 << 30),
+        (1 << 36) + (1 << 24),
+        (1 << 37) - 1,
     ],
 ];
 
@@ -128,7 +137,7 @@ fn judged_is_reached(deadlines: &[u64], times: &[u64], counted: &mut Counted) ->
             .flat_map(|p| times.iter().map(move |t| (p, t)))
         {
             (state.hand, state.until) = (hand, until);
-            [store.state[10], store.state[11]] = [hand, until];
+            store.state[10..12].copy_from_slice(&[hand, until]);
             counted.tried += 1;
             if store.judge() {
                 sound += 1;
@@ -158,7 +167,7 @@ fn reach(
     reached: &mut HashSet<State>,
 ) {
     for &now in times {
-        for limit in 0..=(WIDTHS.len() * deadlines.len()) as u64 {
+        for limit in 0..=(PARKED * deadlines.len()) as u64 {
             write(store, deadlines, rest);
             if store.call([POLL_SOME, 0, now, limit])[0] != NOT_YET {
                 break;
@@ -168,44 +177,46 @@ fn reach(
     }
 }
 
-/// The times, and every start of a slot that a deadline lies in, with the millisecond before it.
+/// The times, and every start of a slot that a deadline lies in, with the millisecond before it; in the deadlines' blocks and the one before.
 fn clocks(deadlines: &[u64], times: &[u64]) -> BTreeSet<u64> {
     let mut clocks: BTreeSet<u64> = times.iter().copied().collect();
     for (deadline, width) in deadlines.iter().flat_map(|&d| WIDTHS.map(|w| (d, w))) {
         let start = deadline / width * width;
         clocks.extend([start, start.saturating_sub(1)]);
     }
-    clocks.retain(|&clock| block(clock) == block(times[0]));
+    let first = block(deadlines[0]).saturating_sub(1);
+    clocks.retain(|&clock| block(clock) >= first);
     clocks
 }
 
-/// What the word of the slot in hand is tried with: every deadline's slot of each level, of less than three timers also the ones beside, and
-/// what is no slot. Of a single timer every place.
+/// What the word of the place in hand is tried with: every deadline's slot of each level, of less than three timers also the ones beside, the
+/// parking list, and what cannot be in hand. Of a single timer every place.
 fn places(deadlines: &[u64]) -> Vec<u64> {
-    let no_slots = [EXPIRED as u64, EXPIRED as u64 + 1, NOBODY - 1];
+    let others = [PARKING as u64, EXPIRED as u64, EXPIRED as u64 + 1, NOBODY - 1];
     if deadlines.len() == 1 {
-        return (0..EXPIRED as u64).chain(no_slots).collect();
+        return (0..PARKING as u64).chain(others).collect();
     }
     let own = deadlines
         .iter()
         .flat_map(|&deadline| (0..WIDTHS.len()).map(move |k| SLOTS * k + slot(k, deadline)));
     let beside = usize::from(deadlines.len() < 3);
     let own: BTreeSet<u64> = own
-        .flat_map(|place| [place, (place + beside) % EXPIRED])
+        .flat_map(|place| [place, (place + beside) % PARKING])
         .map(|place| place as u64)
         .collect();
-    own.into_iter().chain(no_slots).collect()
+    own.into_iter().chain(others).collect()
 }
 
-/// Every timer in its slot of each level or on the expired stack, and of less than three also in the slot beside; each list in every order.
+/// Every timer in its slot of each level, on the parking list or on the expired stack, and of less than three also in the slot beside; each list
+/// in every order.
 fn all_lists(deadlines: &[u64]) -> Vec<Lists> {
     let mut all: Vec<BTreeMap<usize, Vec<usize>>> = vec![BTreeMap::new()];
     for (record, &deadline) in deadlines.iter().enumerate() {
-        let own = (0..WIDTHS.len()).map(|k| SLOTS * k + slot(k, deadline));
-        let mut here: BTreeSet<usize> = own.chain([EXPIRED]).collect();
+        let mut here: BTreeSet<usize> = (0..WIDTHS.len()).map(|k| SLOTS * k + slot(k, deadline)).collect();
         if deadlines.len() < 3 {
-            here.extend(here.clone().iter().map(|place| (place + 1) % EXPIRED));
+            here.extend(here.clone().iter().map(|place| (place + 1) % PARKING));
         }
+        here.extend([PARKING, EXPIRED]);
         let mut more = vec![];
         for (lists, place) in all.iter().flat_map(|l| here.iter().map(move |p| (l, *p))) {
             let length = lists.get(&place).map_or(0, Vec::len);
@@ -224,20 +235,22 @@ fn all_lists(deadlines: &[u64]) -> Vec<Lists> {
 
 /// The words of such a store, all of whose records are pending at turn 1.
 fn write(store: &mut ours::Store, deadlines: &[u64], state: &State) {
-    store.state = [0; 12];
+    store.state = [0; 13];
     store.state[0] = state.elapsed;
     store.state[7] = deadlines.len() as u64;
-    store.state[8..12].copy_from_slice(&[NOBODY, NOBODY, state.hand, state.until]);
+    store.state[8..].copy_from_slice(&[NOBODY, NOBODY, state.hand, state.until, NOBODY]);
     store.heads = [[NOBODY as u16; 64]; 6];
     store.deadlines.copy_from_slice(deadlines);
     store.turns.fill(1);
     for (place, list) in &state.lists {
         let (head, tail) = (list[0] as u16, list[list.len() - 1]);
-        if *place == EXPIRED {
-            store.state[8] = head.into();
-        } else {
-            store.heads[place / SLOTS][place % SLOTS] = head;
-            store.state[1 + place / SLOTS] |= 1 << (place % SLOTS);
+        match *place {
+            EXPIRED => store.state[8] = head.into(),
+            PARKING => store.state[12] = head.into(),
+            place => {
+                store.heads[place / SLOTS][place % SLOTS] = head;
+                store.state[1 + place / SLOTS] |= 1 << (place % SLOTS);
+            }
         }
         let mut before = tail;
         for (i, &record) in list.iter().enumerate() {
@@ -251,8 +264,11 @@ fn write(store: &mut ours::Store, deadlines: &[u64], state: &State) {
 
 fn read(store: &ours::Store) -> State {
     let mut lists: Lists = vec![];
-    for place in 0..EXPIRED {
-        let mut at = store.heads[place / SLOTS][place % SLOTS];
+    for place in 0..=PARKING {
+        let mut at = match place {
+            PARKING => store.state[12] as u16,
+            place => store.heads[place / SLOTS][place % SLOTS],
+        };
         let mut list = vec![];
         while u64::from(at) != NOBODY {
             list.push(usize::from(at));

@@ -3,11 +3,15 @@ use crate::ours::{Answer, Store};
 
 /// The six words of an answer, and those of a store.
 pub const WORDS: usize = 6 + STORE_WORDS;
-/// The twelve words of the state, a head, and seven of a record.
-pub const STORE_WORDS: usize = 20;
-const STATE_WORDS: usize = 12;
+/// The words of the state, the head of a slot, and seven words of its record and of a parked one.
+pub const STORE_WORDS: usize = PARKED_WORDS + NAMES.len();
+const STATE_WORDS: usize = 13;
+const SLOT_WORDS: usize = STATE_WORDS + 1;
+const PARKED_WORDS: usize = SLOT_WORDS + NAMES.len();
+/// The word of the state that is the parking list's head.
+const PARKING: usize = 12;
 const NOBODY: u64 = 65535;
-const NAMES: [&str; 8] = ["head", "value", "period", "deadline", "next", "prev", "turn", "mark"];
+const NAMES: [&str; 7] = ["value", "period", "deadline", "next", "prev", "turn", "mark"];
 /// Not before so many commands.
 const FROM: usize = 300;
 
@@ -34,7 +38,8 @@ impl Wrong {
     /// The words of a poll in hand are made wrong while one is.
     pub fn is_due(self, commands: usize, store: &Store) -> bool {
         let in_hand = store.state[10] != NOBODY;
-        commands >= FROM && is_due(store) && (in_hand || !matches!(self.0, 16 | 17))
+        let word = self.0.saturating_sub(6);
+        commands >= FROM && is_due(word, store) && (in_hand || !matches!(self.0, 16 | 17))
     }
 
     pub fn make(self, answers: &mut [Answer], store: &mut Store) {
@@ -49,28 +54,44 @@ impl Wrong {
 pub fn name(word: usize) -> String {
     match word {
         0..STATE_WORDS => format!("word {word} of the state"),
-        word => format!("the {} of a timer in a slot", NAMES[word - STATE_WORDS]),
+        STATE_WORDS => "the head of a slot".to_string(),
+        SLOT_WORDS..PARKED_WORDS => format!("the {} of a timer in a slot", NAMES[word - SLOT_WORDS]),
+        _ => format!("the {} of a parked timer", NAMES[word - PARKED_WORDS]),
     }
 }
 
-/// A slot is not empty.
-pub fn is_due(store: &Store) -> bool {
-    slot(store).is_some()
+/// A slot is not empty, or a timer is parked where it is that one's word.
+pub fn is_due(word: usize, store: &Store) -> bool {
+    match word {
+        PARKING | PARKED_WORDS.. => store.state[PARKING] != NOBODY,
+        _ => slot(store).is_some(),
+    }
 }
 
 /// Its last bit is another then.
 pub fn make(word: usize, store: &mut Store) {
-    let (level, slot) = slot(store).expect("is due");
-    let record = usize::from(store.heads[level][slot]);
+    if word < STATE_WORDS {
+        store.state[word] ^= 1;
+        return;
+    }
+    let (record, word) = match word.checked_sub(PARKED_WORDS) {
+        Some(word) => (store.state[PARKING] as usize, word),
+        None => {
+            let (level, slot) = slot(store).expect("is due");
+            if word == STATE_WORDS {
+                store.heads[level][slot] ^= 1;
+                return;
+            }
+            (usize::from(store.heads[level][slot]), word - SLOT_WORDS)
+        }
+    };
     match word {
-        0..STATE_WORDS => store.state[word] ^= 1,
-        12 => store.heads[level][slot] ^= 1,
-        13 => store.values[2 * record] ^= 1,
-        14 => store.values[2 * record + 1] ^= 1,
-        15 => store.deadlines[record] ^= 1,
-        16 => store.nexts[record] ^= 1,
-        17 => store.prevs[record] ^= 1,
-        18 => store.turns[record] ^= 1,
+        0 => store.values[2 * record] ^= 1,
+        1 => store.values[2 * record + 1] ^= 1,
+        2 => store.deadlines[record] ^= 1,
+        3 => store.nexts[record] ^= 1,
+        4 => store.prevs[record] ^= 1,
+        5 => store.turns[record] ^= 1,
         _ => store.marks[record] ^= 1,
     }
 }

@@ -3,7 +3,7 @@ use oracle::compare::compare;
 use oracle::exit::exit;
 use oracle::generator::{generate, generate_limited};
 use oracle::script::Script;
-use oracle::short;
+use oracle::short::{self, About};
 use std::env;
 use std::ffi::{OsStr, OsString};
 use std::fs;
@@ -15,7 +15,7 @@ use std::str::FromStr;
 
 const USAGE: &str =
     "usage: compare [--lists] [--limits] [--keep FOLDER] [ [--from SEED] [--to SEED] [--lines N] \
-    | --short DEPTH | --files FILE.. -- ] PROGRAM [ARGS..]";
+    | --short DEPTH | --ends DEPTH | --files FILE.. -- ] PROGRAM [ARGS..]";
 /// Where a script with a difference is kept, unless --keep names another folder.
 const KEEP: &str = concat!(env!("CARGO_MANIFEST_DIR"), "/target/differences");
 /// So many short sequences go to the program at once.
@@ -30,7 +30,8 @@ struct Options {
     from: u64,
     to: u64,
     lines: usize,
-    short: Option<u32>,
+    /// Every sequence of so many commands, about the first slots or block ends.
+    short: Option<(About, u32)>,
     files: Vec<OsString>,
     keep: PathBuf,
     program: Vec<OsString>,
@@ -64,7 +65,8 @@ fn options(mut args: impl Iterator<Item = OsString>) -> Result<Options, String> 
             Some("--to") => options.to = number(args.next())?,
             Some("--lines") => options.lines = number(args.next())?,
             Some("--keep") => options.keep = args.next().ok_or(USAGE)?.into(),
-            Some("--short") => options.short = Some(depth(args.next())?),
+            Some("--short") => options.short = Some((About::Slots, depth(args.next())?)),
+            Some("--ends") => options.short = Some((About::BlockEnds, depth(args.next())?)),
             Some("--files") => options.files = files(&mut args)?,
             Some(other) if other.starts_with("--") => return Err(USAGE.into()),
             _ => options.program.push(arg),
@@ -81,7 +83,7 @@ fn number<T: FromStr>(arg: Option<OsString>) -> Result<T, String> {
 
 fn depth(arg: Option<OsString>) -> Result<u32, String> {
     let depth = number(arg)?;
-    let too_deep = format!("--short {depth}: at most {DEEPEST}");
+    let too_deep = format!("sequences of {depth}: at most {DEEPEST}");
     (depth <= DEEPEST).then_some(depth).ok_or(too_deep)
 }
 
@@ -118,9 +120,10 @@ fn scripts(options: &Options) -> (String, Scripts<'_>) {
         let files = options.files.iter();
         let each = files.map(move |file| (file.display().to_string(), from_file(file, empty(lists, limits))));
         (format!("{} files", options.files.len()), Box::new(each))
-    } else if let Some(depth) = options.short {
-        let title = format!("every sequence of {depth} commands");
-        (title, short_sequences(depth, lists, limits))
+    } else if let Some((about, depth)) = options.short {
+        let at = if about == About::BlockEnds { " about block ends" } else { "" };
+        let title = format!("every sequence of {depth} commands{at}");
+        (title, short_sequences(about, depth, lists, limits))
     } else {
         let title = format!("seeds {}..{}", options.from, options.to);
         (title, seeds(options))
@@ -144,11 +147,11 @@ fn from_file(file: &OsStr, mut script: Script) -> io::Result<Script> {
     Ok(script)
 }
 
-fn short_sequences(depth: u32, lists: bool, limits: bool) -> Scripts<'static> {
-    let count = short::count(depth, limits);
+fn short_sequences(about: About, depth: u32, lists: bool, limits: bool) -> Scripts<'static> {
+    let count = short::count(about, depth, limits);
     let chunk = move |start: u64| {
         let mut script = empty(lists, limits);
-        short::add(depth, start..count.min(start + CHUNK), &mut script);
+        short::add(about, depth, start..count.min(start + CHUNK), &mut script);
         (format!("sequences from {start} on"), Ok(script))
     };
     Box::new((0..count).step_by(CHUNK as usize).map(chunk))

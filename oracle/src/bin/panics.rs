@@ -4,7 +4,7 @@ use oracle::whole::Whole;
 use std::fmt::Debug;
 use std::panic::{catch_unwind, set_hook, AssertUnwindSafe};
 
-/// Where refusals 4 and 5 begin.
+/// Where refusal 4 begins, and the next block.
 const BLOCK: u64 = 1 << 36;
 
 fn main() {
@@ -12,7 +12,7 @@ fn main() {
     too_far();
     next_block();
     lost_by_reset();
-    stuck_after_reset();
+    parked_by_reset();
     clock_gone_back();
     dead_keys();
     keys_after_clear();
@@ -41,11 +41,13 @@ fn too_far() {
 }
 
 fn next_block() {
-    println!("2. elapsed 1, insert at 2^36 (refusal 5)");
+    println!("2. elapsed 1, insert at 2^36 (refusal 5 before request 12): parked on the seventh level");
     let mut q = Whole::new(4);
     show("poll(1)", || q.poll(1));
     show("insert(2^36)", || q.insert(1, BLOCK));
-    show("len: the timer was left in the slab", || q.len());
+    show("wake", || q.wake());
+    show("poll(2^36-1)", || q.poll(BLOCK - 1));
+    show("poll(2^36)", || q.poll(BLOCK));
 }
 
 fn lost_by_reset() {
@@ -60,14 +62,15 @@ fn lost_by_reset() {
     show("wake", || q.wake());
 }
 
-fn stuck_after_reset() {
-    println!("4. elapsed 1, A at 5, then reset A to 2^36 (refusal 5)");
+fn parked_by_reset() {
+    println!("4. elapsed 1, A at 5, then reset A to 2^36 (refusal 5 before request 12)");
     let mut q = Whole::new(4);
     q.poll(1);
     let a = q.insert(1, 5);
     show("reset(A, 2^36)", || q.reset(a, BLOCK));
-    show("remove(A)", || q.remove(a));
     show("reset(A, 9)", || q.reset(a, 9));
+    show("reset(A, 2^36)", || q.reset(a, BLOCK));
+    show("remove(A)", || q.remove(a));
 }
 
 fn clock_gone_back() {

@@ -3,7 +3,7 @@
 use oracle::exit::exit;
 use oracle::generator::{generate, generate_limited};
 use oracle::script::Script;
-use oracle::short;
+use oracle::short::{self, About};
 use oracle::tally::Tally;
 use std::env;
 use std::process::ExitCode;
@@ -37,11 +37,16 @@ fn run(args: Vec<String>) -> Result<(), String> {
     println!("{tally}");
     println!("seeds {from}..{to}: {count} lines run, every check held");
 
-    for mut script in [Script::new(false), Script::limited(false)] {
+    for (about, mut script) in [
+        (About::Slots, Script::new(false)),
+        (About::Slots, Script::limited(false)),
+        (About::BlockEnds, Script::limited(false)),
+    ] {
         let limits = script.bench().limits();
-        short::add(DEPTH, 0..short::count(DEPTH, limits), &mut script);
+        short::add(about, DEPTH, 0..short::count(about, DEPTH, limits), &mut script);
+        let at = if about == About::BlockEnds { " about block ends" } else { "" };
         let with = if limits { ", with limits" } else { "" };
-        println!("every sequence of {DEPTH} commands{with}: {} lines run, every check held", script.len());
+        println!("every sequence of {DEPTH} commands{at}{with}: {} lines run, every check held", script.len());
         count += script.len();
     }
     println!("{count} lines run in all");

@@ -47,6 +47,8 @@ const HELD: &str =
 /// After `f 1 1`, `i 7 70 0` and a clear.
 const CLEARED: &str = "store 1 0\nfree 0..0\nretired\nrec 0..0 turn 2 value 7 deadline 70 period 0\n";
 
+/// Where the second block starts.
+const BLOCK: u64 = 68_719_476_736;
 const FORMAT: (u16, u64, u64) = (0x1000, 1, 1);
 const INSERT: (u16, u64, u64) = (0x2000, 7, 70);
 const OPEN: (u16, u64, u64) = (0x7000, 0, 0);
@@ -71,7 +73,7 @@ const fn case(
     }
 }
 
-pub const CASES: [Case; 61] = [
+pub const CASES: [Case; 66] = [
     case(&[], 0, 0, "-", NONE),
     case(&[FORMAT], 0, 18, "-", ONE),
     case(
@@ -211,4 +213,36 @@ pub const CASES: [Case; 61] = [
     case(&[FORMAT, NINE, ELEVEN], 0, 18, "pair", ONE),
     case(&[ELEVEN], 0, 0, "refused-2", NONE),
     case(&[FORMAT, INSERT, ELEVEN], 1, 36, "-", SET),
+    // Past the block end: too far at 0, parked from 1 on; the parking list in hand before its first move, inside its drain, and behind it.
+    case(&[FORMAT, (0x2000, 7, BLOCK)], 0, 36, "-", ONE),
+    case(
+        &[FORMAT, (0x5000, 1, 0), (0x2000, 7, BLOCK)],
+        0,
+        54,
+        "-",
+        "store 1 1\nfree\nretired\nparked 0\nrec 0..0 turn 1 value 7 deadline 68719476736 period 0\n",
+    ),
+    case(
+        &[FORMAT, (0x5000, 1, 0), (0x2000, 7, BLOCK), (0xB000, BLOCK, 0)],
+        0,
+        72,
+        "-",
+        "store 1 1\nhand 68719476736 6 0\nfree\nretired\nparked 0\nrec 0..0 turn 1 value 7 deadline 68719476736 period 0\n",
+    ),
+    case(
+        &[(0x1000, 2, 1), (0x5000, 9, 0), (0x2000, 1, BLOCK + 5), (0x2000, 2, BLOCK), (0xB000, BLOCK + 7, 1)],
+        0,
+        90,
+        "-",
+        "store 2 9\nhand 68719476743 6 0\nfree\nretired\nslot 5 0 0\nparked 1\n\
+         rec 0..0 turn 1 value 1 deadline 68719476741 period 0\nrec 1..1 turn 1 value 2 deadline 68719476736 period 0\n",
+    ),
+    case(
+        &[(0x1000, 2, 1), (0x5000, 9, 0), (0x2000, 1, BLOCK + 5), (0x2000, 2, BLOCK), (0xB000, BLOCK + 7, 2)],
+        0,
+        90,
+        "-",
+        "store 2 68719476736\nhand 68719476743 5 0\nfree\nretired\nslot 5 0 0 1\n\
+         rec 0..0 turn 1 value 1 deadline 68719476741 period 0\nrec 1..1 turn 1 value 2 deadline 68719476736 period 0\n",
+    ),
 ];

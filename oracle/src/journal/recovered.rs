@@ -1,16 +1,13 @@
 //! What the program `recovered` is to write: the length kept, the damage, and every part of the store.
 use super::{Damage, Reading};
 use crate::bench::Store;
-use crate::rules::{SLOTS, WIDTHS};
+use crate::rules::{EXPIRED, PARKING, SLOTS};
 use std::fmt::Write;
-
-/// The expired stack's place, after the slots; slot s of level k is 64 k + s.
-const EXPIRED: usize = SLOTS * WIDTHS.len();
 
 /// All that there is to a store, whoever holds it.
 pub struct Parts {
     pub elapsed: u64,
-    /// The now of the poll in hand, and the slot that its next move is taken from (02 [10]).
+    /// The now of the poll in hand, and the place that its next move is taken from (02 [10]).
     pub hand: Option<(u64, usize)>,
     /// The next to be taken first.
     pub free: Vec<usize>,
@@ -62,13 +59,14 @@ fn show_store(text: &mut String, store: &Parts) -> std::fmt::Result {
     }
     writeln!(text, "free{}", runs(&store.free))?;
     writeln!(text, "retired{}", runs(&store.retired))?;
-    // The expired stack comes before the slots.
-    let (slots, expired) = store
+    // The expired stack comes before the slots, the parking list behind them.
+    let (wheel, expired) = store
         .pending
         .split_at(store.pending.partition_point(|&[place, _]| place < EXPIRED));
-    for list in [expired, slots].concat().chunk_by(|a, b| a[0] == b[0]) {
+    for list in [expired, wheel].concat().chunk_by(|a, b| a[0] == b[0]) {
         match list[0][0] {
             EXPIRED => write!(text, "expired")?,
+            PARKING => write!(text, "parked")?,
             place => write!(text, "slot {} {}", place / SLOTS, place % SLOTS)?,
         }
         for [_, record] in list {

@@ -2,14 +2,16 @@
 use super::edits::What;
 use super::generator::Asked;
 use super::{Reading, Step, ENTRY};
+use crate::bench::Store;
 use crate::line::{Answer, Command};
+use crate::rules::{block, PARKING};
 use std::collections::BTreeMap;
 use std::fmt;
 use std::ops::AddAssign;
 
 /// Journals by what was done to them; calls that were written, by kind and, of the refused, by number; numbers that are not
 /// written; what readings came to: `left out` is a patch that was not closed, `a nine` one that ends without its ten.
-const NAMES: [&str; 45] = [
+const NAMES: [&str; 46] = [
     "whole",
     "cut",
     "one bit",
@@ -30,7 +32,6 @@ const NAMES: [&str; 45] = [
     "format anew",
     "no 3",
     "no 4",
-    "no 5",
     "no 6",
     "no 7",
     "no 8",
@@ -54,6 +55,8 @@ const NAMES: [&str; 45] = [
     "a nine",
     "no store",
     "a poll in hand",
+    "parked",
+    "the parking list in hand",
     "retired",
 ];
 
@@ -125,12 +128,21 @@ impl Tally {
         self.count_if(!damaged && rest.len() >= ENTRY, "a nine");
         let store = reading.left.store();
         self.count_if(store.is_none(), "no store");
-        self.count_if(store.is_some_and(|store| store.in_hand().is_some()), "a poll in hand");
+        let hand = store.and_then(Store::in_hand);
+        self.count_if(hand.is_some(), "a poll in hand");
+        self.count_if(store.is_some_and(has_parked), "parked");
+        self.count_if(hand.is_some_and(|(_, place)| place == PARKING), "the parking list in hand");
         self.count_if(
             store.is_some_and(|store| store.retired().next().is_some()),
             "retired",
         );
     }
+}
+
+/// A pending timer lies in another block than elapsed's.
+fn has_parked(store: &Store) -> bool {
+    let mut deadlines = store.pending().iter().map(|&record| store.deadline(record));
+    deadlines.any(|deadline| block(deadline) > block(store.elapsed()))
 }
 
 fn kind(step: Step) -> &'static str {

@@ -31,7 +31,7 @@ pub(super) fn wheel() -> (Wheel<Watch>, Rc<RefCell<Notes>>) {
     let notes = Rc::new(RefCell::new(Notes::default()));
     MAKING.replace(notes.clone());
     let wheel = Wheel::new();
-    assert_eq!(notes.borrow().heads.len(), WIDTHS.len() * SLOTS);
+    assert_eq!(notes.borrow().heads.len(), (WIDTHS.len() + 1) * SLOTS);
     (wheel, notes)
 }
 

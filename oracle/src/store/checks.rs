@@ -1,7 +1,7 @@
 //! What must hold of the original's answers and lists. A check that fails is a panic.
-use super::model::{Polled, EXPIRED};
+use super::model::Polled;
 use super::{Hand, Lists, Place, Record, Store};
-use crate::rules::{block, level, slot, FARTHEST, LAST_TURN, SLOTS, WIDTHS};
+use crate::rules::{block, level, slot, width, BLOCK_BITS, EXPIRED, LAST_TURN, PARKING, SLOTS};
 use std::collections::BTreeSet;
 
 /// What a poll at `now` is made on.
@@ -70,7 +70,7 @@ impl Store {
         (counts.pushes, self.drained().len() as u64)
     }
 
-    /// The slots that the original's poll drained, each with the moves made once it was empty.
+    /// The places that the original's poll drained, each with the moves made once it was empty.
     pub(super) fn drained(&self) -> Vec<(usize, u64)> {
         let mut emptied = self.original.watched().counts().emptied;
         emptied.retain(|&(list, _)| list >= SLOTS);
@@ -97,7 +97,7 @@ impl Store {
             };
             moves += (before - after) as u64;
             let deadline = self.records[record].deadline;
-            drained.extend((after + 1..=before).map(|k| (k, deadline / WIDTHS[k])));
+            drained.extend((after + 1..=before).map(|k| (k, deadline / width(k))));
         }
         (moves, drained.len() as u64)
     }
@@ -184,16 +184,22 @@ impl Store {
         found.sort_unstable();
         assert_eq!(found, self.pending, "all are in the lists");
         assert!(drained > 0 && lists.elapsed <= start && start <= hand.now);
-        // The slot of elapsed itself is filled by a drain of the slot above alone, which starts there; nothing drains into a block's first.
-        let own = lists.elapsed.is_multiple_of(SLOTS as u64 * WIDTHS[drained]) && lists.elapsed % (FARTHEST + 1) != 0;
+        // The slot of elapsed itself is filled by a drain of the list above alone, which starts there: of the parking list at a block's start.
+        let crossed = lists.elapsed > 0 && !lists.places.contains_key(&PARKING);
+        let own = lists.elapsed.is_multiple_of(width(drained + 1)) && (crossed || lists.elapsed % (1 << BLOCK_BITS) != 0);
         assert!(lists.elapsed < start || own, "elapsed's own slot");
         for (&at, list) in &lists.places {
             let (k, mut of) = (at / SLOTS, list.iter().map(|&record| self.records[record].deadline));
-            let begins = |deadline: u64| deadline / WIDTHS[k] * WIDTHS[k];
             assert!(k + 1 >= drained, "the levels below are empty");
+            if at == PARKING {
+                let next = block(start) + u64::from(at != place);
+                assert!(of.all(|deadline| block(deadline) == next), "parked");
+                continue;
+            }
+            let begins = |deadline: u64| deadline / width(k) * width(k);
             assert!(of.all(|deadline| {
                 at == SLOTS * k + slot(k, deadline)
-                    && deadline / (SLOTS as u64 * WIDTHS[k]) == start / (SLOTS as u64 * WIDTHS[k])
+                    && deadline / width(k + 1) == start / width(k + 1)
                     && (if at == place { begins(deadline) == start } else { begins(deadline) >= start })
                     && (at == place || k < drained || begins(deadline) > start)
             }));
@@ -227,13 +233,17 @@ impl Store {
         let elapsed = self.elapsed();
         let occupied = watched.occupied();
         for (place, list) in lists.iter().enumerate() {
-            if place < EXPIRED {
+            if place < PARKING {
                 let bit = occupied[place / SLOTS] >> (place % SLOTS) & 1;
                 assert_eq!(bit == 1, !list.is_empty(), "occupied bit");
             }
             for &record in list {
                 let (value, deadline) = watched.held(self.records[record].number);
                 self.check_held(record, value, deadline);
+                if place == PARKING {
+                    assert_eq!(block(deadline), block(elapsed) + 1, "parked");
+                    continue;
+                }
                 assert!(deadline >= elapsed && block(deadline) == block(elapsed));
                 if place == EXPIRED {
                     assert_eq!(deadline, elapsed, "expired");

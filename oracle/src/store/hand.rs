@@ -1,7 +1,7 @@
 //! A poll in hand (02 [10]). The original cannot pause: its poll is made once, whole, and its moves are cut into calls by counting. The lists
 //! in between are made by a second reading of the rules, one move at a time, and must end as the original's.
 use super::checks::Before;
-use crate::rules::{slot, SLOTS, WIDTHS};
+use crate::rules::{block_end, slot, PARKING, SLOTS, WIDTHS};
 use std::collections::{BTreeMap, VecDeque};
 
 pub struct Hand {
@@ -10,7 +10,7 @@ pub struct Hand {
     pub out: Option<usize>,
     /// What it was made on, where every answer is checked.
     pub before: Option<Before>,
-    /// The slots that the whole poll drains, each with the moves made once it is empty.
+    /// The places that the whole poll drains, each with the moves made once it is empty.
     drained: Vec<(usize, u64)>,
     /// All moves of the whole poll, and those of the calls so far.
     moves: u64,
@@ -66,7 +66,7 @@ impl Hand {
         drains
     }
 
-    /// The slot that the next move is taken from.
+    /// The place that the next move is taken from.
     pub fn place(&self) -> usize {
         let next = self.drained.iter().find(|&&(_, end)| self.made < end);
         next.expect("a move is left").0
@@ -88,9 +88,9 @@ impl Hand {
 /// The wheel's lists while nothing is expired, and elapsed.
 pub struct Lists {
     pub elapsed: u64,
-    /// Those that are not empty; slot s of level k is 64 k + s.
+    /// Those that are not empty, by place.
     pub places: BTreeMap<usize, VecDeque<usize>>,
-    /// The slot whose drain has begun.
+    /// The place whose drain has begun.
     drain: Option<usize>,
 }
 
@@ -103,10 +103,15 @@ impl Lists {
         }
     }
 
-    /// Inside a drain its slot, else by a look: the lowest level that is not empty, and there the first occupied slot from elapsed on.
+    /// Inside a drain its place, else by a look: the lowest level that is not empty, and there the first occupied slot from elapsed on; where no
+    /// slot is, the parking list.
     pub fn next_place(&self) -> usize {
         self.drain.unwrap_or_else(|| {
-            let level = self.places.keys().next().expect("a move is left") / SLOTS;
+            let first = *self.places.keys().next().expect("a move is left");
+            if first == PARKING {
+                return PARKING;
+            }
+            let level = first / SLOTS;
             let here = slot(level, self.elapsed);
             let slots = (here..here + SLOTS).map(|s| SLOTS * level + s % SLOTS);
             slots
@@ -116,15 +121,18 @@ impl Lists {
         })
     }
 
-    /// Where a slot starts: elapsed rounded down to a multiple of 64 widths, plus slot widths.
+    /// Where a slot starts: elapsed rounded down to a multiple of 64 widths, plus slot widths. The parking list starts with the next block.
     pub fn start(&self, place: usize) -> u64 {
+        if place == PARKING {
+            return block_end(self.elapsed);
+        }
         let (level, slot) = (place / SLOTS, (place % SLOTS) as u64);
         let turn = SLOTS as u64 * WIDTHS[level];
         self.elapsed / turn * turn + slot * WIDTHS[level]
     }
 
-    /// Moves, each of a head to the tail of its slot one level down. Elapsed stays inside a drain; with its last move the drain ends, and
-    /// elapsed becomes the slot's start. Answers the drains that ended.
+    /// Moves, each of a head to the tail of its slot one level down. Elapsed stays inside a drain, in the old block while it is the parking list's;
+    /// with its last move the drain ends, and elapsed becomes the place's start. Answers the drains that ended.
     fn make(&mut self, moves: u64, deadline: impl Fn(usize) -> u64) -> u64 {
         let mut drains = 0;
         for _ in 0..moves {

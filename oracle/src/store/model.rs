@@ -1,10 +1,7 @@
 //! The steps of the wheel in the words of the rules, over plain lists: a second reading that the
 //! original's lists and answers are held against.
-use crate::rules::{level, slot, FARTHEST, OLDEST, SLOTS, WIDTHS};
+use crate::rules::{block_end, level, slot, EXPIRED, FARTHEST, OLDEST, PARKED, PARKING, SLOTS, WIDTHS};
 use std::collections::VecDeque;
-
-/// The place of the expired stack, after the slots; slot s of level k is 64 k + s.
-pub const EXPIRED: usize = WIDTHS.len() * SLOTS;
 
 pub struct Model {
     pub elapsed: u64,
@@ -24,7 +21,7 @@ pub struct Polled {
     pub drains: u64,
 }
 
-/// The first slot to look at: its level, its place, its start.
+/// What is looked at first: its height, its place, its start.
 struct First {
     level: usize,
     place: usize,
@@ -41,15 +38,13 @@ impl Model {
         }
     }
 
-    /// The refusals of a deadline in their order, as sums and by the block's last millisecond, where the
-    /// store subtracts and divides.
+    /// The refusals of a deadline in their order, as sums, where the store subtracts.
     pub fn refused(&self, when: u64) -> Option<u8> {
         let [when, elapsed] = [when, self.elapsed].map(u128::from);
         let [oldest, farthest] = [OLDEST, FARTHEST].map(u128::from);
         let refusals = [
             (11, when + oldest < elapsed),
             (4, when > elapsed + farthest),
-            (5, when > elapsed | farthest),
         ];
         refusals.into_iter().find_map(|(number, meets)| meets.then_some(number))
     }
@@ -74,6 +69,8 @@ impl Model {
         self.deadlines[record] = deadline;
         let place = if deadline == self.elapsed {
             EXPIRED
+        } else if deadline > self.elapsed | FARTHEST {
+            PARKING
         } else {
             let k = level(self.elapsed, deadline);
             SLOTS * k + slot(k, deadline)
@@ -107,19 +104,18 @@ impl Model {
         Polled { out, moves, drains }
     }
 
-    /// "The same poll places it at w plus period under the same key" (02 [7]). Answers whether it does. What
-    /// bars it comes to one thing: the new deadline lies behind the last millisecond of elapsed's block.
+    /// "The same poll places it at w plus period under the same key" (02 [7]). Answers whether it does.
     pub fn again(&mut self, record: usize) -> bool {
         let next = u128::from(self.deadlines[record]) + u128::from(self.periods[record]);
-        let block_end = self.elapsed | FARTHEST;
-        let again = self.periods[record] > 0 && next <= u128::from(block_end);
+        let last = u128::from(self.elapsed) + u128::from(FARTHEST);
+        let again = self.periods[record] > 0 && next <= last && next < 1 << 64;
         if again {
             self.place(record, next as u64);
         }
         again
     }
 
-    /// At once if a timer has expired, else at the start of the first slot.
+    /// At once if a timer has expired, else at the start of the first slot, or of the next block.
     pub fn wake(&self) -> Option<u64> {
         if !self.lists[EXPIRED].is_empty() {
             return Some(self.elapsed);
@@ -127,8 +123,19 @@ impl Model {
         self.first().map(|first| first.start)
     }
 
-    /// The lowest level that is not empty, and there the first occupied slot from elapsed on.
+    /// The lowest level that is not empty, and there the first occupied slot from elapsed on. "When nothing else is
+    /// pending" the parking list, from "the next block's start" on.
     fn first(&self) -> Option<First> {
+        self.first_slot().or_else(|| {
+            (!self.lists[PARKING].is_empty()).then(|| First {
+                level: PARKED,
+                place: PARKING,
+                start: block_end(self.elapsed),
+            })
+        })
+    }
+
+    fn first_slot(&self) -> Option<First> {
         let mut places = (0..WIDTHS.len()).flat_map(|k| {
             let here = slot(k, self.elapsed);
             (here..here + SLOTS).map(move |s| (k, s % SLOTS))

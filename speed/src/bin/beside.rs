@@ -1,5 +1,5 @@
-//! Our calls without the judge, of this tree and of another commit, in one process and in turns. Their sums are not held against each
-//! other: a request may change the order in which timers come out.
+//! Our calls without the judge, one kind of call alone, and the judge, of this tree and of another commit, in one process and in turns. Their sums
+//! are not held against each other: a request may change the order in which timers come out.
 #[allow(dead_code)]
 #[path = "../clock.rs"]
 mod clock;
@@ -13,11 +13,73 @@ mod before {
 }
 
 use clock::{in_turns, timed_alone, Side, Times};
-use speed::script::{Mix, COMMANDS, INSERT, MIXES, POLL, SIZES};
+use speed::script::{Command, Mix, COMMANDS, INSERT, MIXES, POLL, RESET, SIZES, WAKE};
+use std::hint::black_box;
 
-/// The longest poll that there is: the largest store, all timers in one slot of the highest level.
+/// The longest poll inside a block: the largest store, all timers in one slot of the highest level. And the longest that there is: all are parked.
 const RECORDS: usize = 65_535;
 const DEADLINE: u64 = (1 << 30) + (1 << 24) + (1 << 18) + (1 << 12) + (1 << 6) + 1;
+const DAY: u64 = 86_400_000;
+/// The judge is asked so often, on the store after so many commands of a mix.
+const JUDGINGS: usize = 1_000;
+const JUDGED: usize = 20_000;
+const WAKED: usize = 64;
+
+/// What is asked of a store of either side.
+trait Asked {
+    fn fresh(records: usize) -> Self;
+    fn inner(&mut self, script: &[Command]) -> u64;
+    fn judge(&mut self) -> bool;
+}
+
+macro_rules! asked {
+    ($store:ty) => {
+        impl Asked for $store {
+            fn fresh(records: usize) -> Self {
+                <$store>::new(records)
+            }
+            fn inner(&mut self, script: &[Command]) -> u64 {
+                <$store>::inner(self, script)
+            }
+            fn judge(&mut self) -> bool {
+                <$store>::judge(self)
+            }
+        }
+    };
+}
+asked!(before::Store);
+asked!(ours::Store);
+
+/// A run: a fresh store of so many records, a first script, and then what is measured: another script, or the judge.
+#[derive(Clone, Copy)]
+struct Run<'a> {
+    name: &'a str,
+    records: usize,
+    first: &'a [Command],
+    script: Option<&'a [Command]>,
+    /// A time is by so many parts.
+    parts: usize,
+}
+
+impl Run<'_> {
+    fn once<S: Asked>(self) -> (f64, Option<u64>) {
+        let mut store = S::fresh(self.records);
+        store.inner(self.first);
+        timed_alone(self.parts, || match self.script {
+            Some(script) => store.inner(script),
+            None => (0..JUDGINGS).map(|_| black_box(store.judge()) as u64).sum(),
+        })
+    }
+
+    /// Both sides in turns.
+    fn measured(self, rounds: usize) {
+        let one: Side = ("before", Box::new(move || self.once::<before::Store>()));
+        let two: Side = ("now", Box::new(move || self.once::<ours::Store>()));
+        let ([one, two], _) = in_turns(self.name, rounds, [one, two]);
+        let ratio = format!("{:.2} ({:.2})", two.least / one.least, two.median / one.median);
+        println!("{:12}{:>20}{:>20}{ratio:>20}", self.name, shown(&one), shown(&two));
+    }
+}
 
 fn main() {
     let words: Vec<String> = std::env::args().collect();
@@ -25,57 +87,60 @@ fn main() {
         panic!("usage: beside ROUNDS FOLDER-OF-MIXES");
     };
     let rounds = rounds.parse().expect("ROUNDS is a number");
+    let mixes = || SIZES.iter().flat_map(|&n| MIXES.map(|name| Mix::read(folder, name, n)));
     println!("ns a command, least (median) of {rounds} runs of {COMMANDS} commands");
     println!("N mix                     before                 now          now/before");
-    for (records, name) in SIZES.iter().flat_map(|&n| MIXES.map(|name| (n, name))) {
-        let mix = Mix::read(folder, name, records);
-        let script = &mix.script[..];
-        let one: Side = (
-            "before",
-            Box::new(move || {
-                let mut store = before::Store::new(records);
-                timed_alone(script.len(), || store.inner(script))
-            }),
-        );
-        let two: Side = (
-            "now",
-            Box::new(move || {
-                let mut store = ours::Store::new(records);
-                timed_alone(script.len(), || store.inner(script))
-            }),
-        );
-        let ([one, two], _) = in_turns(name, rounds, [one, two]);
-        let ns = |t: &Times| format!("{:.1} ({:.1})", t.least, t.median);
-        let ratio = format!("{:.2} ({:.2})", two.least / one.least, two.median / one.median);
-        println!("{:12}{:>20}{:>20}{ratio:>20}", format!("{records} {name}"), ns(&one), ns(&two));
+    for mix in mixes() {
+        let name = &format!("{} {}", mix.records, mix.name);
+        let (records, script, parts) = (mix.records, Some(&mix.script[..]), mix.script.len());
+        Run { name, records, first: &[], script, parts }.measured(rounds);
+    }
+    alone(rounds);
+    println!("ns a judging of the store after {JUDGED} commands");
+    for mix in mixes() {
+        let name = &format!("{} {}", mix.records, mix.name);
+        let (records, first, parts) = (mix.records, &mix.script[..JUDGED], JUDGINGS);
+        Run { name, records, first, script: None, parts }.measured(rounds);
     }
     longest(rounds);
+    parked(rounds);
+}
+
+fn shown(t: &Times) -> String {
+    format!("{:.1} ({:.1})", t.least, t.median)
+}
+
+/// One kind of call alone, deadlines all over a day: the largest store is filled, and each timer reset; on a small one the next wake is asked.
+fn alone(rounds: usize) {
+    let when = |i: usize| 1 + (i as u64).wrapping_mul(0x9e37_79b9_7f4a_7c15) % DAY;
+    let inserts: Vec<Command> = (0..RECORDS).map(|i| [INSERT << 60, when(i)]).collect();
+    let key = |i: usize| 1 << 16 | i as u64;
+    let resets: Vec<Command> = (0..RECORDS).map(|i| [RESET << 60 | key(i), when(i + RECORDS)]).collect();
+    let wakes = vec![[WAKE << 60, 0]; COMMANDS];
+    println!("ns a call of one kind, the judging before the script among it");
+    let run = Run { name: "inserts", records: RECORDS, first: &[], script: Some(&inserts), parts: RECORDS };
+    run.measured(rounds);
+    Run { name: "resets", first: &inserts, script: Some(&resets), ..run }.measured(rounds);
+    Run { name: "wakes", records: WAKED, first: &inserts[..WAKED], script: Some(&wakes), parts: COMMANDS }.measured(rounds);
 }
 
 /// One whole poll of that store, with the judging before its script.
 fn longest(rounds: usize) {
     let inserts = vec![[INSERT << 60, DEADLINE]; RECORDS];
     let poll = [[POLL << 60, DEADLINE]];
-    let (first, second) = (&inserts, &inserts);
-    let one: Side = (
-        "before",
-        Box::new(move || {
-            let mut store = before::Store::new(RECORDS);
-            store.inner(first);
-            timed_alone(1000, || store.inner(&poll))
-        }),
-    );
-    let two: Side = (
-        "now",
-        Box::new(move || {
-            let mut store = ours::Store::new(RECORDS);
-            store.inner(second);
-            timed_alone(1000, || store.inner(&poll))
-        }),
-    );
-    let ([one, two], _) = in_turns("longest", rounds, [one, two]);
-    let us = |t: &Times| format!("{:.1} ({:.1})", t.least, t.median);
-    let ratio = format!("{:.2} ({:.2})", two.least / one.least, two.median / one.median);
     println!("microseconds, one whole poll of {RECORDS} timers in one slot of level 5, {} moves", 5 * RECORDS);
-    println!("{:12}{:>20}{:>20}{ratio:>20}", "longest", us(&one), us(&two));
+    Run { name: "longest", records: RECORDS, first: &inserts, script: Some(&poll), parts: 1000 }.measured(rounds);
+}
+
+/// The same of timers in the next block, by this tree alone: before request 12 none could be set there.
+fn parked(rounds: usize) {
+    let (clock, when) = (2 * (1 << 30), (1 << 36) + DEADLINE);
+    let mut first = vec![[POLL << 60, clock]];
+    first.extend(vec![[INSERT << 60, when]; RECORDS]);
+    let poll = [[POLL << 60, when]];
+    let run = Run { name: "parked", records: RECORDS, first: &first, script: Some(&poll), parts: 1000 };
+    let now: Side = ("now", Box::new(move || run.once::<ours::Store>()));
+    let ([now], _) = in_turns(run.name, rounds, [now]);
+    println!("microseconds, one whole poll of {RECORDS} parked timers, {} moves", 6 * RECORDS);
+    println!("{:12}{:>20}{:>20}", run.name, "", shown(&now));
 }

@@ -42,6 +42,7 @@ same-store s t f =
     let n = number (λ x. x .wheel .stack .stacks .n) in
     let expired = number (λ x. x .wheel .stack .stacks .expired) in
     let free = number (λ x. x .wheel .stack .stacks .free) in
+    let parking = number (λ x. x .wheel .stack .stacks .parking) in
     let heads : s .wheel .stack .heads ≡ t .wheel .stack .heads =
     f (s .wheel .stack .heads ≡ t .wheel .stack .heads) (List-discrete (List-discrete ℕ-discrete) (s .wheel .stack .heads) (t .wheel .stack .heads))
     (λ e. ap (λ (x : QueueWords). x .wheel .stack .heads) e)
@@ -59,7 +60,7 @@ same-store s t f =
     λ i.
     queueWords
     (wheelWords (elapsed i) (occupied i)
-    (stackWords (record { n = n i; expired = expired i; free = free i }) (heads i) (links (nexts i) (prevs i) (marks i))))
+    (stackWords (record { n = n i; expired = expired i; free = free i; parking = parking i }) (heads i) (links (nexts i) (prevs i) (marks i))))
     (values i)
     (deadlines i)
     (turns i)

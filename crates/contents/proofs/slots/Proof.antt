@@ -1,17 +1,17 @@
--- `slots` meets its contract: every turn passes one slot.
+-- `slots` meets its contract: every turn passes one slot, the last one the parking list.
 use borrow.Author.Needs.{needs}
 use mathlib.Core.Path.{_≡_}
 use Prim.Native.Nat.{_≤_, _-_}
 use lib.ListN.{length}
-use Rattle.stack.specs.Places.{slots}
+use Rattle.stack.specs.Places.{expired}
 use Rattle.contents.proofs.slots.Statement.{statement}
 use Rattle.contents.proofs.slots.Tie as tie
 
 abbrev Inv-loop : tie.InvT-loop
-Inv-loop out₀ heads nexts n tops p₀ place₀ out p place = (place ≤ slots) × (length out ≡ length out₀)
+Inv-loop out₀ heads nexts n tops p₀ place₀ out p place = (place ≤ expired) × (length out ≡ length out₀)
 
 abbrev μ-loop : tie.MeasureT-loop
-μ-loop out₀ heads nexts n tops p₀ place₀ out p place = slots - place
+μ-loop out₀ heads nexts n tops p₀ place₀ out p place = expired - place
 
 loop-holds : tie.Need-loop-holds Inv-loop μ-loop
 loop-holds c = search needs

@@ -13,8 +13,8 @@ use Rattle.stack.specs.Words.{headAt}
 use Rattle.stack.proofs.laws.Heads.{head-expired}
 use Rattle.stack.proofs.laws.Whole as stack-laws
 use Rattle.wheel.proofs.laws.Between.{rule-between}
-use Rattle.wheel.specs.Expiration.{NotPassed}
-use Rattle.wheel.proofs.laws.Expiration.{between-passed}
+use Rattle.wheel.specs.Expiration.{CanLook}
+use Rattle.wheel.proofs.laws.Turns.{wheel-asks, wheel-sees}
 use Rattle.wheel.specs.declared.Wheel.{Wheel}
 use Rattle.queue.specs.declared.Answer.{Answer}
 use Rattle.queue.specs.declared.Answer.the-variants as A
@@ -139,24 +139,31 @@ whole-claim P = record { bad = P .bad; good = λ S. polls-whole S (omega arith) 
 
 -- ---- next wake and length
 
-pub not-passed : {s : QueueWords} → Sound s × AtRest s → NotPassed (elapsed s) (s .wheel .occupied)
-not-passed F = between-passed (rule-between (F .0 .rule .free (F .1))) (F .0 .standing .whole .rows)
+pub can-look : {s : QueueWords} → Sound s × AtRest s
+    → CanLook (elapsed s) (s .wheel .occupied) (s .deadlines) (s .wheel .stack .stacks .parking)
+can-look {s} F =
+    let S = F .0 in
+    wheel-asks (S .standing .whole) (rule-between (S .rule .free (F .1))) (s .deadlines) (S .standing .fits .room .deadlines)
 
 -- the words of a sound store are those of its view
-shows : {s : QueueWords} → Sound s → Shows (elapsed s) (s .wheel .occupied) (s .wheel .stack .stacks .expired) (view s)
-shows {s} S =
+abbrev pub ShowsOf : QueueWords → View → Type 0
+ShowsOf s v = let st = s .wheel .stack .stacks in Shows (elapsed s) (s .wheel .occupied) (s .deadlines) (st .expired) (st .parking) v
+
+shows : {s : QueueWords} → Sound s × AtRest s → ShowsOf s (view s)
+shows {s} F =
+    let S = F .0 in
     let W = S .standing .whole .stack in
     let head : headAt (s .wheel .stack) expired ≡ s .wheel .stack .stacks .expired = head-expired (s .wheel .stack .stacks) (s .wheel .stack .heads) in
     record {
       elapsed = refl;
-      rows = S .standing .whole .rows;
+      wheel = wheel-sees (S .standing .whole) (rule-between (S .rule .free (F .1)));
       empty = λ z. stack-laws.list-empty W expired (head ∙ z);
       first = λ d. rw head at (stack-laws.list-cons W expired (λ z. d (sym head ∙ z)));
     }
 
-pub wake-done : {s : QueueWords} {a : Answer} → Sound s
-    → ((v : View) → Shows (elapsed s) (s .wheel .occupied) (s .wheel .stack .stacks .expired) v → NextWake v (told a)) → WakeOn s a
-wake-done {s} S f = record { done = f (view s) (shows S) }
+pub wake-done : {s : QueueWords} {a : Answer} → Sound s × AtRest s
+    → ((v : View) → ShowsOf s v → NextWake v (told a)) → WakeOn s a
+wake-done {s} F f = record { done = f (view s) (shows F) }
 
 pub marks-long : {s : QueueWords} → Sound s → count s ≤ length (s .wheel .stack .links .marks)
 marks-long S = stack-laws.room (S .standing .whole .stack) .marks

@@ -11,7 +11,7 @@ use Rattle.row.proofs.laws.Rows.{row-none}
 use Rattle.links.specs.Lists.{Mem, nobody, change}
 use Rattle.links.proofs.laws.Lists.{change-other}
 use Rattle.links.specs.Links.{at}
-use Rattle.stack.specs.Places.{slotPlace, expired, free}
+use Rattle.stack.specs.Places.{slotPlace, parking, expired, free}
 use Rattle.stack.specs.Words.{StackWords}
 use Rattle.stack.specs.Format.{over, range, formatted}
 use Rattle.stack.proofs.laws.Format.{over-step, over-at, over-kept, length-over, format-kept, format-whole, format-lists}
@@ -111,7 +111,7 @@ module _ (s : QueueWords) {n turn : ℕ} (F : Fits (slices s) n) (T : InRange tu
   is : stack.lists made ≡ change (λ p. []) free (range n 0)
   is = format-lists n _ _ _ (F .some) small (F .room .links)
 
-  -- no slot and no expired stack has a member
+  -- no list of timers has a member
   empty : (p : ℕ) → p < free → stack.lists made p ≡ []
   empty p h = ap (λ L. L p) is ∙ change-other (λ q. []) free (range n 0) p (omega arith)
 
@@ -156,6 +156,7 @@ module _ (s : QueueWords) {n turn : ℕ} (F : Fits (slices s) n) (T : InRange tu
         rule = record {
           free = λ _. record {
             wheel = λ p x h m. absurd (nobody-in p x (omega arith) m);
+            parked = λ x m. absurd (nobody-in parking x (omega arith) m);
             stack = λ x m. absurd (nobody-in expired x (omega arith) m);
           };
           inside = λ d. absurd (d refl);

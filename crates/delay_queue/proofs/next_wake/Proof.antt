@@ -1,6 +1,6 @@
 -- `next_wake` meets its claim: the judge's answer decides, and on a sound store it is what `queue::next_wake` answers.
 use borrow.Author.Needs.{needs}
-use Rattle.delay_queue.proofs.laws.Back.{no-free, taken-alone, not-passed, wake-done}
+use Rattle.delay_queue.proofs.laws.Back.{no-free, taken-alone, can-look, wake-done}
 use Rattle.delay_queue.proofs.next_wake.Statement.{statement}
 use Rattle.delay_queue.proofs.next_wake.Tie as tie
 
@@ -16,13 +16,13 @@ returns c = no-free (c .before .free-no .ensures) (c .if1 .taken)
 next-wake-requires : tie.Need-next-wake-requires
 next-wake-requires c κs =
     let else1 = to-else1 c in
-    not-passed (else1 .before .free-no .ensures .taken (else1 .if1 .left))
+    can-look (else1 .before .free-no .ensures .taken (else1 .if1 .left))
 
 returns-2 : tie.Need-returns-2
 returns-2 c =
     let else1 = to-else1 (c .before) in
     let F = else1 .before .free-no .ensures .taken (else1 .if1 .left) in
-    taken-alone F (wake-done (F .0) (c .next-wake .ensures))
+    taken-alone F (wake-done F (c .next-wake .ensures))
 
 pub next-wake-spec : {M : Type 1} → statement M
 next-wake-spec = tie.close (tie.spec free-no-requires returns next-wake-requires returns-2)

@@ -1,7 +1,7 @@
 -- `freely` meets its contract: the store is sound again, whichever call it was.
 use borrow.Author.Needs.{needs}
 use mathlib.Core.Path.{refl}
-use Rattle.delay_queue.proofs.laws.Back.{not-passed}
+use Rattle.delay_queue.proofs.laws.Back.{can-look}
 use Rattle.harness.proofs.laws.Stays.{insert-stays, reset-stays, remove-stays}
 use Rattle.harness.proofs.freely.Statement.{statement}
 use Rattle.harness.proofs.freely.Tie as tie
@@ -46,11 +46,12 @@ remove-start c =
     let e = d .before .before .before .before in
     e .before .before .before
 
-abbrev wake-start : tie.After-next-wake-arg2 → tie.Start
+abbrev wake-start : tie.After-next-wake-arg4 → tie.Start
 wake-start c =
     let a = c .before .before .before .before in
     let b = a .before .before .before .before in
-    b .before .before .before
+    let d = b .before .before .before .before in
+    d .before
 
 insert-requires : tie.Need-insert-requires
 insert-requires c κs = search needs
@@ -133,8 +134,14 @@ returns-3 c =
 element-copy-out-next-wake : tie.Need-element-copy-out-next-wake
 element-copy-out-next-wake c = search needs
 
+element-copy-out-next-wake-2 : tie.Need-element-copy-out-next-wake-2
+element-copy-out-next-wake-2 c = search needs
+
 next-wake-requires : tie.Need-next-wake-requires
-next-wake-requires c κs = not-passed (wake-start c .pre, refl)
+next-wake-requires c κs = can-look (wake-start c .pre, refl)
+
+same-length-19 : tie.Need-same-length-19
+same-length-19 c = search needs
 
 returns-4 : tie.Need-returns-4
 returns-4 c = search needs
@@ -168,5 +175,7 @@ freely-spec =
     same-length-18
     returns-3
     element-copy-out-next-wake
+    element-copy-out-next-wake-2
     next-wake-requires
+    same-length-19
     returns-4)

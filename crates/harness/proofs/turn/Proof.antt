@@ -1,7 +1,7 @@
 -- `turn` meets its contract: the store is sound again, whichever call it was.
 use borrow.Author.Needs.{needs}
 use mathlib.Core.Path.{refl}
-use Rattle.delay_queue.proofs.laws.Back.{not-passed}
+use Rattle.delay_queue.proofs.laws.Back.{can-look}
 use Rattle.harness.proofs.laws.Stays.{insert-stays, reset-stays, remove-stays, whole-stays}
 use Rattle.harness.proofs.turn.Statement.{statement}
 use Rattle.harness.proofs.turn.Tie as tie
@@ -174,14 +174,20 @@ returns-4 c =
 element-copy-out-next-wake : tie.Need-element-copy-out-next-wake
 element-copy-out-next-wake c = search needs
 
+element-copy-out-next-wake-2 : tie.Need-element-copy-out-next-wake-2
+element-copy-out-next-wake-2 c = search needs
+
 next-wake-requires : tie.Need-next-wake-requires
 next-wake-requires c κs =
-    let else4 = c .before .before in
+    let else4 = c .before .before .before .before in
     let start = to-start (to-slice-known6-2 (else4 .before .before .before)) in
-    not-passed (start .pre, refl)
+    can-look (start .pre, refl)
 
 told-requires : tie.Need-told-requires
 told-requires c κs = search needs
+
+same-length-25 : tie.Need-same-length-25
+same-length-25 c = search needs
 
 returns-5 : tie.Need-returns-5
 returns-5 c = search needs
@@ -240,6 +246,8 @@ turn-spec =
     same-length-24
     returns-4
     element-copy-out-next-wake
+    element-copy-out-next-wake-2
     next-wake-requires
     told-requires
+    same-length-25
     returns-5)

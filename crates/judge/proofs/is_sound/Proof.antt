@@ -3,7 +3,7 @@ use borrow.Author.Needs.{needs}
 use native.Mathlib.Omega.{arith}
 use borrow.Author.Tests.{not-true, not-false}
 use Rattle.contracts.proofs.laws.Tells.{tells-no}
-use Rattle.judge.proofs.laws.Judge.{sound-judged, judged-rest, judged-mid, start-of}
+use Rattle.judge.proofs.laws.Judge.{sound-judged, judged-rest, judged-mid}
 use Rattle.judge.proofs.Rows.{shaped}
 use Rattle.judge.proofs.is_sound.Statement.{statement}
 use Rattle.judge.proofs.is_sound.Tie as tie
@@ -75,34 +75,33 @@ returns-6 c =
 level-of-requires : tie.Need-level-of-requires
 level-of-requires c κs = search needs
 
-slot-of-requires : tie.Need-slot-of-requires
-slot-of-requires c κs = search needs
-
-slot-start-requires : tie.Need-slot-start-requires
-slot-start-requires c κs =
-    let h = c .before .before in
+list-start-requires : tie.Need-list-start-requires
+list-start-requires c κs =
+    let h = c .before in
     let H = h .before .can-hold .ensures .yes (not-false _ (h .if6 .left)) in
-    (omega (arith, H .below, c .before .level-of .ensures), omega (arith, c .slot-of .ensures))
+    let f = h .before .before .before .before in
+    let e = roomed (f .before .before .before) in
+    (H .below, omega (arith, H .due, start (e .before .before .before) .good .0))
 
 sub-records-agree : tie.Need-sub-records-agree
 sub-records-agree c =
-    let h = c .before .before .before in
+    let h = c .before .before in
     let H = h .before .can-hold .ensures .yes (not-false _ (h .if6 .left)) in
-    omega (arith, H .high, c .before .before .level-of .ensures)
+    omega (arith, H .high, c .before .level-of .ensures)
 
 records-agree-requires-2 : tie.Need-records-agree-requires-2
 records-agree-requires-2 c κs =
-    let h = c .before .before .before in
+    let h = c .before .before in
     let H = h .before .can-hold .ensures .yes (not-false _ (h .if6 .left)) in
     let g = h .before .before .before .before in
     let e = roomed (g .before .before .before) in
     let R = e .before .has-room .ensures .yes (not-false _ (e .if2 .left)) in
-    (omega (arith, H .below, c .before .before .level-of .ensures), R .deadlines, R .turns, R .links .marks)
+    (omega (arith, H .below, c .before .level-of .ensures), R .deadlines, R .turns, R .links .marks)
 
 returns-7 : tie.Need-returns-7
 returns-7 c =
     let o = c .before in
-    let h = o .before .before .before in
+    let h = o .before .before in
     let g = h .before .before .before .before in
     let w = g .before .before in
     let e = roomed (w .before) in
@@ -112,8 +111,7 @@ returns-7 c =
       room = e .before .has-room .ensures .yes (not-false _ (e .if2 .left));
     })
     (w .is-whole .ensures .yes (not-false _ (g .before .if3 .left))) (g .if4 .left) (h .before .can-hold .ensures .yes (not-false _ (h .if6 .left))) _ _
-    (o .before .before .level-of .ensures) (start-of _ _ (o .before .before .level-of .ensures) (o .before .slot-of .ensures) (o .slot-start .ensures))
-    (c .records-agree2 .ensures)
+    (o .before .level-of .ensures) (o .list-start .ensures) (c .records-agree2 .ensures)
 
 pub is-sound-spec : {M : Type 1} → statement M
 is-sound-spec =
@@ -130,8 +128,7 @@ is-sound-spec =
     can-hold-requires
     returns-6
     level-of-requires
-    slot-of-requires
-    slot-start-requires
+    list-start-requires
     sub-records-agree
     records-agree-requires-2
     returns-7)

@@ -3,7 +3,7 @@ use mathlib.Core.Path.{_≡_, sym, ap, _∙_, subst}
 use mathlib.Core.Logic.{_≢_, inl, inr, ⊎-elim, by-cases}
 use mathlib.Core.Bool.{Bool, true}
 use mathlib.Core.List.{List, nil≢cons}
-use Prim.Native.Nat.{ℕ, suc, _+_, _-_, _%_, _^_, _≤_, _<_, max}
+use Prim.Native.Nat.{ℕ, zero, suc, _+_, _-_, _%_, _^_, _≤_, _<_, max}
 use native.Mathlib.Decide.{ℕ-discrete}
 use native.Mathlib.Omega.{arith}
 use lib.Dec.{eqb, ltb}
@@ -11,15 +11,17 @@ use borrow.Author.Count.{below-more}
 use borrow.Author.Tests.{ltb-true, ltb-false}
 use Rattle.contracts.specs.Tells.{Tells}
 use Rattle.contracts.proofs.laws.Tells.{tells-yes, tells-by, tells-eq}
-use Rattle.times.specs.Times.{width, slotOf, startAt, levelOf, block}
+use Rattle.times.specs.Times.{width, slotOf, startAt, levelOf, block, blockEnd}
+use Rattle.times.proofs.laws.Blocks.{end-later}
 use Rattle.links.specs.Lists.{Mem, nobody, firstD}
 use Rattle.links.specs.Links.{at}
-use Rattle.stack.specs.Places.{slotPlace, slots, expired, levelAt, slotAt}
+use Rattle.stack.specs.Places.{slotPlace, slots, parking, expired, levelAt, slotAt}
 use Rattle.stack.specs.Words.{headAt}
 use Rattle.stack.specs.Whole as stack
 use Rattle.stack.proofs.laws.Whole as stack-laws
 use Rattle.wheel.specs.Limited.{start}
-use Rattle.wheel.specs.Midway.{Belongs}
+use Rattle.wheel.specs.Midway.{Belongs, Parked}
+use Rattle.wheel.proofs.laws.Limited.{start-slot-at, start-parking}
 use Rattle.wheel.proofs.laws.Belongs.{belongs-wheel, hand-tests}
 use Rattle.wheel.specs.Words.{WheelWhole}
 use Rattle.records.specs.Records.{lastTurn}
@@ -52,23 +54,40 @@ module _ {low h c p w l : ℕ} (late : c ≤ w) (near : block w ≡ block c) (el
       tells-by (tells-eq p r) (λ q. record { late = late; near = near; place = inl (q ∙ is) })
       (λ B. ⊎-elim (λ q. q ∙ sym is) (λ q. absurd (n (q .0))) (B .place))
 
+-- on the parking list
+pub parked-hand : {h c w : ℕ} → h ≡ parking → Tells (Parked h c w) (eqb (block w) (block c))
+parked-hand {h} {c} {w} z =
+    tells-by (tells-eq (block w) (block c)) (λ q. record { aside = λ n. absurd (n z); inside = λ _. q }) (λ P. P .inside z)
+
+pub parked-aside : {h c w : ℕ} → h ≢ parking → Tells (Parked h c w) (eqb (block w) (block c + 1))
+parked-aside {h} {c} {w} n =
+    tells-by (tells-eq (block w) (block c + 1)) (λ q. record { aside = λ _. q; inside = λ z. absurd (n z) }) (λ P. P .aside n)
+
 module _ {low h c w t m : ℕ} (some : t ≢ 0) (last : t ≤ lastTurn) where
-  agrees : (m < slots → Belongs low h c m w) → (m ≡ expired → w ≡ c) → (m ≡ nobody → t ≡ lastTurn) → RecordAgrees low h c w t m
-  agrees f g k = record { some = omega arith; last = omega arith; wheel = f; stack = g; retired = k }
+  agrees : (m < slots → Belongs low h c m w) → (m ≡ parking → Parked h c w) → (m ≡ expired → w ≡ c) → (m ≡ nobody → t ≡ lastTurn)
+      → RecordAgrees low h c w t m
+  agrees f p g k = record { some = omega arith; last = omega arith; wheel = f; parked = p; stack = g; retired = k }
 
   pub record-slot : {b : Bool} → m < slots → Tells (Belongs low h c m w) b → Tells (RecordAgrees low h c w t m) b
-  record-slot i T = tells-by T (λ o. agrees (λ g. o) (λ q. absurd (omega arith)) (λ q. absurd (omega arith))) (λ R. R .wheel i)
+  record-slot i T =
+      tells-by T (λ o. agrees (λ g. o) (λ q. absurd (omega arith)) (λ q. absurd (omega arith)) (λ q. absurd (omega arith))) (λ R. R .wheel i)
+
+  pub record-parked : {b : Bool} → m ≡ parking → Tells (Parked h c w) b → Tells (RecordAgrees low h c w t m) b
+  record-parked i T =
+      tells-by T (λ o. agrees (λ g. absurd (omega arith)) (λ q. o) (λ q. absurd (omega arith)) (λ q. absurd (omega arith))) (λ R. R .parked i)
 
   pub record-stack : m ≡ expired → Tells (RecordAgrees low h c w t m) (eqb w c)
   record-stack i =
-      tells-by (tells-eq w c) (λ o. agrees (λ g. absurd (omega arith)) (λ q. o) (λ q. absurd (omega arith))) (λ R. R .stack i)
+      tells-by (tells-eq w c)
+      (λ o. agrees (λ g. absurd (omega arith)) (λ q. absurd (omega arith)) (λ q. o) (λ q. absurd (omega arith))) (λ R. R .stack i)
 
   pub record-retired : m ≡ nobody → Tells (RecordAgrees low h c w t m) (eqb t lastTurn)
   record-retired i =
-      tells-by (tells-eq t lastTurn) (λ o. agrees (λ g. absurd (omega arith)) (λ q. absurd (omega arith)) (λ q. o)) (λ R. R .retired i)
+      tells-by (tells-eq t lastTurn)
+      (λ o. agrees (λ g. absurd (omega arith)) (λ q. absurd (omega arith)) (λ q. absurd (omega arith)) (λ q. o)) (λ R. R .retired i)
 
-  pub record-aside : slots ≤ m → m ≢ expired → m ≢ nobody → RecordAgrees low h c w t m
-  record-aside i d n = agrees (λ g. absurd (omega arith)) (λ q. absurd (d q)) (λ q. absurd (n q))
+  pub record-aside : slots ≤ m → m ≢ parking → m ≢ expired → m ≢ nobody → RecordAgrees low h c w t m
+  record-aside i p d n = agrees (λ g. absurd (omega arith)) (λ q. absurd (p q)) (λ q. absurd (d q)) (λ q. absurd (n q))
 
 pub record-next : {low h c n : ℕ} (ds ts ms : List ℕ) → RecordsAgree low h c n ds ts ms → RecordAgrees low h c (at ds n) (at ts n) (at ms n)
     → RecordsAgree low h c (n + 1) ds ts ms
@@ -83,6 +102,7 @@ pub record Judged (s : QueueWords) : Type 0 where
   pub rest : AtRest s → (s .until ≡ 0) × RecordsAgree 0 nobody (elapsed s) (count s) (s .deadlines) (s .turns) (s .wheel .stack .links .marks)
   pub mid : MidPoll s
       → CanHold (elapsed s) (s .until) (s .hand) (headAt (s .wheel .stack) (s .hand)) (headAt (s .wheel .stack) expired)
+      (headAt (s .wheel .stack) parking)
       × RecordsAgree (levelAt (s .hand) - 1) (s .hand) (start (elapsed s) (s .hand)) (count s) (s .deadlines) (s .turns)
       (s .wheel .stack .links .marks)
 
@@ -90,14 +110,16 @@ module _ {s : QueueWords} where
   -- records by their marks, members by their lists
   module _ (T : Standing s) {low h c : ℕ} where
     by-marks : ((p x : ℕ) → p < slots → Mem x (view s .lists p) → Belongs low h c p (at (s .deadlines) x))
+        → ((x : ℕ) → Mem x (view s .lists parking) → Parked h c (at (s .deadlines) x))
         → ((x : ℕ) → Mem x (view s .lists expired) → at (s .deadlines) x ≡ c)
         → RecordsAgree low h c (count s) (s .deadlines) (s .turns) (s .wheel .stack .links .marks)
-    by-marks f g i k =
+    by-marks f j g i k =
         let W = T .whole .stack in
         record {
           some = T .turns i k .0;
           last = T .turns i k .1;
           wheel = λ m. f (markOf s i) i m (stack-laws.marked-member W i k (omega arith));
+          parked = λ m. j i (rw m at (stack-laws.marked-member W i k (omega arith)));
           stack = λ m. g i (rw m at (stack-laws.marked-member W i k (omega arith)));
           retired = λ m. T .retired i k (omega (arith, k, stack-laws.small W)) m;
         }
@@ -109,6 +131,9 @@ module _ {s : QueueWords} where
         let W = J .whole .stack in
         let e : markOf s x ≡ p = stack-laws.member-mark W p x m in
         rw e at (R x (stack-laws.member-below W p x m) .wheel (omega arith))
+
+    by-parked : (x : ℕ) → Mem x (view s .lists parking) → Parked h c (at (s .deadlines) x)
+    by-parked x m = let W = J .whole .stack in R x (stack-laws.member-below W parking x m) .parked (stack-laws.member-mark W parking x m)
 
     by-stack : (x : ℕ) → Mem x (view s .lists expired) → at (s .deadlines) x ≡ c
     by-stack x m = let W = J .whole .stack in R x (stack-laws.member-below W expired x m) .stack (stack-laws.member-mark W expired x m)
@@ -130,8 +155,11 @@ module _ {s : QueueWords} where
         fits = T .fits;
         whole = T .whole;
         rest = λ z.
-            let R = S .rule .free z in
-            (S .no-now z, by-marks T (λ p x h m. belongs-wheel nobody (elapsed s) p (at (s .deadlines) x) h (omega arith) .0 (R .wheel p x h m)) (R .stack));
+            let R = S .rule .free z in (
+              S .no-now z,
+              by-marks T (λ p x h m. belongs-wheel nobody (elapsed s) p (at (s .deadlines) x) h (omega arith) .0 (R .wheel p x h m))
+                  (λ x m. record { aside = λ _. R .parked x m; inside = λ q. absurd (omega (arith, q)) }) (R .stack),
+            );
         mid = λ d.
             let H = hand-tests (at (s .deadlines)) (s .until) (s .hand) (elapsed s) (view s .lists) .0 (S .rule .inside d) in
             let f = H .filled in (
@@ -142,9 +170,9 @@ module _ {s : QueueWords} where
                 stack = stack-laws.head-first W expired ∙ ap (firstD nobody) (H .stack);
                 late = H .late;
                 due = H .due;
-                own = H .own;
+                own = λ z. (H .own z .0, λ w. (H .own z .1 w .0, stack-laws.head-first W parking ∙ ap (firstD nobody) (H .own z .1 w .1)));
               },
-              by-marks T (H .each) (λ x m. absurd (subst (Mem x) (H .stack) m)),
+              by-marks T (H .each) (H .parked) (λ x m. absurd (subst (Mem x) (H .stack) m)),
             );
       }
 
@@ -162,6 +190,7 @@ module _ {s : QueueWords} where
             rule = record {
               free = λ _. record {
                 wheel = λ p x h m. belongs-wheel nobody (elapsed s) p (at (s .deadlines) x) h (omega arith) .1 (by-lists J (R .1) p x h m);
+                parked = λ x m. by-parked J (R .1) x m .aside (λ q. omega (arith, q));
                 stack = by-stack J (R .1);
               };
               inside = λ d. absurd (d z);
@@ -186,7 +215,8 @@ module _ {s : QueueWords} where
                 late = C .late;
                 due = C .due;
                 each = by-lists J (R .1);
-                own = C .own;
+                parked = by-parked J (R .1);
+                own = λ z. (C .own z .0, λ w. (C .own z .1 w .0, stack-laws.list-empty W parking (C .own z .1 w .1)));
               });
             };
             no-now = λ z. absurd (d z);
@@ -202,6 +232,7 @@ module _ {s : QueueWords} (F : Fits (slices s) (count s)) (W : WheelWhole (s .wh
       (λ S. sound-judged S .rest z .1)
 
   pub judged-mid : MidPoll s → CanHold (elapsed s) (s .until) (s .hand) (headAt (s .wheel .stack) (s .hand)) (headAt (s .wheel .stack) expired)
+      (headAt (s .wheel .stack) parking)
       → (k c : ℕ) → k ≡ levelAt (s .hand) → c ≡ start (elapsed s) (s .hand)
       → Tells (RecordsAgree (k - 1) (s .hand) c (count s) (s .deadlines) (s .turns) (s .wheel .stack .links .marks)) b → Tells (Sound s) b
   judged-mid d H k c ek ec T =
@@ -212,38 +243,74 @@ module _ {s : QueueWords} (F : Fits (slices s) (count s)) (W : WheelWhole (s .wh
 -- ---- a poll in hand
 
 -- the start of a slot, as the code computes it
-pub start-of : (e p : ℕ) {k s c : ℕ} → k ≡ levelAt p → s ≡ slotAt p → c ≡ startAt e k s → c ≡ start e p
-start-of e p ek es ec = ec ∙ rw (ek, es)
+pub start-of : (e p : ℕ) {k s c : ℕ} → p ≢ parking → k ≡ levelAt p → s ≡ slotAt p → c ≡ startAt e k s → c ≡ start e p
+start-of e p {k} {s} n ek es ec =
+    let a : startAt e k s ≡ startAt e (levelAt p) (slotAt p) = rw (ek, es) in
+    ec ∙ a ∙ sym (start-slot-at e p n)
 
-pub own-told : {k a : ℕ} (e : ℕ) → a ≡ suc k → e % 2 ^ 36 ≢ 0 → {r : ℕ} → r ≡ width a → Tells (OwnStart k e) (eqb (e % r) 0)
+-- at a block's start
+six-whole : (k e : ℕ) → k < 6 → e % 2 ^ 36 ≡ 0 → e % width (suc k) ≡ 0
+unfolding width
+six-whole zero e h z = omega (arith, z)
+six-whole (suc zero) e h z = omega (arith, z)
+six-whole (suc (suc zero)) e h z = omega (arith, z)
+six-whole (suc (suc (suc zero))) e h z = omega (arith, z)
+six-whole (suc (suc (suc (suc zero)))) e h z = omega (arith, z)
+six-whole (suc (suc (suc (suc (suc zero))))) e h z = omega (arith, z)
+six-whole (suc (suc (suc (suc (suc (suc k)))))) e h z = absurd (omega (arith, h))
+
+pub own-block : {k e parked : ℕ} → k < 6 → e % 2 ^ 36 ≡ 0 → e ≢ 0 → Tells (OwnStart k e parked) (eqb parked nobody)
+own-block {k} {e} {parked} h z n =
+    tells-by (tells-eq parked nobody) (λ q. (six-whole k e h z, λ _. (omega (arith, n), q))) (λ o. o .1 z .1)
+
+pub own-told : {k a parked : ℕ} (e : ℕ) → a ≡ suc k → e % 2 ^ 36 ≢ 0 → {r : ℕ} → r ≡ width a → Tells (OwnStart k e parked) (eqb (e % r) 0)
 own-told {k} {a} e ea n {r} er =
     let z : e % r ≡ e % width (suc k) = ap (λ (j : ℕ). e % j) (er ∙ ap width ea) in
-    tells-by (tells-eq (e % r) 0) (λ q. (sym z ∙ q, n)) (λ o. z ∙ o .0)
+    tells-by (tells-eq (e % r) 0) (λ q. (sym z ∙ q, λ w. absurd (n w))) (λ o. z ∙ o .0)
 
-pub own-top : {k a : ℕ} (e : ℕ) → a ≡ suc k → a ≡ 6 → e % 2 ^ 36 ≢ 0 → OwnStart k e → ⊥
+pub own-top : {k a parked : ℕ} (e : ℕ) → a ≡ suc k → a ≡ 6 → e % 2 ^ 36 ≢ 0 → OwnStart k e parked → ⊥
 unfolding width
 own-top {k} {a} e ea z n o = n (ap (λ (j : ℕ). e % width j) (sym z ∙ ea) ∙ o .0)
 
-module _ {e until p head first : ℕ} (below : p < slots) (high : levelAt p ≢ 0) (filled : head ≢ nobody) (stack : first ≡ nobody) {c : ℕ}
-    (ec : c ≡ start e p) (due : c ≤ until) where
-  holds : e ≤ c → (c ≡ e → OwnStart (levelAt p) e) → CanHold e until p head first
-  holds l o =
+module _ {e until p head first parked : ℕ} (below : p < expired) (high : levelAt p ≢ 0) (filled : head ≢ nobody) (stack : first ≡ nobody) where
+  -- the parking list
+  pub hold-parking : p ≡ parking → Tells (CanHold e until p head first parked) (ltb (block e) (block until))
+  unfolding blockEnd
+  hold-parking z =
+      let a : start e p ≡ blockEnd e = ap (start e) z ∙ start-parking e in
       record {
-        below = below;
-        high = omega (arith, high);
-        filled = filled;
-        stack = stack;
-        late = omega (arith, l, ec);
-        due = omega (arith, due, ec);
-        own = λ z. o (ec ∙ z);
+        yes = λ q.
+            record {
+              below = below;
+              high = omega (arith, high);
+              filled = filled;
+              stack = stack;
+              late = omega (arith, a, end-later e);
+              due = omega (arith, a, ltb-true (block e) (block until) q);
+              own = λ w. absurd (omega (arith, a, w, end-later e));
+            };
+        no = λ q H. omega (arith, ltb-false (block e) (block until) q, H .due, a);
       }
 
-  pub hold-own : c ≡ e → {b : Bool} → Tells (OwnStart (levelAt p) e) b → Tells (CanHold e until p head first) b
-  hold-own z T = tells-by T (λ o. holds (omega (arith, z)) (λ _. o)) (λ H. H .own (sym ec ∙ z))
+  module _ {c : ℕ} (ec : c ≡ start e p) (due : c ≤ until) where
+    holds : e ≤ c → (c ≡ e → OwnStart (levelAt p) e parked) → CanHold e until p head first parked
+    holds l o =
+        record {
+          below = below;
+          high = omega (arith, high);
+          filled = filled;
+          stack = stack;
+          late = omega (arith, l, ec);
+          due = omega (arith, due, ec);
+          own = λ z. o (ec ∙ z);
+        }
 
-  pub hold-later : c ≢ e → Tells (CanHold e until p head first) (ltb e c)
-  hold-later n =
-      record {
-        yes = λ q. holds (omega (arith, ltb-true e c q)) (λ z. absurd (n z));
-        no = λ q H. omega (arith, ltb-false e c q, H .late, ec, n);
-      }
+    pub hold-own : c ≡ e → {b : Bool} → Tells (OwnStart (levelAt p) e parked) b → Tells (CanHold e until p head first parked) b
+    hold-own z T = tells-by T (λ o. holds (omega (arith, z)) (λ _. o)) (λ H. H .own (sym ec ∙ z))
+
+    pub hold-later : c ≢ e → Tells (CanHold e until p head first parked) (ltb e c)
+    hold-later n =
+        record {
+          yes = λ q. holds (omega (arith, ltb-true e c q)) (λ z. absurd (n z));
+          no = λ q H. omega (arith, ltb-false e c q, H .late, ec, n);
+        }

@@ -3,7 +3,7 @@ use borrow.Author.Needs.{needs}
 use native.Mathlib.Omega.{arith}
 use Rattle.stack.proofs.laws.Asked.{below, past}
 use Rattle.contracts.proofs.laws.Tells.{tells-yes, tells-no}
-use Rattle.judge.proofs.laws.Judge.{record-slot, record-stack, record-retired, record-aside}
+use Rattle.judge.proofs.laws.Judge.{record-slot, record-parked, record-stack, record-retired, record-aside}
 use Rattle.judge.proofs.record_agrees.Statement.{statement}
 use Rattle.judge.proofs.record_agrees.Tie as tie
 
@@ -24,23 +24,33 @@ returns-3 c =
     let s = c .before .before in
     record-slot (s .before .before .if1 .left) (s .before .if2 .left) (below (s .is-slot .ensures) (c .before .if3 .taken)) (c .is-place .ensures)
 
+is-parked-requires : tie.Need-is-parked-requires
+is-parked-requires c κs = search needs
+
 returns-4 : tie.Need-returns-4
 returns-4 c =
-    let s = c .before .before in
-    record-stack (s .before .before .if1 .left) (s .before .if2 .left) (c .if4 .taken)
+    let s = c .before .before .before in
+    record-parked (s .before .before .if1 .left) (s .before .if2 .left) (c .before .if4 .taken) (c .is-parked .ensures)
 
 returns-5 : tie.Need-returns-5
 returns-5 c =
     let s = c .before .before .before in
-    record-retired (s .before .before .if1 .left) (s .before .if2 .left) (c .if5 .taken)
+    record-stack (s .before .before .if1 .left) (s .before .if2 .left) (c .if5 .taken)
 
 returns-6 : tie.Need-returns-6
 returns-6 c =
-    let s = c .before .before .before in
+    let s = c .before .before .before .before in
+    record-retired (s .before .before .if1 .left) (s .before .if2 .left) (c .if6 .taken)
+
+returns-7 : tie.Need-returns-7
+returns-7 c =
+    let p = c .before .before in
+    let s = p .before .before in
     tells-yes
-    (record-aside (s .before .before .if1 .left) (s .before .if2 .left) (past (s .is-slot .ensures) (c .before .before .if3 .left))
-    (c .before .if4 .left) (c .if5 .left))
+    (record-aside (s .before .before .if1 .left) (s .before .if2 .left) (past (s .is-slot .ensures) (p .before .if3 .left))
+    (p .if4 .left) (c .before .if5 .left) (c .if6 .left))
 
 pub record-agrees-spec : {M : Type 1} → statement M
 record-agrees-spec =
-    tie.close (tie.spec returns returns-2 is-slot-requires is-place-requires returns-3 returns-4 returns-5 returns-6)
+    tie.close
+    (tie.spec returns returns-2 is-slot-requires is-place-requires returns-3 is-parked-requires returns-4 returns-5 returns-6 returns-7)

@@ -1,4 +1,5 @@
--- `cancel_twice` meets its contract: the claims of its two calls go into one law, `cancels-on`, and the rest is found.
+-- `cancel_twice` meets its contract: the claims of its two calls go into one law, `cancels-on`; both keep the length of `nexts`, and the rest is found.
+use mathlib.Core.Path.{_∙_}
 use borrow.Author.Needs.{needs}
 use Rattle.lending.proofs.laws.Lending.{cancels-on}
 use Rattle.lending.proofs.cancel_twice.Statement.{statement}
@@ -30,7 +31,9 @@ remove-requires-2 : tie.Need-remove-requires-2
 remove-requires-2 c κs = search needs
 
 same-length : tie.Need-same-length
-same-length c = search needs
+same-length c =
+    let at-remove2 = to-remove2 c in
+    at-remove2 .remove2 .kept .1 .1 .1 .1 .0 ∙ to-remove (to-rows-of at-remove2) .remove .kept .1 .1 .1 .1 .0
 
 same-length-2 : tie.Need-same-length-2
 same-length-2 c = search needs

@@ -6,10 +6,10 @@ use mathlib.Core.List.{List, [], _∷_, nil≢cons}
 use mathlib.Core.Option.{Option, none, some}
 use Prim.Native.Nat.{ℕ, suc, _+_, _-_, _≤_, _<_}
 use native.Mathlib.Omega.{arith}
-use native.Mathlib.Decide.{ℕ-discrete}
+use native.Mathlib.Decide.{ℕ-discrete, decLt}
 use Rattle.links.specs.Lists.{nobody, Mem, change}
 use Rattle.links.proofs.laws.Lists.{change-other}
-use Rattle.stack.specs.Places.{slotPlace, slots, expired, free, levelAt}
+use Rattle.stack.specs.Places.{slots, parking, expired, free, levelAt}
 use Rattle.wheel.specs.Wheel.{Lists, Rule, arrive}
 use Rattle.wheel.specs.Sums.{sumOf, total}
 use Rattle.wheel.specs.Drain.{heights}
@@ -18,6 +18,7 @@ use Rattle.wheel.specs.Limited.{Outcome, ended as stopped, yet, Limited, rests,
 use Rattle.wheel.specs.Turns.{gotten}
 use Rattle.wheel.proofs.laws.Sums.{total-less, total-ext}
 use Rattle.wheel.proofs.laws.Between.{rule-between}
+use Rattle.wheel.proofs.laws.Next.{list-some}
 use Rattle.wheel.proofs.laws.Drain.{amount}
 use Rattle.wheel.proofs.laws.Poll.{Promise, poll-law}
 use Rattle.wheel.proofs.laws.Limited.{limited-polls}
@@ -65,13 +66,20 @@ unfolding slack
 drains-few (rests E) = omega arith
 drains-few (waits F h) = omega arith
 drains-few (hands F h i) = omega arith
-drains-few (finds {k = k} {s = s} {L = L} F h r) = omega (arith, drains-few r, slack-none (slotPlace (suc k) s) L (F .filled))
+drains-few (finds {p = p} {L = L} X h r) = omega (arith, drains-few r, slack-none p L (list-some X .2))
 drains-few (stops i) = omega arith
 drains-few {d} (moves {p = p} {x = x} {L = L} {l = l} i r) =
     omega (arith, drains-few r, slack-one p (arrive (levelAt p - 1) (d x) x (change L p l)))
 drains-few (empties {p = p} {L = L} i r) = omega (arith, drains-few r, slack-empty p L i)
 
 -- ---- the view
+
+-- what waits in a slot or is parked is not before elapsed
+pub not-before : {d : ℕ → ℕ} {e : ℕ} {L : Lists} → Rule d e L → (p y : ℕ) → p < expired → Mem y (L p) → e ≤ d y
+not-before R p y h m =
+    by-cases (decLt p slots)
+    (λ g. R .wheel p y g m .late)
+    (λ g. let z : p ≡ parking = omega (arith, h, g) in omega (arith, R .parked y (rw z at m)))
 
 weigh-split : (w : ℕ → ℕ) (L : Lists) → total (λ p x. w x) free L ≡ amount w L + sumOf w (L expired)
 unfolding amount total
@@ -89,18 +97,18 @@ module _ {s : QueueWords} (S : Sound s) {now : ℕ} (K : PollTaken (view s) now)
   abbrev v : View
   v = view s
 
-  in-slot : v .lists expired ≡ [] → (y p : ℕ) → At v y p → (q : ℕ) × (q < slots) × Mem y (v .lists q)
-  in-slot empty y p a =
+  in-list : v .lists expired ≡ [] → (y p : ℕ) → At v y p → (q : ℕ) × (q < expired) × Mem y (v .lists q)
+  in-list empty y p a =
       by-cases (ℕ-discrete p expired)
       (λ e. absurd (rw (e, empty) at (a .member)))
       (λ d. (p, omega (arith, a .timed, d), a .member))
 
   fairly : v .lists expired ≡ [] → (g : Option ℕ) → Fair (v .deadline) now (v .lists) g → FairlyBy v now (stopped g)
-  fairly empty none f = λ y p a. f y (in-slot empty y p a)
+  fairly empty none f = λ y p a. f y (in-list empty y p a)
   fairly empty (some r) f = (
     (f .0 .0, record { timed = omega (arith, f .0 .1); member = f .0 .2 }),
     f .1,
-    λ y p a. f .2 y (in-slot empty y p a),
+    λ y p a. f .2 y (in-list empty y p a),
   )
 
   -- an ended poll keeps the whole poll's promise
@@ -145,13 +153,13 @@ module _ {s : QueueWords} (S : Sound s) {now : ℕ} (K : PollTaken (view s) now)
           omega (arith, d, K .later rest),
           λ y p a. by-cases (ℕ-discrete p expired)
               (λ z. omega (arith, d, R .stack y (rw z at (a .member))))
-              (λ n. omega (arith, d, R .wheel p y (omega (arith, a .timed, n)) (a .member) .late)),
+              (λ n. omega (arith, d, not-before R p y (omega (arith, a .timed, n)) (a .member))),
         );
         kept = λ w. omega (arith, total-less (λ p x. w x) free (v .lists) expired r l (omega arith) e);
         clock = omega (arith, d);
         counted = omega (
           arith,
-          total-ext (λ p x. levelAt p) slots (change (v .lists) expired l) (v .lists)
+          total-ext (λ p x. levelAt p) expired (change (v .lists) expired l) (v .lists)
               (λ p h. change-other (v .lists) expired l p (omega (arith, h))),
         );
         few = omega arith;

@@ -1,4 +1,4 @@
--- Demand 3 in its own sentences: each poll of a run reports the levels that were lost, all moves are at most five for each accepted insert or reset, and a
+-- Demand 3 in its own sentences: each poll of a run reports the levels that were lost, all moves are at most six for each accepted insert or reset, and a
 -- due timer is out or removed within as many accepted polls as timers were pending.
 use mathlib.Core.Path.{_≡_, refl, sym, ap, _∙_, subst}
 use mathlib.Core.Logic.{inl, ⊎-elim, by-cases}
@@ -12,11 +12,12 @@ use borrow.Author.Tests.{le-leb, lt-ltb, le-ltb}
 use Rattle.times.specs.Times.{slotOf}
 use Rattle.times.proofs.laws.Quotients.{slot-lt}
 use Rattle.links.specs.Lists.{nobody, Mem, change}
-use Rattle.stack.specs.Places.{slotPlace, slots, expired, levelAt}
+use Rattle.stack.specs.Places.{slotPlace, expired, levelAt}
 use Rattle.wheel.specs.Wheel.{Lists, arrive}
 use Rattle.wheel.specs.Limited.{Outcome, ended as stopped, yet, Limited, rests, waits, hands, finds, stops, moves, empties}
 use Rattle.wheel.specs.Turns.{gotten}
 use Rattle.wheel.proofs.laws.Turns.{got-none, got-some}
+use Rattle.wheel.proofs.laws.Next.{list-height}
 use Rattle.wheel.proofs.laws.Sums.{mem-left, mem-joined}
 use Rattle.wheel.specs.Drain.{heights}
 use Rattle.queue.specs.declared.Answer.the-variants as A
@@ -70,11 +71,11 @@ fresh-formatted {t} F = by (fits-dec (F .lent) (F .n)) (range-dec (F .turn))
 
 height-most : (p : ℕ) → heightAt p ≤ levelAt p
 height-most p =
-    by-cases (decLt p slots) (λ h. rw (lt-ltb p slots h) (omega arith)) (λ h. rw (le-ltb p slots (omega arith)) (omega arith))
+    by-cases (decLt p expired) (λ h. rw (lt-ltb p expired h) (omega arith)) (λ h. rw (le-ltb p expired (omega arith)) (omega arith))
 
 Below : Option ℕ → Type 0
 Below none = Unit {0}
-Below (some p) = p < slots
+Below (some p) = p < expired
 
 -- who lies in a place after a call of the wheel lay as high or higher before it
 module _ {d : ℕ → ℕ} {now : ℕ} where
@@ -84,12 +85,12 @@ module _ {d : ℕ → ℕ} {now : ℕ} where
   limited-falls (rests E) h y q k = (q, k, omega arith)
   limited-falls (waits F g) h y q k = (q, k, omega arith)
   limited-falls (hands {s = s} {x = x} {L = L} {l = l} F g is) h y q k = (q, mem-left L (slotPlace 0 s) x l is q y k, omega arith)
-  limited-falls (finds {k = j} {s = s} F g r) h y q k = limited-falls r (omega (arith, F .within, F .is)) y q k
+  limited-falls (finds X g r) h y q k = limited-falls r (list-height X .1) y q k
   limited-falls (stops i) h y q k = (q, k, omega arith)
   limited-falls (moves {p = p} {x = x} {L = L} {l = l} i r) h y q k =
       let a = limited-falls r h y q k in
       let o = slotPlace (levelAt p - 1) (slotOf (d x) (levelAt p - 1)) in
-      let top : heightAt p ≡ levelAt p = rw (lt-ltb p slots h) refl in
+      let top : heightAt p ≡ levelAt p = rw (lt-ltb p expired h) refl in
       ⊎-elim
       (λ z.
       let low : heightAt (a .0) ≤ levelAt (a .0) = height-most (a .0) in
@@ -293,6 +294,7 @@ due-within {s} S k r p l u D enough =
 
 -- "The work is bounded. From a fresh store and any calls on it, each poll reports as many moves as the pending timers lost in levels during it, so all moves
 -- come to at most five for each accepted insert or reset. A timer that is due, .., is out or removed within as many accepted polls as timers were pending."
+-- 02 [12]: "Demand 3's five becomes six."
 pub work-bounded : {t : QueueWords} → Fresh t → WorkBounded t
 work-bounded F =
     let M = fresh-formatted F in

@@ -1,6 +1,6 @@
--- "Chained calls give the whole poll's answer, store and summed counts" (02 [10]), whatever their limits, word for word, from any words (`chained`): a call that
--- says "not yet" and the rest of the poll behind it are the rest of the poll, and that is one thing only. So many calls it takes (`calls-exact`), and there are
--- such (`calls-met`); what a limit of 0 does (`limit-zero`).
+-- "Chained calls give the whole poll's answer, store and summed counts" (02 [10]), whatever their limits, word for word, from any words (`chained`): a call
+-- that says "not yet" and the rest of the poll behind it are the rest of the poll, and that is one thing only. So many calls it takes (`calls-exact`), and
+-- there are such (`calls-met`); what a limit of 0 does (`limit-zero`).
 use mathlib.Core.Path.{_≡_, refl, sym, ap, _∙_, subst}
 use mathlib.Core.Logic.{_⊎_, inl, inr, ⊎-elim, by-cases}
 use mathlib.Core.Bool.{false, true≢false}
@@ -16,6 +16,7 @@ use Rattle.wheel.specs.Wheel.{Lists}
 use Rattle.wheel.specs.Drain.{heights}
 use Rattle.wheel.specs.Limited.{ended as stopped, yet, Limited, finds, stops, empties}
 use Rattle.wheel.specs.Turns.{gotten}
+use Rattle.wheel.proofs.laws.Next.{list-some}
 use Rattle.wheel.proofs.laws.Limited.{yet-all, ended-few}
 use Rattle.wheel.proofs.laws.Single.{hand-moves}
 use Rattle.wheel.proofs.laws.Turns.{got-none, got-some}
@@ -288,7 +289,7 @@ Filled (some p) L = (x : ℕ) × (l : List ℕ) × (L p ≡ x ∷ l)
 -- it stops where it is
 zero-stops : {d : ℕ → ℕ} {now e p m n c : ℕ} {h : Option ℕ} {L N : Lists} → Filled h L → Limited d now h 0 e L (yet p) m n c N
     → (m ≡ 0) × (n ≡ 0) × (c ≡ e) × (N ≡ L)
-zero-stops f (finds F h r) = zero-stops (F .head, F .rest, F .filled) r
+zero-stops f (finds X h r) = zero-stops (list-some X) r
 zero-stops f (stops i) = (refl, refl, refl, refl)
 zero-stops f (empties i r) = absurd (nil≢cons (sym i ∙ f .2))
 

@@ -26,7 +26,7 @@ use Rattle.promises.specs.Polls.{PollAt, whole, limited}
 use Rattle.promises.proofs.laws.Does.{poll-done, poll-taken}
 use Rattle.promises.proofs.laws.TakesOut.{taken-later}
 use Rattle.promises.proofs.laws.Polling.{freed-beside, takes-works, goes-on-clock, goes-on-says, none-out}
-use Rattle.promises.proofs.laws.Refused.{refused-exactly, refused-listed}
+use Rattle.promises.proofs.laws.Refused.{refused-exactly, refused-listed, another}
 use Rattle.promises.proofs.laws.Views.{ViewGoes, refuses, formats, inserts, resets, removes, polls, wakes, counts, clears, call-goes}
 
 -- ---- a poll
@@ -110,17 +110,13 @@ other-stands c s a t A f =
 
 -- ---- who answers 7, and that nobody answers 10
 
--- k is not the first of these numbers, and none of the others
-another : {j k : ℕ} {B : Type 0} → k ≢ j → (B → ⊥) → (k ≡ j) ⊎ B → ⊥
-another d f x = ⊎-elim d f x
-
 -- past 6 the table has 8, 11 and 12 alone, and 7 for a poll
 unlisted : (k : ℕ) → 6 < k → k ≢ 8 → k ≢ 11 → k ≢ 12 → (c : Call) (s : QueueWords) → (isPoll c ≡ true → k ≢ 7) → Mem k (numbers (linesOf c s)) → ⊥
 unlisted k h d o w (C.Format n turn) s f = another (λ e. omega arith) (another d (λ x. x))
 unlisted k h d o w (C.Insert value when period) s f =
-    another (λ e. omega arith) (another w (another (λ e. omega arith) (another o (another (λ e. omega arith) (another (λ e. omega arith) (λ x. x))))))
+    another (λ e. omega arith) (another w (another (λ e. omega arith) (another o (another (λ e. omega arith) (λ x. x)))))
 unlisted k h d o w (C.Reset key when) s f =
-    another (λ e. omega arith) (another w (another (λ e. omega arith) (another o (another (λ e. omega arith) (another (λ e. omega arith) (λ x. x))))))
+    another (λ e. omega arith) (another w (another (λ e. omega arith) (another o (another (λ e. omega arith) (λ x. x)))))
 unlisted k h d o w (C.Remove key) s f = another (λ e. omega arith) (another w (another (λ e. omega arith) (λ x. x)))
 unlisted k h d o w (C.Poll now) s f = another (λ e. omega arith) (another w (another (f refl) (λ x. x)))
 unlisted k h d o w (C.PollSome now limit) s f = another (λ e. omega arith) (another w (another (f refl) (λ x. x)))

@@ -67,7 +67,12 @@ fam-agree {P} {n} {s} {t} {L} K F =
     }
 
 rule-agree : {d f : ℕ → ℕ} {e : ℕ} {L : Lists} → ((p x : ℕ) → Mem x (L p) → f x ≡ d x) → Rule d e L → Rule f e L
-rule-agree k R = record { wheel = λ p x h m. rw (k p x m) (R .wheel p x h m); stack = λ x m. k _ x m ∙ R .stack x m }
+rule-agree k R =
+    record {
+      wheel = λ p x h m. rw (k p x m) (R .wheel p x h m);
+      parked = λ x m. rw (k _ x m) (R .parked x m);
+      stack = λ x m. k _ x m ∙ R .stack x m;
+    }
 
 draining-agree : {d f : ℕ → ℕ} {k h e : ℕ} {L : Lists} → ((p x : ℕ) → Mem x (L p) → f x ≡ d x) → Draining d k h e L → Draining f k h e L
 draining-agree {h = h} a D =
@@ -76,6 +81,7 @@ draining-agree {h = h} a D =
       hand = λ y m. rw (a h y m) (D .hand y m);
       low = D .low;
       later = λ q y b n m g. rw (a q y m) (D .later q y b n m g);
+      parked = λ y n m. rw (a _ y m) (D .parked y n m);
     }
 
 obeys-agree : {d f : ℕ → ℕ} {u h e : ℕ} {L : Lists} → ((p x : ℕ) → Mem x (L p) → f x ≡ d x) → Obeys d u h e L → Obeys f u h e L

@@ -85,7 +85,6 @@ module _ {s t : QueueWords} {a : Answer} where
           full = λ e. refused-cut (I .full (free-seen S e));
           old = λ r l e f. refused-cut (I .old r l (free-seen S e) f);
           far = λ r l e f. refused-cut (I .far r l (free-seen S e) f);
-          other = λ r l e f. refused-cut (I .other r l (free-seen S e) f);
           done = λ r l e f.
               let h = free-below S r l (free-seen S e) in
               answered-cut S
@@ -101,7 +100,6 @@ module _ {s t : QueueWords} {a : Answer} where
           dead = λ f. refused-cut (R .dead (λ r p N. f r p (seen-names S N)));
           old = λ r p N f. refused-cut (R .old r p (names-seen S N) f);
           far = λ r p N f. refused-cut (R .far r p (names-seen S N) f);
-          other = λ r p N f. refused-cut (R .other r p (names-seen S N) f);
           done = λ r p N f.
               answered-cut S refl
               (reset-masked r p when (view s) (N .below) ∙ ap (λ v. placed r when (left p r v)) (sym (cut-view S)))

@@ -3,7 +3,7 @@ use mathlib.Core.Path.{_≡_}
 use mathlib.Core.Logic.{_⊎_, inl, inr, ⊎-elim, by-cases, Dec·and}
 use mathlib.Core.Bool.{true, Bool-discrete}
 use mathlib.Core.List.{List, []}
-use Prim.Native.Nat.{ℕ, zero, suc, _-_, _%_, _^_, _<_, _≤_, _*_, max}
+use Prim.Native.Nat.{ℕ, zero, suc, _+_, _-_, _%_, _^_, _<_, _≤_, _*_, max}
 use native.Mathlib.Decide.{ℕ-discrete, decLe, decLt, map-dec}
 use native.Mathlib.Omega.{arith}
 use lib.ListN.{length, getD}
@@ -11,14 +11,14 @@ use Rattle.times.specs.Times.{width, slotOf, levelOf, block}
 use Rattle.row.specs.Row.{rowOf}
 use Rattle.links.specs.Lists.{nobody}
 use Rattle.links.specs.Links.{at}
-use Rattle.stack.specs.Places.{slotPlace, slots, expired, levelAt}
+use Rattle.stack.specs.Places.{slotPlace, slots, parking, expired, levelAt}
 use Rattle.stack.specs.Words.{headAt}
 use Rattle.stack.specs.Heads.{Shape}
 use Rattle.stack.proofs.laws.Words.{judged}
 use Rattle.stack.specs.Judge.{held}
 use Rattle.stack.proofs.laws.Whole as stack-laws
 use Rattle.wheel.specs.Limited.{start}
-use Rattle.wheel.specs.Midway.{Belongs}
+use Rattle.wheel.specs.Midway.{Belongs, Parked}
 use Rattle.records.specs.Words.{QueueWords, count, elapsed, markOf, AtRest, MidPoll, Sound, slices}
 use Rattle.wheel.specs.Words.{WheelWords, WheelWhole}
 use Rattle.wheel.specs.Judged.{CanJudge}
@@ -103,23 +103,41 @@ belongs-dec low h c p w =
     (λ x. record { late = x .0 .0; near = x .0 .1; place = x .1 })
     (λ B. ((B .late, B .near), B .place))
 
+parked-dec : (h c w : ℕ) → Dec (Parked h c w)
+parked-dec h c w =
+    by-dec
+    (Dec·and (implies-dec (not-dec (ℕ-discrete h parking)) (ℕ-discrete (block w) (block c + 1)))
+    (implies-dec (ℕ-discrete h parking) (ℕ-discrete (block w) (block c))))
+    (λ x. record { aside = x .0; inside = x .1 })
+    (λ P. (P .aside, P .inside))
+
 agrees-dec : (low h c w t m : ℕ) → Dec (RecordAgrees low h c w t m)
 agrees-dec low h c w t m =
     by-dec
     (Dec·and (Dec·and (decLt 0 t) (decLt t (2 ^ 48)))
     (Dec·and (implies-dec (decLt m slots) (belongs-dec low h c m w))
-    (Dec·and (implies-dec (ℕ-discrete m expired) (ℕ-discrete w c)) (implies-dec (ℕ-discrete m nobody) (ℕ-discrete t lastTurn)))))
-    (λ x. record { some = x .0 .0; last = x .0 .1; wheel = x .1 .0; stack = x .1 .1 .0; retired = x .1 .1 .1 })
-    (λ R. ((R .some, R .last), (R .wheel, (R .stack, R .retired))))
+    (Dec·and (implies-dec (ℕ-discrete m parking) (parked-dec h c w))
+    (Dec·and (implies-dec (ℕ-discrete m expired) (ℕ-discrete w c)) (implies-dec (ℕ-discrete m nobody) (ℕ-discrete t lastTurn))))))
+    (λ x.
+    record {
+      some = x .0 .0;
+      last = x .0 .1;
+      wheel = x .1 .0;
+      parked = x .1 .1 .0;
+      stack = x .1 .1 .1 .0;
+      retired = x .1 .1 .1 .1;
+    })
+    (λ R. ((R .some, R .last), (R .wheel, (R .parked, (R .stack, R .retired)))))
 
-hold-dec : (e until p head first : ℕ) → Dec (CanHold e until p head first)
-hold-dec e until p head first =
+hold-dec : (e until p head first parked : ℕ) → Dec (CanHold e until p head first parked)
+hold-dec e until p head first parked =
     by-dec
-    (Dec·and (Dec·and (decLt p slots) (decLt 0 (levelAt p)))
+    (Dec·and (Dec·and (decLt p expired) (decLt 0 (levelAt p)))
     (Dec·and (Dec·and (not-dec (ℕ-discrete head nobody)) (ℕ-discrete first nobody))
     (Dec·and (Dec·and (decLe e (start e p)) (decLe (start e p) until))
     (implies-dec (ℕ-discrete (start e p) e)
-    (Dec·and (ℕ-discrete (e % width (suc (levelAt p))) 0) (not-dec (ℕ-discrete (e % 2 ^ 36) 0)))))))
+    (Dec·and (ℕ-discrete (e % width (suc (levelAt p))) 0)
+    (implies-dec (ℕ-discrete (e % 2 ^ 36) 0) (Dec·and (decLt 0 e) (ℕ-discrete parked nobody))))))))
     (λ x.
     record {
       below = x .0 .0;
@@ -149,7 +167,8 @@ sound-dec s =
     mid-poll : Fits (slices s) (count s) → Dec (WheelWhole (s .wheel)) → MidPoll s → Dec (Sound s)
     mid-poll F d e =
         by-dec
-        (Dec·and d (Dec·and (hold-dec (elapsed s) (s .until) (s .hand) (headAt (s .wheel .stack) (s .hand)) (headAt (s .wheel .stack) expired))
+        (Dec·and d (Dec·and (hold-dec (elapsed s) (s .until) (s .hand) (headAt (s .wheel .stack) (s .hand)) (headAt (s .wheel .stack) expired)
+        (headAt (s .wheel .stack) parking))
         (all-dec s (levelAt (s .hand) - 1) (s .hand) (start (elapsed s) (s .hand)))))
         (λ y. judged-sound (record { fits = F; whole = y .0; rest = λ z. absurd (e z); mid = λ _. (y .1 .0, y .1 .1) }))
         (λ S. let J = sound-judged S .mid e in (S .standing .whole, (J .0, J .1)))

@@ -117,7 +117,6 @@ module _ {s : QueueWords} {a : Answer} {t : QueueWords} (S : Sound s) where
           by-deadline (elapsed s) when
           (λ f. refused (I .old r l e f))
           (λ f. refused (I .far r l e f))
-          (λ f. refused (I .other r l e f))
           (λ f. inserted e f (I .done r l e f))
 
   reset-does : {key when : ℕ} → ResetOn s key when a t → Does s a t (C.Reset key when)
@@ -127,7 +126,6 @@ module _ {s : QueueWords} {a : Answer} {t : QueueWords} (S : Sound s) where
       by-deadline (elapsed s) when
       (λ f. refused (R .old r p N f))
       (λ f. refused (R .far r p N f))
-      (λ f. refused (R .other r p N f))
       (λ f. replaced N f (R .done r p N f)))
       (λ f. refused (R .dead f))
 

@@ -34,7 +34,7 @@ rest-so s f = by-cases (ℕ-discrete (s .hand) nobody) (λ z. z) (λ d. absurd (
 
 -- of a deadline's lines the first is met
 old-line : {e w : ℕ} → First (deadlineLines e w) 11 → TooOld e w
-old-line x = ⊎-elim (λ y. y .1) (λ y. absurd (behind (omega arith) (behind (omega arith) (y .1) .1) .1)) x
+old-line x = ⊎-elim (λ y. y .1) (λ y. absurd (behind (omega arith) (y .1) .1)) x
 
 asks-old : (c : Call) (s : QueueWords) → RefusedBy c s 11 → AsksOld c s
 asks-old (C.Format n turn) s x = absurd (behind (omega arith) (behind (omega arith) x .1) .1)

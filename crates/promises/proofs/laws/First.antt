@@ -9,12 +9,11 @@ use mathlib.Core.Option.{Option, some}
 use Prim.Native.Nat.{ℕ, _+_, _≤_, _<_, max}
 use native.Mathlib.Decide.{ℕ-discrete}
 use native.Mathlib.Omega.{arith}
-use borrow.Author.Tests.{eq-eqb, ne-eqb}
+use borrow.Author.Tests.{eq-eqb}
 use Rattle.links.specs.Lists.{nobody, Mem}
 use Rattle.links.proofs.laws.Lists.{change-same, change-other}
-use Rattle.stack.specs.Places.{slots, expired, free, put}
+use Rattle.stack.specs.Places.{expired, free, put}
 use Rattle.stack.proofs.laws.Whole as stack-laws
-use Rattle.wheel.specs.Wheel.{placeFor}
 use Rattle.wheel.proofs.laws.Sums.{put-mem}
 use Rattle.queue.specs.declared.Answer.{Answer}
 use Rattle.queue.specs.Told.{Told, told, handing}
@@ -34,6 +33,7 @@ use Rattle.promises.specs.OneCall.{isNo}
 use Rattle.promises.specs.Runs.{Asked, Runs, rest, next, All, Each}
 use Rattle.promises.specs.KeysStay.{Aims, Out}
 use Rattle.promises.specs.KeysReach.{Reaches, Spares}
+use Rattle.promises.proofs.laws.Parked.{rule-target}
 use Rattle.promises.specs.First.{Sets, NotSet, SetOn, storedOn, SetInTurn}
 use Rattle.promises.proofs.laws.OneCall.{call-sound}
 use Rattle.promises.proofs.laws.Runs.{run-sound}
@@ -246,10 +246,6 @@ module _ {s : QueueWords} (S : Sound s) where
           (λ q. let f = sym (I .good S .held q .told) ∙ z .1 in let y : _≡_ {A = ℕ} 0 1 = cc in absurd (omega arith))
       by (inr (inr z)) = out-rest (out-polls D (ap handing (z .6)) .2 .1) (z .6)
 
-target-wheel : (e w : ℕ) → e < w → target e w ≡ placeFor e w
-unfolding target
-target-wheel e w h = let n : w ≢ e = omega arith in rw (ne-eqb w e n)
-
 target-expired : (e : ℕ) → target e e ≡ expired
 unfolding target
 target-expired e = rw (eq-eqb e e refl)
@@ -391,10 +387,9 @@ module _ {s t : QueueWords} {j k : ℕ} (S : Sound s) (I : SetInTurn s j k t) (c
 
       here : front .place ≡ target e (max (I .second .when) e)
       here =
-          let h : front .place < slots = omega (arith, away, m .timed) in
-          let late-so : e < max (I .second .when) e = omega (arith, stored, past) in
-          both-sound .rule .free both-rest .wheel (front .place) r h (m .member) .place ∙ ap (placeFor (elapsed (I .both))) equal
-          ∙ ap (λ n. placeFor n (max (I .second .when) e)) same-clock ∙ sym (target-wheel e (max (I .second .when) e) late-so)
+          let late-so : elapsed (I .both) < view (I .both) .deadline r = omega (arith, stored, past, equal, same-clock) in
+          rule-target (both-sound .rule .free both-rest) (front .place) r (m .timed) (m .member) late-so ∙ ap (target (elapsed (I .both))) equal
+          ∙ ap (λ n. target n (max (I .second .when) e)) same-clock
 
   -- and so on the expired stack: both were set for a time that had come
   pub expired-first-out : I .first .when ≤ elapsed s → I .second .when ≤ elapsed (I .later) → ⊥

@@ -1,21 +1,22 @@
 -- What "First set, first out" asks can be met: in a store of two records two timers are set for one time and polled at it, and come out in turn; so they do
--- with a pause between their moves (`paused-shown`).
+-- with a pause between their moves (`paused-shown`), and so do two for the start of the next block, which are parked (`parked-shown`,
+-- `parked-paused-shown`).
 use mathlib.Core.Path.{_≡_, refl, sym, ap, _∙_, subst}
 use mathlib.Core.Logic.{_≢_, inl, inr, by-cases}
 use mathlib.Core.Bool.{true≢false}
 use mathlib.Core.List.{List, [], _∷_, _++_}
 use mathlib.Core.Option.{none}
-use Prim.Native.Nat.{ℕ, _+_, _*_, _/_, _%_, _≤_, _<_, max}
+use Prim.Native.Nat.{ℕ, _+_, _*_, _/_, _%_, _^_, _≤_, _<_, max}
 use native.Mathlib.Decide.{ℕ-discrete}
 use native.Mathlib.Omega.{arith}
-use Rattle.times.specs.Times.{width, slotOf, startAt}
+use Rattle.times.specs.Times.{width, slotOf, startAt, block, blockEnd}
 use Rattle.times.proofs.laws.Quotients.{slot-lt}
 use Rattle.links.specs.Lists.{Mem, change}
 use Rattle.links.proofs.laws.Lists.{change-same, change-other}
-use Rattle.stack.specs.Places.{slotPlace, expired, free, put}
+use Rattle.stack.specs.Places.{slotPlace, parking, expired, free, put}
 use Rattle.stack.proofs.laws.Places.{put-tail}
 use Rattle.stack.proofs.laws.Whole as stack-laws
-use Rattle.wheel.specs.Wheel.{Lists, FirstSlot, arrive}
+use Rattle.wheel.specs.Wheel.{Lists, FirstSlot, NextList, in-slot, in-parking, arrive}
 use Rattle.wheel.specs.Limited.{yet, Limited, finds, stops, moves}
 use Rattle.wheel.proofs.laws.Turns.{got-none}
 use Rattle.queue.specs.Steps.{polled-some, not-yet}
@@ -23,7 +24,7 @@ use Rattle.queue.specs.declared.Answer.{Answer}
 use Rattle.queue.specs.Told.{Told, told, handing}
 use Rattle.queue.specs.Told as T
 use Rattle.records.specs.View.{View, withValue, upd, withPeriod}
-use Rattle.records.specs.Records.{keyOf, Takes, taken, target, placed}
+use Rattle.records.specs.Records.{keyOf, Names, Takes, taken, target, placed}
 use Rattle.records.specs.Words.{QueueWords, AtRest, elapsed, view, Sound}
 use Rattle.records.proofs.laws.Cases.{takes-so}
 use Rattle.queue.specs.Calls.{Answered}
@@ -50,7 +51,7 @@ use Rattle.promises.proofs.laws.Views.{call-goes, goes-rest}
 use Rattle.promises.proofs.laws.KeysStay.{key-is}
 use Rattle.promises.proofs.laws.KeysReach.{reaches-on, insert-reaches}
 use Rattle.promises.proofs.laws.First.{first-set-first-out, expired-first-out}
-use Rattle.promises.proofs.laws.TakesOut.{one-list, key-of-names}
+use Rattle.promises.proofs.laws.TakesOut.{key-of-names}
 
 -- a poll sets nobody that does not repeat
 unset : (u : QueueWords) {i x d : ℕ} → Reaches (view u) i x 0 d → {c : Call} {now : ℕ} → PollAt c now → (a : Answer) (t : QueueWords)
@@ -61,7 +62,7 @@ unset u R p a t w (inr (inr z)) = omega (arith, z .7, R .period, ap (view u .per
 
 -- ---- two timers for one time
 
-module _ {s : QueueWords} (F : Fresh s) (when now : ℕ) (near : Takes 0 when) (due : when ≤ now) where
+module _ {s : QueueWords} {e : ℕ} (F : Fresh s e) (when now : ℕ) (near : Takes e when) (due : max when e ≤ now) where
   -- the first
   m₁ : (a : Answer) × (t : QueueWords) × CallClaim (C.Insert 7 when 0) s a t
   m₁ = insert-met s 7 when 0
@@ -74,7 +75,7 @@ module _ {s : QueueWords} (F : Fresh s) (when now : ℕ) (near : Takes 0 when) (
   unfolding placed
   size₁ = ap (λ v. v .n) (D₁ .view) ∙ F .size
 
-  clock₁ : elapsed (m₁ .1) ≡ 0
+  clock₁ : elapsed (m₁ .1) ≡ e
   unfolding placed
   clock₁ = ap (λ v. v .elapsed) (D₁ .view) ∙ F .clock
 
@@ -109,12 +110,12 @@ module _ {s : QueueWords} (F : Fresh s) (when now : ℕ) (near : Takes 0 when) (
   unfolding placed
   size₂ = ap (λ v. v .n) (D₂ .view) ∙ size₁
 
-  clock₂ : elapsed (m₂ .1) ≡ 0
+  clock₂ : elapsed (m₂ .1) ≡ e
   unfolding placed
   clock₂ = ap (λ v. v .elapsed) (D₂ .view) ∙ clock₁
 
   K₂ : PollTaken (view (m₂ .1)) now
-  K₂ = taken-from-rest (m₂ .1) rest₂ (omega (arith, clock₂))
+  K₂ = taken-from-rest (m₂ .1) rest₂ (omega (arith, clock₂, due))
 
   abbrev k : ℕ
   k = keyOf (view (m₁ .1)) 1
@@ -188,7 +189,7 @@ module _ {s : QueueWords} (F : Fresh s) (when now : ℕ) (near : Takes 0 when) (
         let c = poll-clock (D₂ .sound) whole K₂ (m₃ .0) (m₃ .1) (m₃ .2) .out (says .0) (says .1) (says .2) (says .3) (says .4) (says .5) in
         let D = call-goes (C.Poll now) (m₂ .1) (m₃ .0) (m₃ .1) (D₂ .sound) (m₃ .2) in
         let rest₃ : AtRest (m₃ .1) = goes-rest D (whole-no-yet (D₂ .sound) K₂ (m₃ .2)) rest₂ in
-        let K : PollTaken (view (m₃ .1)) now = taken-from-rest (m₃ .1) rest₃ (omega (arith, c, clock₂, got .due)) in
+        let K : PollTaken (view (m₃ .1)) now = taken-from-rest (m₃ .1) rest₃ (omega (arith, c, clock₂, got .due, due)) in
         poll-least S₃ whole K (m₄ .0) (m₄ .1) (m₄ .2) (whole-no-yet S₃ K (m₄ .2))
 
     says₄ : SaysOut (told (m₄ .0))
@@ -243,173 +244,264 @@ module _ {s : QueueWords} (F : Fresh s) (when now : ℕ) (near : Takes 0 when) (
         second-by (asked (C.Poll now) (m₃ .0) ∷ []) (next (m₃ .2) rest) (unset (m₂ .1) J whole (m₃ .0) (m₃ .1), tt)
         (unset (m₂ .1) K whole (m₃ .0) (m₃ .1), tt)
 
+-- ---- such runs there are
+
+-- set for one deadline, past elapsed when the second is set, they come out in turn
+module _ {s : QueueWords} {e : ℕ} (F : Fresh s e) (when now : ℕ) (near : Takes e when) (due : max when e ≤ now) (late : e < when) where
+  same-stored : max when (elapsed s) ≡ max when (elapsed (m₁ F when now near due .1))
+  same-stored = omega (arith, clock₁ F when now near due, F .clock)
+
+  late-stored : elapsed (m₁ F when now near due .1) < max when (elapsed (m₁ F when now near due .1))
+  late-stored = omega (arith, clock₁ F when now near due, late)
+
+  never-second : (a : Answer) (u : QueueWords) → CallClaim (C.Poll now) (m₂ F when now near due .1) a u → Out (k F when now near due) (told a) → ⊥
+  never-second a u P o =
+      first-set-first-out (F .sound) (in-turn F when now near due [] rest tt tt) (C.Poll now) a u P o (J F when now near due .names) same-stored late-stored
+
 -- two for 70, polled at 70
 pub first-shown : (x : SecondOut) × (storedOn (x .run .first) ≡ storedOn (x .run .second)) × (elapsed (x .run .later) < storedOn (x .run .second))
 first-shown =
-    let F = fresh-two .1 in
-    let near : Takes 0 70 = takes-so (omega arith) (λ h. refl) in
-    let due : 70 ≤ 70 = omega arith in
-    let c = clock₁ F 70 70 near due in
-    let same : max 70 (elapsed (fresh-two .0)) ≡ max 70 (elapsed (m₁ F 70 70 near due .1)) = omega (arith, c, F .clock) in
-    let late : elapsed (m₁ F 70 70 near due .1) < max 70 (elapsed (m₁ F 70 70 near due .1)) = omega (arith, c) in
-    let I = in-turn F 70 70 near due [] rest tt tt in
-    (second-out F 70 70 near due (λ a u P o. first-set-first-out (F .sound) I (C.Poll 70) a u P o (J F 70 70 near due .names) same late), same, late)
+    let F = fresh-two 0 .1 in
+    let near : Takes 0 70 = takes-so (omega arith) (λ h. omega arith) in
+    let due : max 70 0 ≤ 70 = omega arith in
+    let late : 0 < 70 = omega arith in
+    (second-out F 70 70 near due (never-second F 70 70 near due late), same-stored F 70 70 near due late, late-stored F 70 70 near due late)
 
 -- and two for 0, which have expired when they are set, polled at 0
 pub expired-shown : (x : SecondOut) × (x .run .first .when ≤ elapsed (x .start)) × (x .run .second .when ≤ elapsed (x .run .later))
 expired-shown =
-    let F = fresh-two .1 in
+    let F = fresh-two 0 .1 in
     let near : Takes 0 0 = takes-so (omega arith) (λ h. absurd (omega arith)) in
-    let due : 0 ≤ 0 = omega arith in
+    let due : max 0 0 ≤ 0 = omega arith in
     let I = in-turn F 0 0 near due [] rest tt tt in
     let N = J F 0 0 near due .names in
     (second-out F 0 0 near due (λ a u P o. expired-first-out (F .sound) I (C.Poll 0) a u P o N (omega arith) (omega arith)), omega arith, omega arith)
 
--- ---- 02 [10]: over a pause, inside the drain of their slot
+-- ---- 02 [10]: over a pause, inside the drain of their list
 
--- a timer for 70 comes to the tail of its slot, in a store at 0
-set-lists : {s t : QueueWords} {a : Answer} {x : Told} (r value : ℕ) (l : List ℕ)
-    → Answered s a x (placed r 70 (withPeriod (upd (view s .period) r 0) (withValue (upd (view s .value) r value) (taken l (view s))))) t → elapsed s ≡ 0
-    → (q : ℕ) → q < free → view t .lists q ≡ change (view s .lists) 65 (view s .lists 65 ++ r ∷ []) q
+-- a timer comes to the tail of the list p
+set-lists : {s t : QueueWords} {a : Answer} {x : Told} (r value when p : ℕ) (l : List ℕ)
+    → Answered s a x (placed r when (withPeriod (upd (view s .period) r 0) (withValue (upd (view s .value) r value) (taken l (view s))))) t
+    → target (elapsed s) (max when (elapsed s)) ≡ p → p < free → (q : ℕ) → q < free → view t .lists q ≡ change (view s .lists) p (view s .lists p ++ r ∷ []) q
 unfolding placed
-set-lists {s} {t} r value l A e q h =
+set-lists {s} {t} r value when p l A e b q h =
     let L : Lists = change (view s .lists) free l in
-    let is : view t .lists ≡ change L 65 (put 65 r (L 65))
-    = ap (λ v. v .lists) (A .view) ∙ ap (λ p. change L p (put p r (L p))) (target-70 (elapsed s) e) in
-    let own : L 65 ≡ view s .lists 65 = change-other (view s .lists) free l 65 (omega arith) in
+    let is : view t .lists ≡ change L p (put p r (L p)) = ap (λ v. v .lists) (A .view) ∙ ap (λ o. change L o (put o r (L o))) e in
+    let own : L p ≡ view s .lists p = change-other (view s .lists) free l p (omega (arith, b)) in
     ap (λ (M : Lists). M q) is
-    ∙ by-cases (ℕ-discrete q 65)
-    (λ (z : q ≡ 65).
-    rw z (change-same L 65 (put 65 r (L 65)) ∙ put-tail 65 r (L 65) (omega arith) ∙ ap (λ k. k ++ r ∷ []) own
-    ∙ sym (change-same (view s .lists) 65 (view s .lists 65 ++ r ∷ []))))
+    ∙ by-cases (ℕ-discrete q p)
+    (λ (z : q ≡ p).
+    rw z (change-same L p (put p r (L p)) ∙ put-tail p r (L p) (omega (arith, b)) ∙ ap (λ k. k ++ r ∷ []) own
+    ∙ sym (change-same (view s .lists) p (view s .lists p ++ r ∷ []))))
     (λ d.
-    change-other L 65 (put 65 r (L 65)) q d ∙ change-other (view s .lists) free l q (omega (arith, h))
-    ∙ sym (change-other (view s .lists) 65 (view s .lists 65 ++ r ∷ []) q d))
+    change-other L p (put p r (L p)) q d ∙ change-other (view s .lists) free l q (omega (arith, h))
+    ∙ sym (change-other (view s .lists) p (view s .lists p ++ r ∷ []) q d))
 
--- nothing is pending in a fresh store
-fresh-empty : {s : QueueWords} → Fresh s → (p : ℕ) → p < free → view s .lists p ≡ []
-fresh-empty {s} F p h = by (view s .lists p) refl
-  where
-    by : (l : List ℕ) → view s .lists p ≡ l → view s .lists p ≡ []
-    by [] e = e
-    by (x ∷ l) e =
-        let m : Mem x (view s .lists p) = rw e (inl refl) in
-        let b = stack-laws.member-below (F .sound .standing .whole .stack) p x m in
-        let both : Mem x (0 ∷ 1 ∷ [])
-        = by-cases (ℕ-discrete x 0) inl (λ d. inr (inl (omega (arith, b, F .size, d)))) in
-        absurd (omega (arith, h, one-list (F .sound) x p free m (subst (Mem x) (sym (F .room)) both)))
-
-module _ {s : QueueWords} (F : Fresh s) (near : Takes 0 70) (due : 70 ≤ 70) where
+-- the list that they come to is p
+module _ {s : QueueWords} {e : ℕ} (F : Fresh s e) (when now : ℕ) (near : Takes e when) (due : max when e ≤ now) (p : ℕ) (goes : target e (max when e) ≡ p)
+    (below : p < expired) where
   abbrev set₂ : QueueWords
-  set₂ = m₂ F 70 70 near due .1
+  set₂ = m₂ F when now near due .1
 
   abbrev v₂ : View
   v₂ = view set₂
 
-  -- both lie in the slot of 70, and nothing else is pending
-  lists₂ : (q : ℕ) → q < free → v₂ .lists q ≡ change (λ p. []) 65 (0 ∷ 1 ∷ []) q
+  -- both lie in it, and nothing else is pending
+  lists₂ : (q : ℕ) → q < free → v₂ .lists q ≡ change (λ o. []) p (0 ∷ 1 ∷ []) q
   lists₂ q h =
-      let one = set-lists 0 7 (1 ∷ []) (D₁ F 70 70 near due) (F .clock) in
-      let two = set-lists 1 8 [] (D₂ F 70 70 near due) (clock₁ F 70 70 near due) in
-      let bare = fresh-empty F in
-      let first : view (m₁ F 70 70 near due .1) .lists 65 ≡ 0 ∷ []
-      = one 65 (omega arith) ∙ change-same (view s .lists) 65 (view s .lists 65 ++ 0 ∷ []) ∙ ap (λ k. k ++ 0 ∷ []) (bare 65 (omega arith)) in
+      let set₁ = m₁ F when now near due .1 in
+      let c = clock₁ F when now near due in
+      let in-free : p < free = omega (arith, below) in
+      let one = set-lists 0 7 when p (1 ∷ []) (D₁ F when now near due) (rw (F .clock) goes) in-free in
+      let two = set-lists 1 8 when p [] (D₂ F when now near due) (rw c goes) in-free in
+      let bare = F .empty in
+      let first : view set₁ .lists p ≡ 0 ∷ []
+      = one p in-free ∙ change-same (view s .lists) p (view s .lists p ++ 0 ∷ []) ∙ ap (λ k. k ++ 0 ∷ []) (bare p in-free) in
       two q h
-      ∙ by-cases (ℕ-discrete q 65)
-      (λ (z : q ≡ 65).
-      rw z (change-same (view (m₁ F 70 70 near due .1) .lists) 65 _ ∙ ap (λ k. k ++ 1 ∷ []) first ∙ sym (change-same (λ p. []) 65 (0 ∷ 1 ∷ []))))
+      ∙ by-cases (ℕ-discrete q p)
+      (λ (z : q ≡ p). rw z (change-same (view set₁ .lists) p _ ∙ ap (λ k. k ++ 1 ∷ []) first ∙ sym (change-same (λ o. []) p (0 ∷ 1 ∷ []))))
       (λ d.
-      change-other (view (m₁ F 70 70 near due .1) .lists) 65 _ q d ∙ one q h ∙ change-other (view s .lists) 65 _ q d ∙ bare q h
-      ∙ sym (change-other (λ p. []) 65 (0 ∷ 1 ∷ []) q d))
+      change-other (view set₁ .lists) p _ q d ∙ one q h ∙ change-other (view s .lists) p _ q d ∙ bare q h
+      ∙ sym (change-other (λ o. []) p (0 ∷ 1 ∷ []) q d))
 
-  slot₂ : v₂ .lists 65 ≡ 0 ∷ 1 ∷ []
-  slot₂ = lists₂ 65 (omega arith) ∙ change-same (λ p. []) 65 (0 ∷ 1 ∷ [])
+  both₂ : v₂ .lists p ≡ 0 ∷ 1 ∷ []
+  both₂ = lists₂ p (omega (arith, below)) ∙ change-same (λ o. []) p (0 ∷ 1 ∷ [])
 
-  other₂ : (q : ℕ) → q < free → q ≢ 65 → v₂ .lists q ≡ []
-  other₂ q h d = lists₂ q h ∙ change-other (λ p. []) 65 (0 ∷ 1 ∷ []) q d
+  other₂ : (q : ℕ) → q < free → q ≢ p → v₂ .lists q ≡ []
+  other₂ q h d = lists₂ q h ∙ change-other (λ o. []) p (0 ∷ 1 ∷ []) q d
 
-  own-slot : slotOf (v₂ .elapsed) 1 ≡ 0
+  in-it : {i x d : ℕ} → Reaches v₂ i x 0 d → (r : ℕ) × Names v₂ i r p
+  in-it R =
+      let a = R .names .pending in
+      let is : R .place ≡ p
+      = by-cases (ℕ-discrete (R .place) p) (λ z. z) (λ d. absurd (subst (Mem (R .number)) (other₂ (R .place) (a .timed) d) (a .member))) in
+      (R .number, subst (λ q. Names v₂ _ (R .number) q) is (R .names))
+
+  -- a poll with a limit that stops inside its drain
+  module _ (b m : ℕ) {N : Lists} (stops-so : Limited (v₂ .deadline) now none b (v₂ .elapsed) (v₂ .lists) (yet p) m 0 (v₂ .elapsed) N) where
+    y : (a : Answer) × (t : QueueWords) × CallClaim (C.PollSome now b) set₂ a t
+    y = call-met (C.PollSome now b) set₂
+
+    says-yet : told (y .0) ≡ T.yet m 0
+    says-yet =
+        let Q = some-on (D₂ F when now near due .sound) (K₂ F when now near due) (y .2) .1 in
+        let l = subst (λ h. Limited (v₂ .deadline) now h b (v₂ .elapsed) (v₂ .lists) (yet p) m 0 (v₂ .elapsed) N)
+        (sym (got-none (v₂ .hand) (rest₂ F when now near due))) stops-so in
+        polls-one Q (not-yet (polled-some (other₂ expired (omega arith) (omega (arith, below))) l)) .0
+
+    -- each of the two waits over it
+    waits-on : {i x d : ℕ} → Reaches v₂ i x 0 d → Reaches (view (y .1)) i x 0 d
+    waits-on R =
+        reaches-on (D₂ F when now near due .sound) R (next {x = asked (C.PollSome now b) (y .0)} (y .2) rest)
+        ((λ z. absurd z, λ o. none-out (ap handing (sym says-yet) ∙ o .4)), tt)
+
+    module _ (never : (a : Answer) (u : QueueWords) → CallClaim (C.Poll now) set₂ a u → Out (k F when now near due) (told a) → ⊥) where
+      abbrev third : (a : Answer) × (t : QueueWords) × CallClaim (C.Poll now) set₂ a t
+      third = m₃ F when now near due never
+
+      x₃ : (x : Answer) × CallClaim (C.Poll now) (y .1) x (third .1) × (told (third .0) ≡ added m 0 (told x))
+      x₃ = rest-of-whole (y .0) (third .0) (y .2) says-yet (third .2)
+
+      abbrev paused : List Asked
+      paused = asked (C.PollSome now b) (y .0) ∷ asked (C.Poll now) (x₃ .0) ∷ []
+
+      unset-both : {i x d : ℕ} → Reaches v₂ i x 0 d
+          → Each (NotSet i) (next {x = asked (C.PollSome now b) (y .0)} (y .2) (next {x = asked (C.Poll now) (x₃ .0)} (x₃ .1) rest))
+      unset-both R = (unset set₂ R limited (y .0) (y .1), (unset (y .1) (waits-on R) whole (x₃ .0) (third .1), tt))
+
+      abbrev paused-out : SecondOut
+      paused-out =
+          second-by F when now near due never paused (next (y .2) (next (x₃ .1) rest)) (unset-both (J F when now near due)) (unset-both (K F when now near due))
+
+-- ---- for 70, between the moves of the first and of the second
+module _ {s : QueueWords} (F : Fresh s 0) (near : Takes 0 70) (due : max 70 0 ≤ 70) where
+  abbrev v : View
+  v = view (m₂ F 70 70 near due .1)
+
+  goes-70 : target 0 (max 70 0) ≡ 65
+  goes-70 = target-70 0 refl
+
+  in-slot-70 : v .lists 65 ≡ 0 ∷ 1 ∷ []
+  in-slot-70 = both₂ F 70 70 near due 65 goes-70 (omega arith)
+
+  else-70 : (q : ℕ) → q < free → q ≢ 65 → v .lists q ≡ []
+  else-70 = other₂ F 70 70 near due 65 goes-70 (omega arith)
+
+  own-slot : slotOf (v .elapsed) 1 ≡ 0
   unfolding slotOf width
   own-slot = ap (λ e. e / 64 % 64) (clock₂ F 70 70 near due)
 
-  starts-at : startAt (v₂ .elapsed) 1 1 ≡ 64
+  starts-at : startAt (v .elapsed) 1 1 ≡ 64
   unfolding startAt width
   starts-at = ap (λ e. e / 4096 * 4096 + 64) (clock₂ F 70 70 near due)
 
-  first-slot : FirstSlot (v₂ .elapsed) (v₂ .lists) 1 1
+  first-slot : FirstSlot (v .elapsed) (v .lists) 1 1
   first-slot =
       record {
         within = omega arith;
-        lowest = λ q h. other₂ q (omega arith) (omega arith);
+        lowest = λ q h. else-70 q (omega arith) (omega arith);
         steps = 1;
         near = omega arith;
         is = omega (arith, own-slot);
-        before = λ i h. other₂ (slotPlace 1 ((slotOf (v₂ .elapsed) 1 + i) % 64)) (omega arith) (omega (arith, own-slot, h));
+        before = λ i h. else-70 (slotPlace 1 ((slotOf (v .elapsed) 1 + i) % 64)) (omega arith) (omega (arith, own-slot, h));
         head = 0;
         rest = 1 ∷ [];
-        filled = slot₂;
+        filled = in-slot-70;
       }
 
   -- a poll with limit 1 moves the first, and stops before the second
   abbrev moved : Lists
-  moved = arrive 0 (v₂ .deadline 0) 0 (change (v₂ .lists) 65 (1 ∷ []))
+  moved = arrive 0 (v .deadline 0) 0 (change (v .lists) 65 (1 ∷ []))
 
   still-there : moved 65 ≡ 1 ∷ []
   unfolding arrive
   still-there =
-      change-other (change (v₂ .lists) 65 (1 ∷ [])) _ _ 65 (omega (arith, slot-lt (v₂ .deadline 0) 0)) ∙ change-same (v₂ .lists) 65 (1 ∷ [])
+      change-other (change (v .lists) 65 (1 ∷ [])) _ _ 65 (omega (arith, slot-lt (v .deadline 0) 0)) ∙ change-same (v .lists) 65 (1 ∷ [])
 
-  stops-so : Limited (v₂ .deadline) 70 none 1 (v₂ .elapsed) (v₂ .lists) (yet 65) 1 0 (v₂ .elapsed) moved
-  stops-so = finds first-slot (omega (arith, starts-at)) (moves slot₂ (stops still-there))
-
-  -- so it is answered
-  y : (a : Answer) × (t : QueueWords) × CallClaim (C.PollSome 70 1) set₂ a t
-  y = call-met (C.PollSome 70 1) set₂
-
-  says-yet : told (y .0) ≡ T.yet 1 0
-  says-yet =
-      let Q = some-on (D₂ F 70 70 near due .sound) (K₂ F 70 70 near due) (y .2) .1 in
-      let l = subst (λ h. Limited (v₂ .deadline) 70 h 1 (v₂ .elapsed) (v₂ .lists) (yet 65) 1 0 (v₂ .elapsed) moved)
-      (sym (got-none (v₂ .hand) (rest₂ F 70 70 near due))) stops-so in
-      polls-one Q (not-yet (polled-some (other₂ expired (omega arith) (omega arith)) l)) .0
-
-  -- each of the two waits over it
-  waits-on : {i x d : ℕ} → Reaches v₂ i x 0 d → Reaches (view (y .1)) i x 0 d
-  waits-on R =
-      reaches-on (D₂ F 70 70 near due .sound) R (next {x = asked (C.PollSome 70 1) (y .0)} (y .2) rest)
-      ((λ z. absurd z, λ o. none-out (ap handing (sym says-yet) ∙ o .4)), tt)
-
-  module _ (never : (a : Answer) (u : QueueWords) → CallClaim (C.Poll 70) set₂ a u → Out (k F 70 70 near due) (told a) → ⊥) where
-    abbrev third : (a : Answer) × (t : QueueWords) × CallClaim (C.Poll 70) set₂ a t
-    third = m₃ F 70 70 near due never
-
-    x₃ : (x : Answer) × CallClaim (C.Poll 70) (y .1) x (third .1) × (told (third .0) ≡ added 1 0 (told x))
-    x₃ = rest-of-whole (y .0) (third .0) (y .2) says-yet (third .2)
-
-    abbrev paused : List Asked
-    paused = asked (C.PollSome 70 1) (y .0) ∷ asked (C.Poll 70) (x₃ .0) ∷ []
-
-    unset-both : {i x d : ℕ} → Reaches v₂ i x 0 d
-        → Each (NotSet i) (next {x = asked (C.PollSome 70 1) (y .0)} (y .2) (next {x = asked (C.Poll 70) (x₃ .0)} (x₃ .1) rest))
-    unset-both R = (unset set₂ R limited (y .0) (y .1), (unset (y .1) (waits-on R) whole (x₃ .0) (third .1), tt))
-
-    abbrev paused-out : SecondOut
-    paused-out =
-        second-by F 70 70 near due never paused (next (y .2) (next (x₃ .1) rest)) (unset-both (J F 70 70 near due)) (unset-both (K F 70 70 near due))
+  stops-70 : Limited (v .deadline) 70 none 1 (v .elapsed) (v .lists) (yet 65) 1 0 (v .elapsed) moved
+  stops-70 = finds (in-slot first-slot) (omega (arith, starts-at)) (moves in-slot-70 (stops still-there))
 
 -- two for 70, polled at 70 with a pause between the moves of the first and of the second: they come out in turn all the same
 pub paused-shown : (x : SecondOut) × (storedOn (x .run .first) ≡ storedOn (x .run .second)) × (elapsed (x .run .later) < storedOn (x .run .second))
     × Some (λ y. SaysYet (told (y .answer))) (x .run .after)
 paused-shown =
-    let F = fresh-two .1 in
-    let near : Takes 0 70 = takes-so (omega arith) (λ h. refl) in
-    let due : 70 ≤ 70 = omega arith in
-    let c = clock₁ F 70 70 near due in
-    let same : max 70 (elapsed (fresh-two .0)) ≡ max 70 (elapsed (m₁ F 70 70 near due .1)) = omega (arith, c, F .clock) in
-    let late : elapsed (m₁ F 70 70 near due .1) < max 70 (elapsed (m₁ F 70 70 near due .1)) = omega (arith, c) in
-    let I = in-turn F 70 70 near due [] rest tt tt in (
-      paused-out F near due (λ a u P o. first-set-first-out (F .sound) I (C.Poll 70) a u P o (J F 70 70 near due .names) same late),
-      same,
-      late,
-      inl (1, 0, says-yet F near due),
+    let F = fresh-two 0 .1 in
+    let near : Takes 0 70 = takes-so (omega arith) (λ h. omega arith) in
+    let due : max 70 0 ≤ 70 = omega arith in
+    let late : 0 < 70 = omega arith in
+    let goes = goes-70 F near due in
+    let low : 65 < expired = omega arith in
+    let stops = stops-70 F near due in (
+      paused-out F 70 70 near due 65 goes low 1 1 stops (never-second F 70 70 near due late),
+      same-stored F 70 70 near due late,
+      late-stored F 70 70 near due late,
+      inl (1, 0, says-yet F 70 70 near due 65 goes low 1 1 stops),
+    )
+
+-- ---- 02 [12]: for exactly the start of the next block, where both are parked
+
+abbrev start : ℕ
+start = 68719476736
+
+-- both timers lie in the list p when the second is set
+abbrev BothIn : SecondOut → ℕ → Type 0
+BothIn x p = ((r : ℕ) × Names (view (x .run .both)) (x .one) r p) × ((r : ℕ) × Names (view (x .run .both)) (x .two) r p)
+
+module _ {s : QueueWords} (F : Fresh s 1) (near : Takes 1 start) (due : max start 1 ≤ start) where
+  abbrev u : View
+  u = view (m₂ F start start near due .1)
+
+  goes-parked : target 1 (max start 1) ≡ parking
+  unfolding target
+  goes-parked = refl
+
+  block-starts : blockEnd (u .elapsed) ≡ start
+  unfolding blockEnd
+  block-starts = ap (λ e. (block e + 1) * 2 ^ 36) (clock₂ F start start near due)
+
+  both-parked : ((r : ℕ) × Names u (j F start start near due) r parking) × ((r : ℕ) × Names u (k F start start near due) r parking)
+  both-parked = (
+    in-it F start start near due parking goes-parked (omega arith) (J F start start near due),
+    in-it F start start near due parking goes-parked (omega arith) (K F start start near due),
+  )
+
+  -- a poll with limit 0 stops before the first move of the parking list
+  stops-parked : Limited (u .deadline) start none 0 (u .elapsed) (u .lists) (yet parking) 0 0 (u .elapsed) (u .lists)
+  stops-parked =
+      let both = both₂ F start start near due parking goes-parked (omega arith) in
+      let none-else = other₂ F start start near due parking goes-parked (omega arith) in
+      let X : NextList (u .elapsed) (u .lists) 6 parking (blockEnd (u .elapsed))
+      = in-parking (λ q h. none-else q (omega (arith, h)) (omega (arith, h))) both in
+      finds X (omega (arith, block-starts)) (stops both)
+
+-- set at 1 for 2^36 they are parked, and polled at 2^36 they come out in turn
+pub parked-shown : (x : SecondOut) × (storedOn (x .run .first) ≡ storedOn (x .run .second)) × (elapsed (x .run .later) < storedOn (x .run .second))
+    × BothIn x parking
+parked-shown =
+    let F = fresh-two 1 .1 in
+    let near : Takes 1 start = takes-so (omega arith) (λ h. omega arith) in
+    let due : max start 1 ≤ start = omega arith in
+    let late : 1 < start = omega arith in (
+      second-out F start start near due (never-second F start start near due late),
+      same-stored F start start near due late,
+      late-stored F start start near due late,
+      both-parked F near due,
+    )
+
+-- and so with a pause inside the drain of the parking list: a poll with limit 0, and then the whole one
+pub parked-paused-shown : (x : SecondOut) × (storedOn (x .run .first) ≡ storedOn (x .run .second)) × (elapsed (x .run .later) < storedOn (x .run .second))
+    × BothIn x parking × Some (λ y. SaysYet (told (y .answer))) (x .run .after)
+parked-paused-shown =
+    let F = fresh-two 1 .1 in
+    let near : Takes 1 start = takes-so (omega arith) (λ h. omega arith) in
+    let due : max start 1 ≤ start = omega arith in
+    let late : 1 < start = omega arith in
+    let goes = goes-parked F near due in
+    let low : parking < expired = omega arith in
+    let stops = stops-parked F near due in (
+      paused-out F start start near due parking goes low 0 0 stops (never-second F start start near due late),
+      same-stored F start start near due late,
+      late-stored F start start near due late,
+      both-parked F near due,
+      inl (0, 0, says-yet F start start near due parking goes low 0 0 stops),
     )

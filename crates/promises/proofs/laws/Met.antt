@@ -7,21 +7,22 @@ use native.Mathlib.Decide.{ℕ-discrete, decLt}
 use native.Mathlib.Omega.{arith}
 use native.Mathlib.Numerals.{add-one}
 use lib.ListN.{replicate}
-use borrow.Author.Tests.{eq-eqb, ne-eqb, lt-ltb, le-ltb}
-use Rattle.times.specs.Times.{maxDuration, block, levelOf, slotOf, startAt}
+use borrow.Author.Tests.{lt-ltb, le-ltb}
+use Rattle.times.specs.Times.{maxDuration, block, levelOf, slotOf}
 use Rattle.times.proofs.laws.Quotients.{slot-lt}
 use Rattle.links.specs.Lists.{nobody}
 use Rattle.links.specs.Links.{at}
-use Rattle.stack.specs.Places.{slotPlace, slots, expired, free, levelAt, slotAt}
+use Rattle.stack.specs.Places.{slotPlace, slots, parking, expired, free, levelAt, slotAt}
 use Rattle.stack.specs.Heads.{slotHead}
 use Rattle.stack.specs.Format.{over, formatted}
 use Rattle.stack.specs.Words.{headAt as headIn, pop, remove}
-use Rattle.wheel.specs.Wheel.{Lists, FirstSlot, EmptyWheel, arrive}
+use Rattle.wheel.specs.Wheel.{Lists, FirstSlot, EmptyWheel, NextList, in-slot, in-parking, NoneWaits, arrive}
+use Rattle.wheel.specs.Limited.{start}
 use Rattle.wheel.specs.Words.{WheelWords, wheelWords, markOf as markIn, lists as listsIn, CanPop, Pops, CanLeave, Leaves, CanAdd, Becomes}
 use Rattle.wheel.proofs.laws.Words.{headAt, popped-none, popped-more, popped-last, pops-aside, leaves-aside, leaves-more, leaves-last, add-law, push-aside}
 use Rattle.wheel.specs.Drain.{heights}
-use Rattle.wheel.specs.Turns.{CanMove, MovesOne, DrainsTo, CanPoll, PollsTo}
-use Rattle.wheel.proofs.laws.Turns.{insert-adds, moved-none, move-adds, moved-some, DrainedSo, turn-start, turn-can, turn-full, turn-more, turn-done, PolledSo, poll-start, poll-idle, poll-early, pop-can, poll-out, poll-finds, drain-can, poll-yet, poll-drained}
+use Rattle.wheel.specs.Turns.{CanTake, CanMove, MovesOne, DrainsTo, CanPoll, PollsTo}
+use Rattle.wheel.proofs.laws.Turns.{insert-adds, take-slot, taken-parking, moved-none, move-adds, moved-some, DrainedSo, turn-start, turn-can, turn-full, turn-more, turn-done, PolledSo, poll-start, poll-idle, poll-early, pop-can, place-can, poll-out, poll-finds, drain-can, poll-yet, poll-drained}
 use Rattle.queue.specs.declared.Answer.{Answer}
 use Rattle.queue.specs.declared.Answer.the-variants as A
 use Rattle.queue.specs.Told.{told}
@@ -30,9 +31,9 @@ use Rattle.queue.specs.Steps.{Wakes, sleeps, starts, at-once, from-wheel}
 use Rattle.records.specs.Words.{QueueWords, queueWords, count, elapsed, markOf, view, Standing, SoundBut, AtRest, Sound}
 use Rattle.queue.specs.Calls.{Refused, InsertOn, ResetOn, RemoveOn, Freely, PollsOn, WakeOn}
 use Rattle.records.specs.Found.{AheadNo, DeadlineNo}
-use Rattle.records.proofs.laws.Found.{no-past, no-far, no-near, no-other, no-old, no-recent, key-names, names-key}
+use Rattle.records.proofs.laws.Found.{no-far, no-near, no-old, no-recent, key-names, names-key}
 use Rattle.records.specs.Inner.{LooseAt, CanPlace, PlacesTo, CanFree, LeavesTo}
-use Rattle.records.proofs.laws.Inner.{place-push, place-insert, placed-now, placed-later, free-push, freed-last, freed-given}
+use Rattle.records.proofs.laws.Inner.{aside-now, aside-later, place-insert, placed-slot, place-aside, placed-aside, free-push, freed-last, freed-given}
 use Rattle.queue.proofs.laws.Calls.{insert-full, insert-refused, insert-place, insert-done, reset-dead, remove-dead, found-leaves, reset-refused, reset-place, reset-done, remove-frees, remove-done}
 use Rattle.queue.specs.Inner.{CanPollIdx, PollsIdx, of-stack, of-wheel, PollNo, HandsOut, pendingIn, ClearsOne}
 use Rattle.queue.proofs.laws.Polls.{out-frees, out-done, no-other as no-another, no-same, no-back, no-none, poll-refused, wheel-can, poll-can, poll-yet as poll-yet-on, poll-none, poll-loose, poll-handed, clear-stays, clear-leaves, clear-frees, clear-goes, ClearedSo, clear-none, clear-turn, clear-done, out-last, out-again, out-places}
@@ -88,16 +89,9 @@ format-met s n turn =
 
 ahead-met : (e w : ℕ) → (n : ℕ) × AheadNo e w n
 ahead-met e w =
-    by-cases (decLt e w)
-    (λ h.
     by-cases (decLt maxDuration (w - e))
-    (λ k. (4, no-far e w h (sym (lt-ltb maxDuration (w - e) k))))
-    (λ k.
-    let f = sym (le-ltb maxDuration (w - e) (omega arith)) in
-    by-cases (ℕ-discrete (block w) (block e))
-    (λ b. (0, no-near e w h f (sym (eq-eqb (block w) (block e) b))))
-    (λ b. (5, no-other e w h f (sym (ne-eqb (block w) (block e) b))))))
-    (λ h. (0, no-past e w (omega arith)))
+    (λ k. (4, no-far e w (sym (lt-ltb maxDuration (w - e) k))))
+    (λ k. (0, no-near e w (sym (le-ltb maxDuration (w - e) (omega arith)))))
 
 deadline-met : (e w : ℕ) → (n : ℕ) × DeadlineNo e w n
 deadline-met e w =
@@ -113,8 +107,17 @@ place-met : {t : WheelWords} {ds : List ℕ} {i when : ℕ} → CanPlace t ds i 
     → (u : WheelWords) × (ds′ : List ℕ) × PlacesTo t ds i when u ds′
 place-met {t} {ds} {i} {when} C =
     by-cases (decLt (t .elapsed) when)
-    (λ h. let B = add-met (insert-adds (place-insert C h) (levelOf (t .elapsed) when) refl) when in (B .0, _, placed-later C h (B .1)))
-    (λ h. (_, _, placed-now C (omega (arith, h)) (push-aside (place-push C) refl)))
+    (λ h.
+    by-cases (ℕ-discrete (block when) (block (t .elapsed)))
+    (λ b.
+    let B = add-met (insert-adds (place-insert C (h, b)) (levelOf (t .elapsed) when) refl) when in
+    (B .0, _, placed-slot C (h, b) (B .1)))
+    (λ b.
+    let p = sym (aside-later (t .elapsed) when h (λ q. b (q .1))) in
+    (_, _, placed-aside C parking _ p refl (push-aside (place-aside C parking (omega arith) (omega arith)) refl))))
+    (λ h.
+    let p = sym (aside-now (t .elapsed) when (omega (arith, h))) in
+    (_, _, placed-aside C expired _ p refl (push-aside (place-aside C expired (omega arith) (omega arith)) refl)))
 
 leave-met : {t : WheelWords} {i : ℕ} → CanLeave t i → (u : WheelWords) × Leaves t i u
 leave-met {t} {i} C =
@@ -229,8 +232,8 @@ module _ (e : ℕ) (L : Lists) where
       let z : slotPlace (levelAt q) ((slotOf e (levelAt q) + turnOf q) % 64) ≡ q = omega (arith, slot-lt e (levelAt q)) in
       look-at (levelAt q) (turnOf q) (turn-lt q) ∙ ap L z
 
-  next-met : EmptyWheel L ⊎ ((k : ℕ) × (s : ℕ) × FirstSlot e L k s)
-  next-met =
+  slot-met : EmptyWheel L ⊎ ((k : ℕ) × (s : ℕ) × FirstSlot e L k s)
+  slot-met =
       ⊎-elim
       (λ E. inl (λ q h. sym (look-slot q) ∙ E (64 * (levelAt q) + turnOf q) (omega (arith, turn-lt q))))
       (λ F. inr (found F))
@@ -256,12 +259,22 @@ module _ (e : ℕ) (L : Lists) where
             },
           )
 
+-- what comes next, told as a slot: level 6 and slot 0 are the parking list
+abbrev NextSlot : ℕ → Lists → Type 0
+NextSlot e L = (k : ℕ) × (s : ℕ) × (c : ℕ) × (s < 64) × NextList e L k (slotPlace k s) c
+
+next-met : (e : ℕ) (L : Lists) → NoneWaits L ⊎ NextSlot e L
+next-met e L = ⊎-elim (λ E. by E (L parking) refl) (λ F. inr (F .0, F .1, _, omega (arith, F .2 .is), in-slot (F .2))) (slot-met e L)
+  where
+    by : EmptyWheel L → (l : List ℕ) → L parking ≡ l → NoneWaits L ⊎ NextSlot e L
+    by E [] q = inl (E, q)
+    by E (x ∷ l) q = inr (6, 0, _, omega arith, in-parking E q)
+
 -- ---- next wake and length
 
-wheel-wakes : (s : QueueWords) → EmptyWheel (view s .lists) ⊎ ((k : ℕ) × (c : ℕ) × FirstSlot (elapsed s) (view s .lists) k c)
-    → (a : Answer) × Wakes (view s) (told a)
+wheel-wakes : (s : QueueWords) → NoneWaits (view s .lists) ⊎ NextSlot (elapsed s) (view s .lists) → (a : Answer) × Wakes (view s) (told a)
 wheel-wakes s (inl E) = (A.NoWake, sleeps E)
-wheel-wakes s (inr F) = (A.Wake _, starts (F .2))
+wheel-wakes s (inr X) = (A.Wake _, starts (X .4))
 
 wake-on : (s : QueueWords) (l : List ℕ) → view s .lists expired ≡ l → (a : Answer) × WakeOn s a
 wake-on s [] e = let m = wheel-wakes s (next-met (elapsed s) (view s .lists)) in (m .0, record { done = from-wheel e (m .1) })
@@ -316,11 +329,20 @@ pop-met {t} {k} {s} C =
     (λ z. (headAt t p, _, popped-last (C .whole) p (headAt t p) refl refl d k s (C .level) (C .slot) refl z refl))
     (λ z. (headAt t p, _, popped-more (C .whole) p (headAt t p) refl refl d z)))
 
+-- or that of the parking list
+take-met : {t : WheelWords} {k s : ℕ} → CanTake t k s → (item : ℕ) × (u : WheelWords) × Pops t (slotPlace k s) item u
+take-met {t} {k} {s} C =
+    by-cases (decLt k 6)
+    (λ h. pop-met (take-slot C h))
+    (λ h.
+    let Q = pops-aside (C .whole) parking (headAt t parking) refl refl (omega arith) in
+    (headAt t parking, _, taken-parking C (omega (arith, h)) Q))
+
 -- and goes one level down
 move-met : {t : WheelWords} {ds : List ℕ} {k s : ℕ} → CanMove t ds k s
     → (item : ℕ) × (u : WheelWords) × MovesOne (at ds) t (k - 1) (slotPlace k s) item u
 move-met {t} {ds} {k} {s} C =
-    let Q = pop-met (C .pop) in
+    let Q = take-met (C .pop) in
     by-cases (ℕ-discrete (Q .0) nobody)
     (λ z. (Q .0, Q .1, moved-none C (Q .2) z))
     (λ d. let B = add-met (move-adds C (Q .2) d) (at ds (Q .0)) in (Q .0, B .0, moved-some C (Q .2) d (at ds (Q .0)) refl (B .1)))
@@ -366,15 +388,15 @@ module _ {t₀ : WheelWords} {ds : List ℕ} {hand now : ℕ} (C : CanPoll t₀ 
       let k : ℕ = levelAt place in
       let j : ℕ = slotAt place in
       let D = drain-met (drain-can C limit S held k j refl refl) left in
-      by-cases (ℕ-discrete (slotHead (D .1 .stack .heads) k j) nobody)
+      by-cases (ℕ-discrete (headAt (D .1) place) nobody)
       (λ z.
-      let r = poll-drained C limit S held k j refl refl (D .0) (D .2) (limit - D .0) refl z (startAt (t .elapsed) k j) refl in
+      let r = poll-drained C limit S held k j refl refl (D .0) (D .2) (limit - D .0) refl z (start (t .elapsed) place) refl in
       inr (record {
         to = nobody;
         left = D .0;
         made = limit - D .0;
         drains = drains + 1;
-        after = wheelWords (startAt (t .elapsed) k j) (D .1 .occupied) (D .1 .stack);
+        after = wheelWords (start (t .elapsed) place) (D .1 .occupied) (D .1 .stack);
         so = r .0;
         less = r .1;
       }))
@@ -384,20 +406,20 @@ module _ {t₀ : WheelWords} {ds : List ℕ} {hand now : ℕ} (C : CanPoll t₀ 
   poll-looks {place} {left} {made} {drains} {t} S free =
       ⊎-elim
       (λ E. inl (nobody, place, made, drains, _, poll-idle C limit S free E))
-      (λ F.
-      let c = startAt (t .elapsed) (F .0) (F .1) in
+      (λ X.
+      let c = X .2 in
+      let N : (X .1 < 64) × NextList (t .elapsed) (listsIn t) (X .0) (slotPlace (X .0) (X .1)) c = (X .3, X .4) in
       by-cases (decLt now c)
-      (λ l. inl (nobody, place, made, drains, _, poll-early C limit S free (F .2) c refl l))
+      (λ l. inl (nobody, place, made, drains, _, poll-early C limit S free N l))
       (λ l.
       let due : c ≤ now = omega arith in
-      let can = pop-can C limit S free (F .2) c refl in
-      by-cases (ℕ-discrete (F .0) 0)
+      by-cases (ℕ-discrete (X .0) 0)
       (λ z.
-      let Q = pop-met can in
-      inl (Q .0, place, made, drains, Q .1, poll-out C limit S free (F .2) c refl z due (Q .0) (Q .2)))
+      let Q = pop-met (pop-can C limit S free N z) in
+      inl (Q .0, place, made, drains, Q .1, poll-out C limit S free N z due (Q .0) (Q .2)))
       (λ z.
-      poll-drains (poll-finds C limit S free (F .2) c refl z due (slotPlace (F .0) (F .1)) refl)
-      (λ w. omega (arith, w, can .level, can .slot)))))
+      poll-drains (poll-finds C limit S free N z due (slotPlace (X .0) (X .1)) refl)
+      (λ w. omega (arith, w, place-can C limit S free N .1)))))
       (next-met (t .elapsed) (listsIn t))
 
   poll-loop : (fuel place left made drains : ℕ) (t : WheelWords) → So place left made drains t → heights (listsIn t) < fuel → Ended

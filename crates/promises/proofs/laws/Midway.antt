@@ -27,6 +27,7 @@ use Rattle.wheel.specs.Rows.{flags, Rows}
 use Rattle.wheel.specs.Words.{wheelWords}
 use Rattle.wheel.specs.Limited.{yet, Limited, finds, stops, moves, empties}
 use Rattle.wheel.specs.Midway.{Comes}
+use Rattle.wheel.proofs.laws.Next.{list-height}
 use Rattle.wheel.proofs.laws.Midway.{midway-exactly as midway-lists}
 use Rattle.records.specs.View.{withElapsed, withLists, withHand}
 use Rattle.records.specs.Words.{QueueWords, queueWords, count, elapsed, view, MidPoll, Sound, PastKept}
@@ -69,7 +70,7 @@ record Undone (t : StackWords) (L : Lists) : Type 0 where
   loose : (i : ℕ) → i < countIn t → markIn words i ≡ nobody → markIn t i ≡ nobody
 
 -- one move back: x was the head of p, and is the last of its slot one level down
-move-back : {t : StackWords} {p x : ℕ} (w : ℕ) {l : List ℕ} {L : Lists} → p < slots → L p ≡ x ∷ l
+move-back : {t : StackWords} {p x : ℕ} (w : ℕ) {l : List ℕ} {L : Lists} → p < expired → L p ≡ x ∷ l
     → Undone t (arrive (levelAt p - 1) w x (change L p l)) → Undone t L
 unfolding arrive
 move-back {t} {p} {x} w {l} {L} hp is U =
@@ -111,14 +112,14 @@ move-back {t} {p} {x} w {l} {L} hp is U =
           omega (arith, z, stack-laws.member-mark (T .whole) (o .0) i o′, stack-laws.member-place (T .whole) (o .0) i o′)));
     }
 
--- all moves of a call back, from where it said "not yet"; the slot in hand is one
-abbrev Slot : Option ℕ → Type 0
-Slot none = Unit {0}
-Slot (some p) = p < slots
+-- all moves of a call back, from where it said "not yet"; the list in hand is a slot or the parking list
+abbrev Listed : Option ℕ → Type 0
+Listed none = Unit {0}
+Listed (some p) = p < expired
 
-undo : {d : ℕ → ℕ} {now b e p m n c : ℕ} {h : Option ℕ} {L N : Lists} {t : StackWords} → Slot h → Limited d now h b e L (yet p) m n c N → Whole t
+undo : {d : ℕ → ℕ} {now b e p m n c : ℕ} {h : Option ℕ} {L N : Lists} {t : StackWords} → Listed h → Limited d now h b e L (yet p) m n c N → Whole t
     → lists t ≡ N → Undone t L
-undo a (finds F h r) W e = undo (omega (arith, F .within, F .is)) r W e
+undo a (finds X h r) W e = undo (list-height X .1) r W e
 undo {t = t} a (stops i) W e = record { words = t; whole = W; is = e; kept = stack-laws.kept-refl t; loose = λ i hi z. z }
 undo {d} a (moves {x = x} i r) W e = move-back (d x) a i (undo a r W e)
 undo a (empties i r) W e = undo tt r W e

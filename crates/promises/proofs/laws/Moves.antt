@@ -1,4 +1,4 @@
--- The moves that polls report: of one poll, the levels that the pending timers lost; of a run, at most five for each accepted insert or reset.
+-- The moves that polls report: of one poll, the levels that the pending timers lost; of a run, at most six for each accepted insert or reset.
 use mathlib.Core.Path.{_≡_, refl, ap, _∙_, sym}
 use mathlib.Core.Logic.{by-cases, ⊎-elim, inl, inr, _≢_}
 use mathlib.Core.Bool.{not, _&&_, cond}
@@ -9,7 +9,7 @@ use native.Mathlib.Omega.{arith}
 use borrow.Author.Tests.{eq-eqb, ne-eqb, lt-ltb, le-ltb}
 use Rattle.links.specs.Lists.{without, change, Mem}
 use Rattle.links.proofs.laws.Lists.{change-same, change-other}
-use Rattle.stack.specs.Places.{slots, free, put, levelAt}
+use Rattle.stack.specs.Places.{expired, free, put, levelAt, topHeight}
 use Rattle.stack.specs.Format.{range}
 use Rattle.wheel.specs.Wheel.{Lists}
 use Rattle.wheel.specs.Sums.{sumOf, total}
@@ -76,32 +76,32 @@ freed-total u n r v h = total-ext u n (freed r v .lists) (v .lists) (λ p k. fre
 
 -- ---- heights
 
-placed-heights : (r when : ℕ) (v : View) → heights (placed r when v .lists) ≤ heights (v .lists) + 5
+placed-heights : (r when : ℕ) (v : View) → heights (placed r when v .lists) ≤ heights (v .lists) + topHeight
 unfolding placed heights
 placed-heights r when v =
     let p = target (v .elapsed) (max when (v .elapsed)) in
     let L = v .lists in
-    by-cases (decLt p slots)
-    (λ h. omega (arith, total-more (λ q x. levelAt q) slots L p r h))
+    by-cases (decLt p expired)
+    (λ h. omega (arith, total-more (λ q x. levelAt q) expired L p r h))
     (λ h.
     omega (
       arith,
-      total-ext (λ q x. levelAt q) slots (change L p (put p r (L p))) L
+      total-ext (λ q x. levelAt q) expired (change L p (put p r (L p))) L
           (λ q k. change-other L p (put p r (L p)) q (omega (arith, h, k))),
     ))
 
 taken-heights : (l : List ℕ) (v : View) → heights (taken l v .lists) ≡ heights (v .lists)
 unfolding heights
-taken-heights l v = total-ext (λ q x. levelAt q) slots (change (v .lists) free l) (v .lists)
+taken-heights l v = total-ext (λ q x. levelAt q) expired (change (v .lists) free l) (v .lists)
     (λ q k. change-other (v .lists) free l q (omega arith))
 
 left-heights : (p r : ℕ) (v : View) → heights (left p r v .lists) ≤ heights (v .lists)
 unfolding heights
-left-heights p r v = left-total (λ q x. levelAt q) slots p r v
+left-heights p r v = left-total (λ q x. levelAt q) expired p r v
 
 freed-heights : (r : ℕ) (v : View) → heights (freed r v .lists) ≡ heights (v .lists)
 unfolding heights
-freed-heights r v = freed-total (λ q x. levelAt q) slots r v (omega arith)
+freed-heights r v = freed-total (λ q x. levelAt q) expired r v (omega arith)
 
 clears-heights : {v u : View} {k : ℕ} → Clears v k u → heights (u .lists) ≤ heights (v .lists)
 clears-heights begun = omega arith
@@ -111,8 +111,8 @@ clears-heights (gave {k} {p} {u} r a) = omega (arith, freed-heights k (left p k 
 fresh-heights : (l : List ℕ) → heights (change (λ p. []) free l) ≡ 0
 unfolding heights
 fresh-heights l =
-    total-ext (λ q x. levelAt q) slots (change (λ p. []) free l) (λ p. []) (λ q k. change-other (λ p. []) free l q (omega arith))
-    ∙ total-none (λ q x. levelAt q) slots
+    total-ext (λ q x. levelAt q) expired (change (λ p. []) free l) (λ p. []) (λ q k. change-other (λ p. []) free l q (omega arith))
+    ∙ total-none (λ q x. levelAt q) expired
 
 formatted-heights : {s : QueueWords} {n turn : ℕ} {a : Answer} {t : QueueWords} → Formatted s n turn a t → heights (view t .lists) ≡ 0
 formatted-heights {n = n} F = ap (λ v. heights (v .lists)) (F .view) ∙ fresh-heights (range n 0)
@@ -125,13 +125,13 @@ pub placed-rises : (r when : ℕ) (v : View)
 unfolding placed heights
 placed-rises r when v =
     let p = target (v .elapsed) (max when (v .elapsed)) in
-    by-cases (decLt p slots)
-    (λ h. rw (lt-ltb p slots h) (total-more (λ q x. levelAt q) slots (v .lists) p r h))
+    by-cases (decLt p expired)
+    (λ h. rw (lt-ltb p expired h) (total-more (λ q x. levelAt q) expired (v .lists) p r h))
     (λ h.
-    rw (le-ltb p slots (omega arith))
+    rw (le-ltb p expired (omega arith))
     (omega (
       arith,
-      total-ext (λ q x. levelAt q) slots (change (v .lists) p (put p r (v .lists p))) (v .lists)
+      total-ext (λ q x. levelAt q) expired (change (v .lists) p (put p r (v .lists p))) (v .lists)
           (λ q k. change-other (v .lists) p (put p r (v .lists p)) q (omega arith)),
     )))
 
@@ -227,9 +227,9 @@ goes-deadline {s} S h {r} {m} {n} {u} T (again p g) y f =
     placed-else r (view s .deadline r + view s .period r) u y d .0 ∙ ap (λ k. k y) (O .deadline)
 goes-deadline S h {r} {u = u} T (ended p g) y f = ap (λ k. k y) (freed-beside r u .deadline ∙ taken-out S h T .deadline)
 
--- the moves are paid for by the heights lost, and five for a timer that is set again
+-- the moves are paid for by the heights lost, and six for a timer that is set again
 poll-paid : {s : QueueWords} → Sound s → {now limit : ℕ} → PollTaken (view s) now → {x : Told} {w : View} → PollsSome (view s) now limit x w
-    → movesOf x + heights (w .lists) ≤ heights (view s .lists) + 5 * resetting s x
+    → movesOf x + heights (w .lists) ≤ heights (view s .lists) + topHeight * resetting s x
 poll-paid {s} S h (nothing-some T) = omega (arith, takes-works S h T .counted)
 poll-paid {s} S h (not-yet T) = omega (arith, takes-works S h T .counted)
 poll-paid {s} S h {x} {w} (handed-some {r} {m} {n} {u} T G) = by (goes-on-heights G)
@@ -237,7 +237,7 @@ poll-paid {s} S h {x} {w} (handed-some {r} {m} {n} {u} T G) = by (goes-on-height
     B : m + heights (u .lists) ≡ heights (view s .lists)
     B = takes-works S h T .counted
 
-    by : Risen (view s) r u x w → movesOf x + heights (w .lists) ≤ heights (view s .lists) + 5 * resetting s x
+    by : Risen (view s) r u x w → movesOf x + heights (w .lists) ≤ heights (view s .lists) + topHeight * resetting s x
     by (stays d e) = omega (arith, B, e, goes-on-counts G .0)
     by (rises d q e) =
         let N = key-of-names S (taken-out S h T .out r refl .1) in
@@ -251,9 +251,9 @@ poll-paid {s} S h {x} {w} (handed-some {r} {m} {n} {u} T G) = by (goes-on-height
 abbrev pays : Call → Told → ℕ
 pays c x = cond (isPlacing c && not (isNo x)) 1 0
 
--- the moves are paid for by the heights lost, and five for each accepted insert or reset and each timer that is set again
+-- the moves are paid for by the heights lost, and six for each accepted insert or reset and each timer that is set again
 abbrev Paid : QueueWords → Answer → QueueWords → Call → Type 0
-Paid s a t c = movesOf (told a) + heights (view t .lists) ≤ heights (view s .lists) + 5 * (pays c (told a) + resetting s (told a))
+Paid s a t c = movesOf (told a) + heights (view t .lists) ≤ heights (view s .lists) + topHeight * (pays c (told a) + resetting s (told a))
 
 wakes-moves : {v : View} {x : Told} → NextWake v x → movesOf x ≡ 0
 wakes-moves (at-once e) = refl
@@ -266,7 +266,7 @@ module _ (s : QueueWords) (a : Answer) (t : QueueWords) where
 
   -- it is answered, and the heights have risen by no more than it pays for
   answered-paid : (c : Call) {x : Told} {v : View} → Answered s a x v t → movesOf x ≡ 0
-      → heights (v .lists) ≤ heights (view s .lists) + 5 * pays c x
+      → heights (v .lists) ≤ heights (view s .lists) + topHeight * pays c x
       → Paid s a t c
   answered-paid c {x} {v} A m h =
       omega (arith, ap movesOf (A .told), ap (pays c) (A .told), ap (λ w. heights (w .lists)) (A .view))
@@ -288,14 +288,15 @@ module _ (s : QueueWords) (a : Answer) (t : QueueWords) where
 
 -- ---- a run
 
--- from any sound store: what is left of the heights and five for each accepted insert or reset, a re-placing among them, pay for all moves
+-- from any sound store: what is left of the heights and six for each accepted insert or reset, a re-placing among them, pay for all moves
 pub run-paid : {s u : QueueWords} {l : List Asked} → Sound s → (R : Runs s l u)
-    → moves l + heights (view u .lists) ≤ heights (view s .lists) + 5 * (tally isPlacing l + resettings R)
+    → moves l + heights (view u .lists) ≤ heights (view s .lists) + topHeight * (tally isPlacing l + resettings R)
 run-paid S rest = omega arith
 run-paid S (next {s} {t} {u} {x} {l} A R) =
     omega (arith, does-paid s (x .answer) t (x .call) S (does S (x .call) A), run-paid (call-sound (x .call) s (x .answer) t A S) R)
 
--- from a fresh store, over any run: "all moves come to at most five for each accepted insert or reset", 02 [7]: "a re-placing counts as an insert"
+-- from a fresh store, over any run: "all moves come to at most five for each accepted insert or reset", 02 [7]: "a re-placing counts as an insert",
+-- 02 [12]: "Demand 3's five becomes six"
 pub moves-bounded : {s t u : QueueWords} {n turn : ℕ} {a : Answer} {l : List Asked} → Formatted s n turn a t → (R : Runs t l u)
-    → moves l ≤ 5 * (tally isPlacing l + resettings R)
+    → moves l ≤ 6 * (tally isPlacing l + resettings R)
 moves-bounded F R = omega (arith, run-paid (F .sound) R, formatted-heights F)

@@ -32,6 +32,7 @@ no-store-once {w} {w′} A B =
         n = (A .records ∙ sym (B .records)) i;
         expired = (A .expired ∙ sym (B .expired)) i;
         free = (A .free ∙ sym (B .free)) i;
+        parking = (A .parking ∙ sym (B .parking)) i;
       };
       hand = (A .hand ∙ sym (B .hand)) i;
       until = (A .until ∙ sym (B .until)) i;
@@ -39,8 +40,8 @@ no-store-once {w} {w′} A B =
 
 pub no-store-met : (w : Wheel) × NoStoreClaim w
 no-store-met = (
-  record { elapsed = 0; occupied = replicate 6 0; stacks = record { n = 0; expired = nobody; free = nobody }; hand = nobody; until = 0 },
-  record { elapsed = refl; occupied = refl; records = refl; expired = refl; free = refl; hand = refl; until = refl },
+  record { elapsed = 0; occupied = replicate 6 0; stacks = record { n = 0; expired = nobody; free = nobody; parking = nobody }; hand = nobody; until = 0 },
+  record { elapsed = refl; occupied = refl; records = refl; expired = refl; free = refl; parking = refl; hand = refl; until = refl },
 )
 
 -- ---- a store that is not sound

@@ -9,7 +9,7 @@ use native.Mathlib.Omega.{arith}
 use Rattle.links.specs.Lists.{nobody}
 use Rattle.links.specs.Whole.{Kept}
 use Rattle.stack.specs.Places.{free}
-use Rattle.wheel.proofs.laws.Next.{first-one, first-not-empty}
+use Rattle.wheel.proofs.laws.Next.{list-one, list-not-none}
 use Rattle.wheel.proofs.laws.One.{polls-one}
 use Rattle.wheel.specs.declared.Wheel.{Wheel}
 use Rattle.queue.specs.declared.Answer.{Answer}
@@ -148,7 +148,6 @@ module _ {s t t′ : QueueWords} {a a′ : Answer} where
             by-deadline (elapsed s) when
             (λ f. one-refusal (C .old r l e f) (D .old r l e f))
             (λ f. one-refusal (C .far r l e f) (D .far r l e f))
-            (λ f. one-refusal (C .other r l e f) (D .other r l e f))
             (λ f. answered-once (placed-size r when _) (C .done r l e f) (D .done r l e f))
 
     pub insert-once : InsertClaim s value when period a t → InsertClaim s value when period a′ t′ → (a ≡ a′) × (t ≡ t′)
@@ -162,7 +161,6 @@ module _ {s t t′ : QueueWords} {a a′ : Answer} where
         by-deadline (elapsed s) when
         (λ f. one-refusal (C .old r p N f) (D .old r p N f))
         (λ f. one-refusal (C .far r p N f) (D .far r p N f))
-        (λ f. one-refusal (C .other r p N f) (D .other r p N f))
         (λ f. answered-once (placed-size r when _ ∙ left-size p r (view s)) (C .done r p N f) (D .done r p N f)))
         (λ f. one-refusal (C .dead f) (D .dead f))
 
@@ -270,9 +268,9 @@ module _ {s t t′ : QueueWords} {a a′ : Answer} where
 
 wakes-one : {v : View} {x y : Told} → Wakes v x → Wakes v y → x ≡ y
 wakes-one (sleeps E) (sleeps G) = refl
-wakes-one (sleeps E) (starts F) = absurd (first-not-empty F E)
-wakes-one (starts F) (sleeps E) = absurd (first-not-empty F E)
-wakes-one (starts F) (starts G) = let q = first-one F G in rw (q .0, q .1)
+wakes-one (sleeps E) (starts X) = absurd (list-not-none X E)
+wakes-one (starts X) (sleeps E) = absurd (list-not-none X E)
+wakes-one (starts X) (starts Y) = ap T.wake (list-one X Y .start)
 
 next-one : {v : View} {x y : Told} → NextWake v x → NextWake v y → x ≡ y
 next-one (at-once e) (at-once f) = refl

@@ -117,7 +117,6 @@ module _ {s t : QueueWords} {a : Answer} where
           by-deadline (elapsed s) when
           (λ f. refused 11 (I .old r l e f))
           (λ f. refused 4 (I .far r l e f))
-          (λ f. refused 5 (I .other r l e f))
           (λ f. answered refl (I .done r l e f))
 
   reset-ends : {key when : ℕ} → Sound s → ResetOn s key when a t → Ends (count s) s a t
@@ -127,7 +126,6 @@ module _ {s t : QueueWords} {a : Answer} where
       by-deadline (elapsed s) when
       (λ f. refused 11 (R .old r p N f))
       (λ f. refused 4 (R .far r p N f))
-      (λ f. refused 5 (R .other r p N f))
       (λ f. answered refl (R .done r p N f)))
       (λ f. refused 6 (R .dead f))
 
@@ -230,6 +228,6 @@ pub insert-shown : (t : QueueWords) × InsertClaim one 7 70 0 (A.Key 65536) t ×
 unfolding over
 insert-shown =
     let m = insert-met one 7 70 0 in
-    let D = m .2 .good one-sound .free refl .done 0 [] one-free (takes-so (omega arith) (λ h. refl)) in
+    let D = m .2 .good one-sound .free refl .done 0 [] one-free (takes-so (omega arith) (λ h. omega arith)) in
     let e : m .0 ≡ A.Key 65536 = told-one (m .0) (A.Key 65536) (D .told) in
     (m .1, rw e at (m .2), D .sound)

@@ -13,12 +13,12 @@ use Rattle.times.specs.Times.{slotOf, width, levelOf}
 use Rattle.times.proofs.laws.Quotients.{slot-lt}
 use Rattle.links.specs.Lists.{Mem, change}
 use Rattle.links.proofs.laws.Lists.{change-same, change-other}
-use Rattle.stack.specs.Places.{slotPlace, slots, expired, free, put, levelAt}
+use Rattle.stack.specs.Places.{slotPlace, expired, free, put, levelAt}
 use Rattle.stack.proofs.laws.Places.{put-tail}
-use Rattle.wheel.specs.Wheel.{Lists, FirstSlot, arrive, Drains, drained, moved, Polls, out, drain, placeFor}
+use Rattle.wheel.specs.Wheel.{Lists, NextList, arrive, Drains, drained, moved, Polls, out, drain, placeFor}
 use Rattle.wheel.specs.Between.{Between}
 use Rattle.wheel.proofs.laws.Between.{rule-between, place-level}
-use Rattle.wheel.proofs.laws.Next.{slot-below, here-below}
+use Rattle.wheel.proofs.laws.Next.{slot-below, here-below, list-height}
 use Rattle.wheel.proofs.laws.Drain.{move-rest, drains-law, drain-law}
 use Rattle.queue.specs.declared.Answer.{Answer}
 use Rattle.queue.specs.Told.{Told, told, Hands, timer}
@@ -33,6 +33,7 @@ use Rattle.promises.proofs.laws.Polling.{taken-from-rest, none-out, fre
 use Rattle.promises.proofs.laws.Does.{whole-takes}
 use Rattle.promises.specs.Order.{keep, ofDeadline, goesTo, PollOrder}
 use Rattle.promises.proofs.laws.TakesOut.{one-list, key-of-names, taken-out}
+use Rattle.promises.proofs.laws.Parked.{list-low, target-waits, target-level}
 use Rattle.times.proofs.laws.Levels.{level-is}
 use Rattle.records.proofs.laws.Words.{upd-same, upd-other}
 
@@ -80,7 +81,7 @@ mem-keep f y (x ∷ l) m = by (f x) refl m (mem-keep f y l)
 
 -- ---- a drain
 
-module _ (d : ℕ → ℕ) (k h : ℕ) (level : h / 64 ≡ suc k) (below : h < slots) where
+module _ (d : ℕ → ℕ) (k h : ℕ) (level : h / 64 ≡ suc k) (below : h < expired) where
   -- one move
   move-order : (L : Lists) (x : ℕ) (l : List ℕ) (r : ℕ) → r ≢ h → arrive k (d x) x (change L h l) r ≡ cond (goesTo d k r x) (L r ++ x ∷ []) (L r)
   unfolding arrive
@@ -109,42 +110,45 @@ module _ (d : ℕ → ℕ) (k h : ℕ) (level : h / 64 ≡ suc k) (below : h < s
 -- x, handed out, lay in the place and is the first of its equals there; the others come next, at level 0, in their order
 record Ordered (d : ℕ → ℕ) (L : Lists) (x : ℕ) (N : Lists) : Type 0 where
   place : ℕ
-  below : place < slots
+  below : place < expired
   member : Mem x (L place)
   slot : ℕ
   low : slot < 64
   order : ofDeadline d (d x) (L place) ≡ x ∷ ofDeadline d (d x) (N slot)
 
 -- a drain, and what the rest of the poll does
-drained-order : {d : ℕ → ℕ} {e : ℕ} {L : Lists} → Between d e L → {k s : ℕ} → FirstSlot e L (suc k) s → {m : ℕ} {M : Lists}
-    → Drains d k (slotPlace (suc k) s) L m M → {x : ℕ} {N : Lists} → Ordered d M x N → Ordered d L x N
-drained-order {d} {e} {L} B {k} {s} F {m} {M} D {x} {N} O = by (ℕ-discrete (levelAt (O .place)) k)
+drained-order : {d : ℕ → ℕ} {e : ℕ} {L : Lists} {k h c : ℕ} → NextList e L (suc k) h c → {m : ℕ} {M : Lists}
+    → Drains d k h L m M → {x : ℕ} {N : Lists} → Ordered d M x N → Ordered d L x N
+drained-order {d} {e} {L} {k} {h} {c} X {m} {M} D {x} {N} O = by (ℕ-discrete (levelAt (O .place)) k)
   where
-    level : slotPlace (suc k) s / 64 ≡ suc k
-    level = place-level (suc k) s (slot-below B F)
+    level : h / 64 ≡ suc k
+    level = list-height X .0
 
-    empty : M (slotPlace (suc k) s) ≡ []
-    empty = drains-law d k (slotPlace (suc k) s) level (here-below B F) D .1
+    below : h < expired
+    below = list-height X .1
 
-    not-here : O .place ≢ slotPlace (suc k) s
+    empty : M h ≡ []
+    empty = drains-law d k h level below D .1
+
+    not-here : O .place ≢ h
     not-here = λ z. rw (z, empty) at (O .member)
 
-    is : M (O .place) ≡ L (O .place) ++ keep (goesTo d k (O .place)) (L (slotPlace (suc k) s))
-    is = drain-order d k (slotPlace (suc k) s) level (here-below B F) D (O .place) not-here
+    is : M (O .place) ≡ L (O .place) ++ keep (goesTo d k (O .place)) (L h)
+    is = drain-order d k h level below D (O .place) not-here
 
     by : Dec (levelAt (O .place) ≡ k) → Ordered d L x N
     by (yes z) =
         let f = goesTo d k (O .place) in
         let w : ℕ → Bool = λ y. eqb (d y) (d x) in
-        let l = L (slotPlace (suc k) s) in
-        let e₁ : M (O .place) ≡ keep f l = is ∙ ap (λ a. a ++ keep f l) (F .lowest (O .place) (omega arith)) in
+        let l = L h in
+        let e₁ : M (O .place) ≡ keep f l = is ∙ ap (λ a. a ++ keep f l) (list-low X (O .place) (omega arith)) in
         let m₃ = mem-keep f x l (rw e₁ at (O .member)) in
         let same : (y : ℕ) → w y ≡ true → f y ≡ true
         = λ y g. let a : d y ≡ d x = eqb-true (d y) (d x) g in rw a (m₃ .1) in
         let e₂ : keep w (M (O .place)) ≡ keep w l = ap (keep w) e₁ ∙ keep-keep w f l same in
         record {
-          place = slotPlace (suc k) s;
-          below = here-below B F;
+          place = h;
+          below = below;
           member = m₃ .0;
           slot = O .slot;
           low = O .low;
@@ -152,7 +156,7 @@ drained-order {d} {e} {L} B {k} {s} F {m} {M} D {x} {N} O = by (ℕ-discrete (le
         }
     by (no z) =
         let f = goesTo d k (O .place) in
-        let l = L (slotPlace (suc k) s) in
+        let l = L h in
         let nobody : (y : ℕ) → f y ≡ false
         = λ y.
         ne-eqb (slotPlace k (slotOf (d y) k)) (O .place)
@@ -174,7 +178,7 @@ polls-order {d} B (out {e} {s} {x} {L} {l} F due is) =
     let low : levelAt p ≡ 0 = place-level 0 s (slot-below B F) in
     record {
       place = p;
-      below = here-below B F;
+      below = omega (arith, here-below B F);
       member = rw is (inl refl);
       slot = p;
       low = omega arith;
@@ -183,7 +187,7 @@ polls-order {d} B (out {e} {s} {x} {L} {l} F due is) =
           ∙ ap (λ b. cond b (x ∷ ofDeadline d (d x) l) (ofDeadline d (d x) l)) (eq-eqb (d x) (d x) refl)
           ∙ ap (λ a. x ∷ ofDeadline d (d x) a) (sym (change-same L p l));
     }
-polls-order B (drain F due D r) = drained-order B F D (polls-order (drain-law B F D .rule) r)
+polls-order B (drain X due D r) = drained-order X D (polls-order (drain-law B X D .rule) r)
 
 -- at level 0 already, it is the head of its slot
 polls-head : {d : ℕ → ℕ} {now e : ℕ} {L : Lists} {x m n c : ℕ} {N : Lists} → Polls d now e L (some x) m n c N → (p : ℕ) → p < 64
@@ -192,7 +196,7 @@ polls-head : {d : ℕ → ℕ} {now e : ℕ} {L : Lists} {x m n c : ℕ} {N : Li
 polls-head (out {e} {s} {x} {L} {l} F due is) p low m one =
     let z : slotPlace 0 s ≡ p = one (slotPlace 0 s) (rw is (inl refl)) in
     (l, ap L (sym z) ∙ is, ap (change L (slotPlace 0 s) l) (sym z) ∙ change-same L (slotPlace 0 s) l, refl)
-polls-head {x = x} (drain {k = k} F due D r) p low m one = absurd (rw (F .lowest p (omega arith)) at m)
+polls-head {x = x} (drain {k = k} X due D r) p low m one = absurd (rw (list-low X p (omega arith)) at m)
 
 -- ---- what becomes of the record that is handed out
 
@@ -204,15 +208,7 @@ same-key x {a} {b} {c} {d} {e} {a′} {b′} {c′} {d′} {e′} p q =
     let g : c ≡ c′ = cc in
     (f, g)
 
--- a deadline past elapsed has a slot
-target-slot : (e w : ℕ) → e < w → (target e (max w e) ≡ placeFor e w) × (placeFor e w < slots)
-unfolding target placeFor
-target-slot e w h =
-    let m : max w e ≡ w = omega arith in
-    let n : w ≢ e = omega arith in
-    (rw (m, ne-eqb w e n), omega (arith, slot-lt w (levelOf e w), level-is e w .within))
-
--- and in the row of elapsed it is its own
+-- a deadline in the row of elapsed is its own
 low-deadline : (p e w : ℕ) → p < 64 → p ≡ placeFor e w → w ≡ 64 * (e / 64) + p
 unfolding placeFor slotOf width
 low-deadline p e w h q =
@@ -222,15 +218,15 @@ low-deadline p e w h q =
     omega (arith, row, slot)
 
 module _ {v : View} {r m n : ℕ} {u : View} (late : u .elapsed ≤ v .deadline r) where
-  -- a list below the free one is as it was, but for the slot where the timer is set again
-  goes-list : {x : Told} {w : View} → GoesOn v r m n u x w → (p : ℕ) → p < free → (0 < v .period r → p ≢ placeFor (u .elapsed) (v .deadline r + v .period r))
+  -- a list below the free one is as it was, but for the one where the timer is set again
+  goes-list : {x : Told} {w : View} → GoesOn v r m n u x w → (p : ℕ) → p < free → (0 < v .period r → p ≢ target (u .elapsed) (v .deadline r + v .period r))
       → w .lists p ≡ u .lists p
   unfolding placed
   goes-list (once z) p h f = freed-beside r u .lists p h
   goes-list (ended q g) p h f = freed-beside r u .lists p h
   goes-list (again q g) p h f =
-      let t = target-slot (u .elapsed) (v .deadline r + v .period r) (omega (arith, late)) in
-      change-other (u .lists) _ _ p (λ z. f q (z ∙ t .0))
+      let t : max (v .deadline r + v .period r) (u .elapsed) ≡ v .deadline r + v .period r = omega (arith, late) in
+      change-other (u .lists) _ _ p (λ z. f q (z ∙ ap (target (u .elapsed)) t))
 
   -- those with the deadline of the one that was handed out are as they were, wherever it is set again
   goes-equals : {x : Told} {w : View} → GoesOn v r m n u x w → u .deadline ≡ v .deadline → (p : ℕ) → p < free → (Mem r (u .lists p) → ⊥)
@@ -274,7 +270,7 @@ module _ {s : QueueWords} (S : Sound s) where
         let a : At v r expired = record { timed = omega arith; member = rw e (inl refl) } in
         let late : v .elapsed ≤ v .deadline r = omega (arith, S .rule .free z₀ .stack r (a .member)) in
         let z = goes-on-says G in
-        let away : (k y d m n i p : ℕ) → Hands x k y d m n → Names v k i p → p < slots → ⊥
+        let away : (k y d m n i p : ℕ) → Hands x k y d m n → Names v k i p → p < expired → ⊥
         = λ k y d m n i p is N h. omega (arith, names-it a (same-key x z is .0) N .1) in
         record {
           stack = λ i j f.
@@ -282,7 +278,7 @@ module _ {s : QueueWords} (S : Sound s) where
               let q₁ : r ≡ i = cc in
               let q₂ : l ≡ j = cc in
               let B = goes-list late G expired (omega arith)
-              (λ some y. omega (arith, target-slot (v .elapsed) (v .deadline r + v .period r) (omega (arith, late)) .1, y)) in
+              (λ some y. omega (arith, target-waits (v .elapsed) (v .deadline r + v .period r) (omega (arith, late)), y)) in
               (rw (← q₁) z, B ∙ change-same (v .lists) expired l ∙ q₂, goes-on-clock G);
           head = λ k y d m n i p is N h. absurd (away k y d m n i p is N (omega arith));
           equals = λ k y d m n i p is N h. absurd (away k y d m n i p is N h);
@@ -307,7 +303,8 @@ module _ {s : QueueWords} (S : Sound s) where
               = goes-list late G p (omega (arith, h))
               (λ some f.
               let own = low-deadline p (v .elapsed) (v .deadline r) h (on .place) in
-              let next = low-deadline p e (v .deadline r + v .period r) h f in
+              let level = target-level e (v .deadline r + v .period r) (omega (arith, late, some)) (omega (arith, f, h)) in
+              let next = low-deadline p e (v .deadline r + v .period r) h (f ∙ level) in
               omega (arith, own, next, H .3)) in
               rw (← q) (H .0, H .1, still ∙ H .2);
           equals = λ k y d m₁ n₁ i p is N h.

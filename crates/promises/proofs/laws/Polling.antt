@@ -39,7 +39,7 @@ use Rattle.promises.specs.Runs.{movesOf}
 use Rattle.promises.specs.Polling.{IsPending, SameRecord, Beside, AllStay, PollLeast, PollClock, drainsOf, SaysLast, Finished, Gone, SetAgain, HandsLeast}
 use Rattle.promises.proofs.laws.TakesOut.{TakenOut, taken-out, none-before, gotBy, key-of-names}
 use Rattle.times.proofs.laws.Quotients.{slot-lt}
-use Rattle.times.specs.Times.{levelOf}
+use Rattle.times.specs.Times.{levelOf, block}
 use Rattle.times.proofs.laws.Levels.{level-is}
 
 -- ---- sums over all that is pending
@@ -53,7 +53,7 @@ total-last u n L = refl
 
 weigh-split : (w : ℕ → ℕ) (L : Lists) → weigh w L ≡ amount w L + sumOf w (L expired)
 unfolding amount
-weigh-split w L = total-last (λ p x. w x) 384 L
+weigh-split w L = total-last (λ p x. w x) expired L
 
 -- ---- a record is freed: below the free list nothing changes, and of the words only its turn
 
@@ -215,7 +215,11 @@ pub target-timed : (e w : ℕ) → target e w < free
 unfolding target placeFor
 target-timed e w =
     by-cases (ℕ-discrete w e) (λ z. rw (eq-eqb w e z) (omega arith))
-    (λ z. rw (ne-eqb w e z) (omega (arith, slot-lt w (levelOf e w), level-is e w .within)))
+    (λ z.
+    rw (ne-eqb w e z)
+    (by-cases (ℕ-discrete (block w) (block e))
+    (λ b. rw (eq-eqb (block w) (block e) b) (omega (arith, slot-lt w (levelOf e w), level-is e w .within)))
+    (λ b. rw (ne-eqb (block w) (block e) b) (omega arith))))
 
 placed-count : (r when : ℕ) (u : View) → pending (placed r when u) ≡ pending u + 1
 unfolding placed pending

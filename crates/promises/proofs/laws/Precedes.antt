@@ -13,9 +13,10 @@ use Rattle.times.proofs.laws.Quotients.{slot-lt}
 use Rattle.links.specs.Lists.{Mem, without, change}
 use Rattle.links.proofs.laws.Lists.{mem-left, mem-right, change-same, change-other}
 use Rattle.records.proofs.laws.Inner.{mem-other}
-use Rattle.stack.specs.Places.{slotPlace, slots, put, levelAt}
+use Rattle.stack.specs.Places.{slotPlace, expired, put, levelAt}
 use Rattle.stack.proofs.laws.Places.{put-tail}
 use Rattle.wheel.specs.Wheel.{Lists, arrive}
+use Rattle.wheel.proofs.laws.Next.{list-height}
 use Rattle.wheel.specs.Limited.{Outcome, ended as stopped, yet, Limited, rests, waits, hands, finds, stops, moves, empties}
 use Rattle.wheel.specs.Sums.{total}
 use Rattle.wheel.proofs.laws.Sums.{total-less, total-more, hits, lies-times, mem-kept, put-mem}
@@ -98,7 +99,7 @@ module _ {d : ℕ → ℕ} {r s : ℕ} where
 -- the same while p is drained: r was moved down already, and s, which goes to the same slot, is still to be moved
 pub record Split (d : ℕ → ℕ) (p : ℕ) (L : Lists) (r s : ℕ) : Type 0 where
   pub high : 0 < levelAt p
-  pub below : p < slots
+  pub below : p < expired
   pub place : ℕ
   pub is : place ≡ slotPlace (levelAt p - 1) (slotOf (d r) (levelAt p - 1))
   pub front : Mem r (L place)
@@ -107,22 +108,22 @@ pub record Split (d : ℕ → ℕ) (p : ℕ) (L : Lists) (r s : ℕ) : Type 0 wh
 
 -- in one list, or so
 abbrev pub Apart : (ℕ → ℕ) → ℕ → Lists → ℕ → ℕ → Type 0
-Apart d p L r s = Leads slots d L r s ⊎ Split d p L r s
+Apart d p L r s = Leads expired d L r s ⊎ Split d p L r s
 
 abbrev pub Ahead : (ℕ → ℕ) → Option ℕ → Lists → ℕ → ℕ → Type 0
-Ahead d none L r s = Leads slots d L r s
+Ahead d none L r s = Leads expired d L r s
 Ahead d (some p) L r s = Apart d p L r s
 
 abbrev pub After : (ℕ → ℕ) → Outcome → Lists → ℕ → ℕ → Type 0
-After d (stopped g) L r s = Leads slots d L r s
+After d (stopped g) L r s = Leads expired d L r s
 After d (yet p) L r s = Apart d p L r s
 
 abbrev pub High : Option ℕ → Type 0
 High none = Unit {0}
-High (some p) = (0 < levelAt p) × (p < slots)
+High (some p) = (0 < levelAt p) × (p < expired)
 
 -- one move
-module _ (d : ℕ → ℕ) (r s p x : ℕ) (l : List ℕ) (L : Lists) (high : 0 < levelAt p) (below : p < slots) (is : L p ≡ x ∷ l) where
+module _ (d : ℕ → ℕ) (r s p x : ℕ) (l : List ℕ) (L : Lists) (high : 0 < levelAt p) (below : p < expired) (is : L p ≡ x ∷ l) where
   abbrev k : ℕ
   k = levelAt p - 1
 
@@ -138,7 +139,7 @@ module _ (d : ℕ → ℕ) (r s p x : ℕ) (l : List ℕ) (L : Lists) (high : 0 
   to-other : to ≢ p
   to-other = omega (arith, high, slot-lt (d x) k)
 
-  to-below : to < slots
+  to-below : to < expired
   to-below = omega (arith, high, below, slot-lt (d x) k)
 
   rest-is : W p ≡ l
@@ -147,7 +148,7 @@ module _ (d : ℕ → ℕ) (r s p x : ℕ) (l : List ℕ) (L : Lists) (high : 0 
   tail-is : W to ≡ M to ++ x ∷ []
   tail-is = change-same M to (put to x (M to)) ∙ put-tail to x (M to) (omega (arith, to-below))
 
-  arrive-leads : Leads slots d M r s → Leads slots d W r s
+  arrive-leads : Leads expired d M r s → Leads expired d W r s
   arrive-leads O =
       record {
         place = O .place;
@@ -159,7 +160,7 @@ module _ (d : ℕ → ℕ) (r s p x : ℕ) (l : List ℕ) (L : Lists) (high : 0 
       }
 
   -- from its list
-  leads-moves : Leads slots d L r s → Apart d p W r s
+  leads-moves : Leads expired d L r s → Apart d p W r s
   leads-moves O = by-cases (ℕ-discrete (O .place) p) (λ (z : O .place ≡ p). here (rw (z, is) at (O .order))) elsewhere
     where
       here : Precedes r s (x ∷ l) → Apart d p W r s
@@ -216,27 +217,26 @@ module _ (d : ℕ → ℕ) (r s p x : ℕ) (l : List ℕ) (L : Lists) (high : 0 
             equal = O .equal;
           })
 
-  move-once : total (λ q y. hits s y) slots W ≡ total (λ q y. hits s y) slots L
-  move-once = omega (arith, total-less (λ q y. hits s y) slots L p x l below is, total-more (λ q y. hits s y) slots M to x to-below)
+  move-once : total (λ q y. hits s y) expired W ≡ total (λ q y. hits s y) expired L
+  move-once = omega (arith, total-less (λ q y. hits s y) expired L p x l below is, total-more (λ q y. hits s y) expired M to x to-below)
 
 module _ {d : ℕ → ℕ} {now r s : ℕ} where
   -- a call of the wheel does not hand out s, and r it hands out or leaves before s
   pub limited-first : {h : Option ℕ} {b e m n c : ℕ} {L N : Lists} {o : Outcome} → Limited d now h b e L o m n c N → High h
-      → total (λ q x. hits s x) slots L ≤ 1 → Ahead d h L r s → (gotBy o ≡ some s → ⊥) × ((gotBy o ≡ some r) ⊎ After d o N r s)
+      → total (λ q x. hits s x) expired L ≤ 1 → Ahead d h L r s → (gotBy o ≡ some s → ⊥) × ((gotBy o ≡ some r) ⊎ After d o N r s)
   unfolding arrive
   limited-first (rests E) h one O = (λ z. let y : _≡_ {A = ℕ} 0 1 = cc in omega arith, inr O)
   limited-first (waits F g) h one O = (λ z. let y : _≡_ {A = ℕ} 0 1 = cc in omega arith, inr O)
   limited-first (hands {s = c} {x = x} {L = L} {l = l} F due is) h one O =
       let p = slotPlace 0 c in
-      let hp : p < slots = omega (arith, F .is) in
+      let hp : p < expired = omega (arith, F .is) in
       let A = leave-first p x l hp is O in (
         λ z.
             let y : x ≡ s = Option·some-injective x s z in
-            gone-then s slots L one p l hp (rw y at is) (A .0 .0) (A .0 .1) (A .0 .2),
+            gone-then s expired L one p l hp (rw y at is) (A .0 .0) (A .0 .1) (A .0 .2),
         ⊎-elim (λ z. inl (ap some (sym z))) inr (A .1),
       )
-  limited-first (finds {k = k} {s = c} F due R) h one O =
-      limited-first R (omega (arith, F .is), omega (arith, F .is, F .within)) one (inl O)
+  limited-first (finds X due R) h one O = limited-first R (omega (arith, list-height X .0), list-height X .1) one (inl O)
   limited-first (stops i) h one O = (λ z. let y : _≡_ {A = ℕ} 0 1 = cc in omega arith, inr O)
   limited-first (moves {p = p} {x = x} {L = L} {l = l} i R) h one O =
       limited-first R h (rw (move-once d r s p x l L (h .0) (h .1) i) one)

@@ -10,7 +10,7 @@ use native.Mathlib.Decide.{ℕ-discrete}
 use native.Mathlib.Omega.{arith}
 use Rattle.links.specs.Lists.{nobody, Mem, without, change}
 use Rattle.links.proofs.laws.Lists.{change-same, change-other, mem-app}
-use Rattle.stack.specs.Places.{slotPlace, slots, expired, free, put, levelAt}
+use Rattle.stack.specs.Places.{slotPlace, expired, free, put, levelAt}
 use Rattle.stack.proofs.laws.Places.{put-tail}
 use Rattle.stack.proofs.laws.Whole as stack-laws
 use Rattle.wheel.specs.Wheel.{Lists}
@@ -235,13 +235,13 @@ module _ {st : QueueWords} (S : Sound st) {j k : ℕ} (Q : Queued (view st) j k)
       by : (x : Told) {a b c d e a′ b′ c′ d′ e′ : ℕ} → handing x ≡ timer a b c d e → handing x ≡ timer a′ b′ c′ d′ e′ → a ≡ a′
       by x {a = a} {b} {c} {d} {e} {a′} {b′} {c′} {d′} {e′} p q = let y : timer a b c d e ≡ timer a′ b′ c′ d′ e′ = sym p ∙ q in cc
 
-  -- on the wheel, where the expired stack is empty
-  on-wheel : v .lists expired ≡ [] → Leads free (v .deadline) (v .lists) (Q .front) (Q .back) → Leads slots (v .deadline) (v .lists) (Q .front) (Q .back)
+  -- on the wheel or parked, where the expired stack is empty
+  on-wheel : v .lists expired ≡ [] → Leads free (v .deadline) (v .lists) (Q .front) (Q .back) → Leads expired (v .deadline) (v .lists) (Q .front) (Q .back)
   on-wheel empty O =
       let away : O .place ≢ expired = λ z. absurd (rw (z, empty) at (O .order)) in
       record { place = O .place; within = omega (arith, away, O .within); order = O .order; equal = O .equal }
 
-  off-wheel : {L : Lists} → Leads slots (v .deadline) L (Q .front) (Q .back) → Leads free (v .deadline) L (Q .front) (Q .back)
+  off-wheel : {L : Lists} → Leads expired (v .deadline) L (Q .front) (Q .back) → Leads free (v .deadline) L (Q .front) (Q .back)
   off-wheel O = record { place = O .place; within = omega (arith, O .within); order = O .order; equal = O .equal }
 
   -- as the call finds them
@@ -280,10 +280,10 @@ module _ {st : QueueWords} (S : Sound st) {j k : ℕ} (Q : Queued (view st) j k)
           let d : st .hand ≢ nobody = λ z. omega (arith, O .below, z) in
           absurd (nil≢cons (sym (S .rule .inside d .stack) ∙ e))
   takes-ends (polled-some {o = stopped g} empty P) =
-      let O = limited-first P high (lies-once S (Q .back) slots) (ahead empty) in
+      let O = limited-first P high (lies-once S (Q .back) expired) (ahead empty) in
       (O .0, ⊎-elim inl (λ y. inr (inl (off-wheel y))) (O .1))
   takes-ends (polled-some {o = yet p} empty P) =
-      let O = limited-first P high (lies-once S (Q .back) slots) (ahead empty) in
+      let O = limited-first P high (lies-once S (Q .back) expired) (ahead empty) in
       (O .0, ⊎-elim inl (λ y. inr (⊎-elim (λ z. inl (off-wheel z)) inr y)) (O .1))
 
   -- nobody is taken out

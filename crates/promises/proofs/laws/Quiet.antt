@@ -11,7 +11,7 @@ use borrow.Author.Tests.{eq-eqb}
 use Rattle.times.specs.Times.{width, slotOf, levelBelow, levelOf}
 use Rattle.links.specs.Lists.{nobody, Mem, change}
 use Rattle.links.proofs.laws.Lists.{change-same, change-other}
-use Rattle.stack.specs.Places.{expired, free, put}
+use Rattle.stack.specs.Places.{parking, expired, free, put}
 use Rattle.stack.proofs.laws.Places.{put-empty}
 use Rattle.stack.specs.Format.{formatted, range}
 use Rattle.stack.proofs.laws.Whole as stack-laws
@@ -28,17 +28,17 @@ use Rattle.records.specs.Slices.{Fits}
 use Rattle.records.proofs.laws.Cases.{takes-so}
 use Rattle.delay_queue.specs.Claims.{InsertClaim, PollClaim}
 use Rattle.promises.proofs.laws.Met.{format-met, insert-met, poll-met}
-use Rattle.promises.specs.OneCall.{one}
+use Rattle.promises.specs.OneCall.{zeros, one}
 use Rattle.promises.proofs.laws.OneCall.{one-sound, one-free}
 use Rattle.promises.specs.Quiet.{Quiet}
-use Rattle.promises.specs.Looking.{OnSlot}
+use Rattle.promises.specs.Looking.{InList}
 
 -- a poll takes it to any time
 quiet-polls : {v : View} {now : ℕ} → ((p : ℕ) → p < free → v .lists p ≡ []) → {y : Told} {u : View} → QueuePolls v now y u
-    → (u .elapsed ≡ now) × (u .lists ≡ v .lists)
+    → (u .elapsed ≡ now) × (u .lists ≡ v .lists) × (u .n ≡ v .n)
 quiet-polls E (handed (popped e) G) = absurd (nil≢cons (sym (E expired (omega arith)) ∙ e))
-quiet-polls E (handed (polled e P) G) = absurd (Option·some-ne-none _ (polls-one P (idle (λ q h. E q (omega arith))) .got))
-quiet-polls E (nothing (polled e P)) = let S = polls-one P (idle (λ q h. E q (omega arith))) in (S .elapsed, S .lists)
+quiet-polls E (handed (polled e P) G) = absurd (Option·some-ne-none _ (polls-one P (idle (λ q h. E q (omega arith), E parking (omega arith))) .got))
+quiet-polls E (nothing (polled e P)) = let S = polls-one P (idle (λ q h. E q (omega arith), E parking (omega arith))) in (S .elapsed, S .lists, refl)
 
 -- no poll is in hand: it would have something to drain
 pub quiet-rest : {s : QueueWords} {e : ℕ} → Quiet s e → AtRest s
@@ -168,8 +168,7 @@ abbrev pair : List ℕ
 pair = 0 ∷ 0 ∷ []
 
 abbrev blank : QueueWords
-blank = words (record { elapsed = 0; occupied = []; stacks = record { n = 0; expired = 0; free = 0 }; hand = 0; until = 0 }) []
-    (0 ∷ 0 ∷ pair) pair pair pair pair pair
+blank = words zeros [] (0 ∷ 0 ∷ pair) pair pair pair pair pair
 
 fits : Fits (slices blank) 2
 fits =
@@ -184,26 +183,42 @@ fits =
       };
     }
 
--- a store at the time 0 with nothing but two records to take
-pub record Fresh (s : QueueWords) : Type 0 where
+-- a store at the time e with nothing but two records to take
+pub record Fresh (s : QueueWords) (e : ℕ) : Type 0 where
   pub sound : Sound s
   pub at-rest : AtRest s
   pub size : view s .n ≡ 2
-  pub clock : elapsed s ≡ 0
+  pub clock : elapsed s ≡ e
+  pub empty : (p : ℕ) → p < free → view s .lists p ≡ []
   pub room : view s .lists free ≡ 0 ∷ 1 ∷ []
 
-pub fresh-two : (s : QueueWords) × Fresh s
+pub fresh-two : (e : ℕ) → (s : QueueWords) × Fresh s e
 unfolding range
-fresh-two =
+fresh-two e =
     let m = format-met blank 2 1 in
-    let D = m .2 .done fits (record { some = omega arith; last = omega arith }) in (
-      m .1,
+    let D = m .2 .done fits (record { some = omega arith; last = omega arith }) in
+    let room = ap (λ v. v .lists free) (D .view) ∙ change-same (λ p. []) free (range 2 0) in
+    let none : (p : ℕ) → p < free → view (m .1) .lists p ≡ []
+    = λ p h. ap (λ v. v .lists p) (D .view) ∙ change-other (λ p. []) free (range 2 0) p (omega (arith, h)) in
+    let Q : Quiet (m .1) 0 = record {
+      sound = D .sound;
+      clock = ap (λ v. v .elapsed) (D .view);
+      empty = none;
+      item = 0;
+      rest = 1 ∷ [];
+      first = room;
+    } in
+    let n = poll-met (m .1) e in
+    let R = quiet-poll Q (omega arith) (n .2) in
+    let r = quiet-polls none (n .2 .good (D .sound) .free (quiet-rest Q) .done (omega (arith, Q .clock)) .1) in (
+      n .1,
       record {
-        sound = D .sound;
-        at-rest = ap (λ v. v .hand) (D .view);
-        size = ap (λ v. v .n) (D .view);
-        clock = ap (λ v. v .elapsed) (D .view);
-        room = ap (λ v. v .lists free) (D .view) ∙ change-same (λ p. []) free (range 2 0);
+        sound = R .sound;
+        at-rest = quiet-rest R;
+        size = r .2 ∙ ap (λ v. v .n) (D .view);
+        clock = R .clock;
+        empty = R .empty;
+        room = ap (λ L. L free) (r .1) ∙ room;
       },
     )
 
@@ -218,14 +233,15 @@ unfolding target
 target-0 e = let w : max 0 e ≡ e = omega arith in rw (w, eq-eqb e e refl)
 
 -- a timer for 70, then one for 0: a store where one has expired and another lies on the wheel
-pub both-shown : (s : QueueWords) × Sound s × ((r : ℕ) × (l : List ℕ) × (view s .lists expired ≡ r ∷ l)) × OnSlot (view s) 0 65
+pub both-shown : (s : QueueWords) × Sound s × ((r : ℕ) × (l : List ℕ) × (view s .lists expired ≡ r ∷ l)) × InList (view s) 0 65
 both-shown =
-    let F = fresh-two .1 in
-    let m = insert-met (fresh-two .0) 0 70 0 in
-    let k : Takes (elapsed (fresh-two .0)) 70 = takes-so (omega (arith, F .clock)) (λ h. rw (F .clock)) in
-    let A = came (m .2) (F .sound) (F .at-rest) (F .room) k (target-70 (elapsed (fresh-two .0)) (F .clock)) (omega arith) in
+    let s = fresh-two 0 .0 in
+    let F = fresh-two 0 .1 in
+    let m = insert-met s 0 70 0 in
+    let k : Takes (elapsed s) 70 = takes-so (omega (arith, F .clock)) (λ h. omega (arith, F .clock)) in
+    let A = came (m .2) (F .sound) (F .at-rest) (F .room) k (target-70 (elapsed s) (F .clock)) (omega arith) in
     let n = insert-met (m .1) 0 0 0 in
     let j : Takes (elapsed (m .1)) 0 = takes-so (omega (arith, A .clock, F .clock)) (λ h. absurd (omega arith)) in
     let B = came (n .2) (A .sound) (A .at-rest) (A .left) j (target-0 (elapsed (m .1))) (omega arith) in
     let on : Mem 0 (view (n .1) .lists 65) = rw (B .else 65 (omega arith) (omega arith)) (A .member) in
-    (n .1, B .sound, some-first 1 (view (n .1) .lists expired) (B .member), record { slot = omega arith; member = on })
+    (n .1, B .sound, some-first 1 (view (n .1) .lists expired) (B .member), record { below = omega arith; member = on })

@@ -13,7 +13,7 @@ use Rattle.queue.specs.declared.Answer.{Answer}
 use Rattle.queue.specs.Told.{Told, told}
 use Rattle.queue.specs.Told as T
 use Rattle.records.specs.View.{View}
-use Rattle.records.specs.Records.{Names, TooOld, TooFar, OtherBlock, Takes, numberIn, turnIn}
+use Rattle.records.specs.Records.{Names, TooOld, TooFar, Takes, numberIn, turnIn}
 use Rattle.records.specs.Words.{QueueWords, count, elapsed, markOf, view, slices, AtRest, MidPoll, Sound, PastKept}
 use Rattle.records.specs.Slices.{Room}
 use Rattle.records.proofs.laws.Words.{past-refl}
@@ -112,19 +112,18 @@ module _ {s t : QueueWords} {a : Answer} where
       pass (λ x. x .1 e) (pass (λ h. omega (arith, h, I .late, I .due, e)) (rest (J .same d e))))
       (λ n. stop (d, n) (J .other d n)))
 
-  -- 11, 4 and 5
+  -- 11 and 4
   by-when : (w : ℕ) → (TooOld (elapsed s) w → Refused 11 s a t) → (TooFar (elapsed s) w → Refused 4 s a t)
-      → (OtherBlock (elapsed s) w → Refused 5 s a t) → (Takes (elapsed s) w → Settled (count s) s a t end)
+      → (Takes (elapsed s) w → Settled (count s) s a t end)
       → Settled (count s) s a t (deadlineLines (elapsed s) w)
-  by-when w o f g h =
+  by-when w o f h =
       by-deadline (elapsed s) w
       (λ x. stop x (o x))
       (λ x. pass (λ y. omega arith) (stop x (f x)))
-      (λ x. pass (λ y. omega arith) (pass (λ y. omega arith) (stop x (g x))))
-      (λ x. pass (x .recent) (pass (λ y. far-not y x) (pass (λ y. y .2 (x .near (y .0))) (h x))))
+      (λ x. pass (x .recent) (pass (λ y. far-not y x) (h x)))
     where
       far-not : TooFar (elapsed s) w → Takes (elapsed s) w → ⊥
-      far-not y x = omega (arith, x .near (y .0))
+      far-not y x = omega (arith, y .1, x .near (y .0))
 
   format-settled : {n turn : ℕ} → FormatClaim s n turn a t → Settled n s a t (linesOf (C.Format n turn) s)
   format-settled {n} {turn} F =
@@ -147,7 +146,7 @@ module _ {s t : QueueWords} {a : Answer} where
       by : InsertOn s value when period a t → (l : List ℕ) → view s .lists free ≡ l
           → Settled (count s) s a t (line 3 (view s .lists free ≡ []) (deadlineLines (elapsed s) when))
       by I [] e = stop e (I .full e)
-      by I (r ∷ l) e = pass (some e) (by-when when (I .old r l e) (I .far r l e) (I .other r l e)
+      by I (r ∷ l) e = pass (some e) (by-when when (I .old r l e) (I .far r l e)
           (λ x. done-so refl (placed-size r when _) (I .done r l e x)))
 
   -- 6
@@ -170,7 +169,7 @@ settled : (c : Call) (s : QueueWords) (a : Answer) (t : QueueWords) → CallClai
 settled (C.Format n turn) s a t A = format-settled A
 settled (C.Insert value when period) s a t A = insert-settled A
 settled (C.Reset key when) s a t A =
-    judged A (λ S F. freely F (λ R. by-names S key (R .dead) (λ r p N. by-when when (R .old r p N) (R .far r p N) (R .other r p N)
+    judged A (λ S F. freely F (λ R. by-names S key (R .dead) (λ r p N. by-when when (R .old r p N) (R .far r p N)
     (λ x. done-so refl (placed-size r when _ ∙ left-size p r (view s)) (R .done r p N x)))))
 settled (C.Remove key) s a t A = judged A (λ S F. freely F (λ R. by-names S key (R .dead)
     (λ r p N. done-so refl (freed-size r _ ∙ left-size p r (view s)) (R .done r p N))))
@@ -278,7 +277,7 @@ passed : {j k : ℕ} {P Q : Type 0} → k ≢ j → ((k ≡ j) × P) ⊎ ((P →
 passed d x = behind d x .1
 
 far : {e w k : ℕ} → k < 6 → First (deadlineLines e w) k → e < w
-far h x = ⊎-elim (λ y. y .1 .0) (λ y. ⊎-elim (λ z. z .1 .0) (λ z. absurd (z .1)) (y .1)) (passed (omega arith) x)
+far h x = ⊎-elim (λ y. y .1 .0) (λ y. absurd (y .1)) (passed (omega arith) x)
 
 later : (c : Call) (s : QueueWords) (k : ℕ) → 3 < k → k < 6 → RefusedBy c s k → elapsed s < whenOf c
 later (C.Format n turn) s k h g x = absurd (passed (omega arith) (passed (omega arith) x))
@@ -291,12 +290,30 @@ later C.Wake s k h g x = absurd (passed (omega arith) (passed (omega arith) x))
 later C.Length s k h g x = absurd (passed (omega arith) x)
 later C.Clear s k h g x = absurd (passed (omega arith) x)
 
--- "Numbers 4 and 5 are judged only when w is over e": whichever call answers one of them asks for a deadline past elapsed
-pub four-five-only-later : (c : Call) (s : QueueWords) (a : Answer) (t : QueueWords) → CallClaim c s a t
-    → (told a ≡ T.no 4) ⊎ (told a ≡ T.no 5)
-    → elapsed s < whenOf c
-four-five-only-later c s a t A (inl e) = later c s 4 (omega arith) (omega arith) (refused-exactly c s a t A 4 .1 e)
-four-five-only-later c s a t A (inr e) = later c s 5 (omega arith) (omega arith) (refused-exactly c s a t A 5 .1 e)
+-- "Numbers 4 and 5 are judged only when w is over e": whichever call answers 4 asks for a deadline past elapsed
+pub four-only-later : (c : Call) (s : QueueWords) (a : Answer) (t : QueueWords) → CallClaim c s a t → told a ≡ T.no 4 → elapsed s < whenOf c
+four-only-later c s a t A e = later c s 4 (omega arith) (omega arith) (refused-exactly c s a t A 4 .1 e)
+
+-- k is not the first of these numbers, and none of the others
+pub another : {j k : ℕ} {B : Type 0} → k ≢ j → (B → ⊥) → (k ≡ j) ⊎ B → ⊥
+another d f x = ⊎-elim d f x
+
+-- 02 [12]: "Refusal 5 is then never given": by no call, on no store
+pub never-five : (c : Call) (s : QueueWords) (a : Answer) (t : QueueWords) → CallClaim c s a t → told a ≡ T.no 5 → ⊥
+never-five c s a t A e = unlisted c (refused-listed c s a t A 5 e)
+  where
+    unlisted : (c : Call) → Mem 5 (numbers (linesOf c s)) → ⊥
+    unlisted (C.Format n turn) = another (omega arith) (another (omega arith) (λ x. x))
+    unlisted (C.Insert value when period) =
+        another (omega arith) (another (omega arith) (another (omega arith) (another (omega arith) (another (omega arith) (λ x. x)))))
+    unlisted (C.Reset key when) =
+        another (omega arith) (another (omega arith) (another (omega arith) (another (omega arith) (another (omega arith) (λ x. x)))))
+    unlisted (C.Remove key) = another (omega arith) (another (omega arith) (another (omega arith) (λ x. x)))
+    unlisted (C.Poll now) = another (omega arith) (another (omega arith) (another (omega arith) (λ x. x)))
+    unlisted (C.PollSome now limit) = another (omega arith) (another (omega arith) (another (omega arith) (λ x. x)))
+    unlisted C.Wake = another (omega arith) (another (omega arith) (λ x. x))
+    unlisted C.Length = another (omega arith) (λ x. x)
+    unlisted C.Clear = another (omega arith) (λ x. x)
 
 -- "Unlinking on a reset before judging 4 and 5. ..; here the timer stays put": a refused reset leaves its timer pending in its place, under its key, and
 -- every word as it was

@@ -5,13 +5,11 @@ use mathlib.Core.Logic.{_≢_, _↔_, inl, inr, ⊎-elim, by-cases}
 use mathlib.Core.Bool.{Bool, false, not, _&&_}
 use mathlib.Core.List.{List, []}
 use mathlib.Core.Option.{some}
-use Prim.Native.Nat.{ℕ, _+_, _-_, _<_, _≤_}
-use native.Mathlib.Decide.{ℕ-discrete, decLt}
+use Prim.Native.Nat.{ℕ, _+_, _<_, _≤_}
 use native.Mathlib.Omega.{arith}
-use Rattle.links.specs.Lists.{nobody}
 use Rattle.links.proofs.laws.Lists.{change-other}
 use Rattle.times.specs.Times.{block}
-use Rattle.stack.specs.Places.{slots, expired, free}
+use Rattle.stack.specs.Places.{free}
 use Rattle.stack.specs.Format.{over}
 use Rattle.queue.specs.declared.Answer.{Answer}
 use Rattle.queue.specs.declared.Answer.the-variants as A
@@ -20,11 +18,8 @@ use Rattle.queue.specs.Told as T
 use Rattle.queue.specs.Steps.{TakesSome, PollsSome, GoesOn, once, again, ended, handed-some, nothing-some, not-yet}
 use Rattle.records.specs.View.{View}
 use Rattle.records.specs.Records.{keyOf, At, Names, left, placed, freed, numberIn, NoMore}
-use Rattle.records.specs.Words.{QueueWords, AtRest, MidPoll, elapsed, view, Sound}
+use Rattle.records.specs.Words.{QueueWords, AtRest, elapsed, view, Sound}
 use Rattle.wheel.specs.Limited.{ended as stopped}
-use Rattle.wheel.proofs.laws.Sums.{hits, lies-times, times-lies}
-use Rattle.wheel.proofs.laws.Drain.{amount}
-use Rattle.wheel.proofs.laws.Midway.{hand-comes, comes-kept}
 use Rattle.pausing.specs.Pausing.{SaysYet, PollTaken}
 use Rattle.promises.specs.Polls.{PollAt, whole, limited}
 use Rattle.records.proofs.laws.Words.{upd-other}
@@ -145,47 +140,17 @@ period-kept {s} {t} {value = value} {when} {period} {k} {a} S A e R f =
 out-ended : {x : Told} {k w d m n : ℕ} → Hands x k w d m n → SaysYet x → ⊥
 out-ended o y = none-out (ap handing (sym (y .2)) ∙ o)
 
--- the numbers are those of refusals 4 and 5
+-- the numbers are those of refusal 4
 next-time : (e w : ℕ) → e < w → NoMore e w ↔ NoNextTime e w
 next-time e w h = (to, from)
   where
     to : NoMore e w → NoNextTime e w
     to (inl y) = inl (omega arith)
-    to (inr (inl y)) = inr (inl (omega (arith, y .0, y .1)))
-    to (inr (inr y)) = inr (inr (y .2))
+    to (inr y) = inr (omega (arith, y .0, y .1))
 
     from : NoNextTime e w → NoMore e w
     from (inl y) = inl (omega arith)
-    from (inr (inl y)) = inr (inl (h, omega arith))
-    from (inr (inr y)) =
-        by-cases (decLt 68719476735 (w - e)) (λ far. inr (inl (h, omega arith))) (λ near. inr (inr (h, omega arith, y)))
-
--- and the same at any two times of one block
-next-same : (e f : ℕ) {w : ℕ} → block e ≡ block f → NoNextTime e w → NoNextTime f w
-next-same e f b (inl y) = inl y
-next-same e f b (inr (inl y)) = inr (inr (λ z. omega (arith, b, z, y)))
-next-same e f b (inr (inr y)) = inr (inr (λ z. y (z ∙ sym b)))
-
--- a pending deadline is in the block of elapsed: with a poll in hand since it was so where that poll began, and elapsed has only risen
-pending-block : {s : QueueWords} → Sound s → {r p : ℕ} → At (view s) r p → block (view s .deadline r) ≡ block (elapsed s)
-unfolding amount
-pending-block {s} S {r} {p} a = by-cases (ℕ-discrete (s .hand) nobody) at-rest in-hand
-  where
-    at-rest : AtRest s → block (view s .deadline r) ≡ block (elapsed s)
-    at-rest z =
-        by-cases (decLt p slots)
-        (λ g. S .rule .free z .wheel p r g (a .member) .near)
-        (λ g. let x : p ≡ expired = omega (arith, g, a .timed) in ap (λ w. block w) (S .rule .free z .stack r (rw x at (a .member))))
-
-    in-hand : MidPoll s → block (view s .deadline r) ≡ block (elapsed s)
-    in-hand d =
-        let I = S .rule .inside d in
-        let O = hand-comes (view s .deadline) (s .until) I in
-        let Q = comes-kept (view s .deadline) (s .until) O in
-        let away : p ≢ expired = λ e. absurd (rw (e, I .stack) at (a .member)) in
-        let l = times-lies slots (O .lists) r
-        (omega (arith, Q .kept (hits r), lies-times slots (view s .lists) r p (omega (arith, a .timed, away)) (a .member))) in
-        omega (arith, O .rule .wheel (l .0) r (l .1) (l .2) .near, Q .rises, none-before S r p a)
+    from (inr y) = inr (h, omega arith)
 
 -- a call that hands out a timer: a poll, whole or not
 module _ {s : QueueWords} (S : Sound s) (c : Call) (a : Answer) (t : QueueWords) (A : CallClaim c s a t) {k w d m n : ℕ} (o : Hands (told a) k w d m n) where
@@ -251,21 +216,24 @@ module _ {s : QueueWords} (S : Sound s) (c : Call) (a : Answer) (t : QueueWords)
   pub last-exactly : SaysLast (told a) ↔ ((0 < view s .period (numberIn k)) × NoNextTime (elapsed t) (d + view s .period (numberIn k)))
   last-exactly = last-of Q o
 
-  -- elapsed before the hand-out, elapsed after it and w lie in one block
-  pub one-block : (block (elapsed s) ≡ block d) × (block (elapsed t) ≡ block d)
-  one-block =
+  -- elapsed after the hand-out and w lie in one block, and within one turn of level 0, also where elapsed before it lay in the block before (02 [12])
+  pub out-near : (block (elapsed t) ≡ block d) × (elapsed t ≤ d) × (d < elapsed t + 64)
+  out-near =
       let H = view-least S h Q (out-ended o) .out k w d m n o in
-      let b = pending-block S (H .names .pending) in
-      let e = none-before S (H .timer) (H .place) (H .names .pending) in
+      let b = none-before S (H .timer) (H .place) (H .names .pending) in
       let c = view-clock S h Q .out k w d m n o in
-      (omega (arith, b, H .deadline), omega (arith, b, e, H .deadline, c))
+      (omega (arith, b, H .deadline, c), omega (arith, b, H .deadline, c), omega (arith, c))
 
-  -- so that 4 and 5 would meet the next deadline alike at any of the three, and at whatever time of that block
-  pub last-wherever : (e : ℕ) → block e ≡ block d
-      → SaysLast (told a) ↔ ((0 < view s .period (numberIn k)) × NoNextTime e (d + view s .period (numberIn k)))
-  last-wherever e b = (
-    λ y. let q = last-exactly .0 y in (q .0, next-same (elapsed t) e (one-block .1 ∙ sym b) (q .1)),
-    λ y. last-exactly .1 (y .0, next-same e (elapsed t) (b ∙ sym (one-block .1)) (y .1)),
+  -- so that with a period of at most 2^36-64 it is the last time by passing 2^64-1 alone: 02 [12]'s "the repeat rule follow", a repeat may park
+  pub repeats-on : view s .period (numberIn k) ≤ 68719476672 → d + view s .period (numberIn k) < 18446744073709551616 → SaysLast (told a) → ⊥
+  repeats-on few fits y = ⊎-elim (λ z. omega (arith, fits, z)) (λ z. omega (arith, few, z, out-near .2)) (last-exactly .0 y .1)
+
+  -- "at the elapsed time after the hand-out" and nowhere else: with a period of 2^36-1, never too far from w itself, it is the last time exactly where elapsed
+  -- is not w
+  pub longest-period : view s .period (numberIn k) ≡ 68719476735 → d + 68719476735 < 18446744073709551616 → SaysLast (told a) ↔ (elapsed t ≢ d)
+  longest-period long fits = (
+    λ y e. ⊎-elim (λ z. omega (arith, fits, long, z)) (λ z. omega (arith, long, z, e)) (last-exactly .0 y .1),
+    λ n. last-exactly .1 (omega (arith, long), inr (omega (arith, long, n, out-near .1))),
   )
 
 -- ---- two hand-outs of one key
@@ -381,14 +349,13 @@ turn {s} {k} {x} {q} {d} W more low =
   where
     none-next : (e w : ℕ) → e ≤ w → w < 68719476736 → NoNextTime e w → ⊥
     none-next e w h l (inl y) = omega arith
-    none-next e w h l (inr (inl y)) = omega arith
-    none-next e w h l (inr (inr y)) = y (omega arith)
+    none-next e w h l (inr y) = omega arith
 
 pub three-times : ThreeTimes
 unfolding over placed
 three-times =
     let m = insert-met one 7 2400000 2400000 in
-    let D = m .2 .good one-sound .free refl .done 0 [] one-free (takes-so (omega arith) (λ h. refl)) in
+    let D = m .2 .good one-sound .free refl .done 0 [] one-free (takes-so (omega arith) (λ h. omega arith)) in
     let e : m .0 ≡ A.Key 65536 = told-one (m .0) (A.Key 65536) (D .told) in
     let I : CallClaim (C.Insert 7 2400000 2400000) one (A.Key 65536) (m .1)
     = subst (λ a. CallClaim (C.Insert 7 2400000 2400000) one a (m .1)) e (m .2) in

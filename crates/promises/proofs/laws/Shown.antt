@@ -10,7 +10,7 @@ use native.Mathlib.Omega.{arith}
 use Rattle.times.specs.Times.{width, slotOf, levelBelow, levelOf}
 use Rattle.links.specs.Lists.{Mem, change}
 use Rattle.links.proofs.laws.Lists.{change-same, change-other}
-use Rattle.stack.specs.Places.{slots, free, put, levelAt}
+use Rattle.stack.specs.Places.{expired, free, put, levelAt}
 use Rattle.stack.specs.Format.{over, formatted}
 use Rattle.stack.proofs.laws.Whole as stack-laws
 use Rattle.wheel.specs.Wheel.{placeFor}
@@ -82,7 +82,7 @@ abbrev pub waiting-sound : Sound waiting
 waiting-sound = insert-shown .2
 
 waiting-view : view waiting ≡ placed 0 70 (withPeriod (upd (view one .period) 0 0) (withValue (upd (view one .value) 0 7) (taken [] (view one))))
-waiting-view = insert-shown .1 .good one-sound .free refl .done 0 [] one-free (takes-so (omega arith) (λ h. refl)) .view
+waiting-view = insert-shown .1 .good one-sound .free refl .done 0 [] one-free (takes-so (omega arith) (λ h. omega arith)) .view
 
 place-70 : target 0 70 ≡ 65
 unfolding target placeFor levelOf levelBelow slotOf width
@@ -136,7 +136,7 @@ waiting-total u n h k =
 
 waiting-heights : heights (view waiting .lists) ≡ 1
 unfolding heights
-waiting-heights = waiting-total (λ p x. levelAt p) slots (omega arith) (omega arith)
+waiting-heights = waiting-total (λ p x. levelAt p) expired (omega arith) (omega arith)
 
 pub waiting-pending : pending (view waiting) ≡ 1
 unfolding pending
@@ -157,9 +157,9 @@ module _ {s : QueueWords} (S : Sound s) (c : count s ≡ 1) {p now : ℕ} (b : A
   left-empty : {t : QueueWords} → Sound t → count t ≡ 1 → ((q : ℕ) → At (view t) 0 q → ⊥) → heights (view t .lists) ≡ 0
   unfolding heights
   left-empty {t} T e f =
-      total-ext (λ q x. levelAt q) slots (view t .lists) (λ q. [])
+      total-ext (λ q x. levelAt q) expired (view t .lists) (λ q. [])
       (λ q h. alone T e q (λ m. f q (record { timed = omega arith; member = m })))
-      ∙ total-none (λ q x. levelAt q) slots
+      ∙ total-none (λ q x. levelAt q) expired
 
   -- the only timer, due and at height 1, comes out with one move and one drain
   comes-out : heights (view s .lists) ≡ 1 → {a : Answer} {t : QueueWords} → PollClaim s now a t

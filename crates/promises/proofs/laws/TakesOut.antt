@@ -8,16 +8,16 @@ use Prim.Native.Nat.{ℕ, zero, suc, _≤_, _<_}
 use native.Mathlib.Decide.{ℕ-discrete, decLt}
 use native.Mathlib.Omega.{arith}
 use borrow.Author.Tests.{eq-eqb, ne-eqb}
-use Rattle.times.proofs.laws.Quotients.{lies-late}
 use Rattle.links.specs.Lists.{nobody, Mem, change}
 use Rattle.links.proofs.laws.Lists.{Nodup, change-same, change-other}
-use Rattle.stack.specs.Places.{slots, expired, free, levelAt}
+use Rattle.stack.specs.Places.{expired, free}
 use Rattle.stack.proofs.laws.Whole as stack-laws
 use Rattle.wheel.specs.Wheel.{Lists}
 use Rattle.wheel.specs.Sums.{sumOf, total}
 use Rattle.wheel.proofs.laws.Sums.{mem-change, mem-kept, mem-left, mem-sum, hits, lies-times, times-lies}
 use Rattle.wheel.proofs.laws.Drain.{amount}
-use Rattle.wheel.specs.Limited.{Outcome, ended as stopped, yet, start}
+use Rattle.wheel.proofs.laws.Going.{hand-reached}
+use Rattle.wheel.specs.Limited.{Outcome, ended as stopped, yet}
 use Rattle.wheel.proofs.laws.Passed.{Passed, givenBy, limited-passed, passed-on}
 use Rattle.records.specs.View.{View}
 use Rattle.records.specs.Records.{keyOf, At, Names}
@@ -25,7 +25,7 @@ use Rattle.queue.specs.Steps.{TakesSome, polled-some, popped-some}
 use Rattle.records.specs.Words.{QueueWords, view, Sound}
 use Rattle.pausing.specs.Pausing.{PollTaken}
 use Rattle.pausing.proofs.laws.Pausing.{rule-now}
-use Rattle.pausing.proofs.laws.Works.{takes-some-works}
+use Rattle.pausing.proofs.laws.Works.{not-before, takes-some-works}
 
 -- ---- on a sound store every record is in one list at most
 
@@ -110,22 +110,20 @@ module _ {s : QueueWords} (S : Sound s) where
       (λ z.
       by-cases (ℕ-discrete p expired)
       (λ e. omega (arith, S .rule .free z .stack y (rw e at (a .member))))
-      (λ d. S .rule .free z .wheel p y (omega (arith, a .timed, d)) (a .member) .late))
+      (λ d. not-before (S .rule .free z) p y (omega (arith, a .timed, d)) (a .member)))
       (λ z.
       let I = S .rule .inside z in
       by-cases (ℕ-discrete p expired)
       (λ e. absurd (rw (e, I .stack) at (a .member)))
-      (λ d.
-      let l = I .rule .spot p y (omega (arith, a .timed, d)) (a .member) .lies in
-      omega (arith, I .late, lies-late (levelAt p) (start (s .wheel .elapsed) (s .hand)) (v .deadline y) l)))
+      (λ d. omega (arith, I .late, hand-reached I p y (omega (arith, a .timed, d)) (a .member))))
 
   module _ {o : Outcome} {m : ℕ} {N : Lists} (P : Passed (v .lists) o m N) (empty : v .lists expired ≡ []) where
     wheel-was : (y p : ℕ) → p < free → Mem y (N p) → (q : ℕ) × At v y q
     unfolding amount
     wheel-was y p h k =
-        by-cases (decLt p slots)
+        by-cases (decLt p expired)
         (λ g.
-        let r = times-lies slots (v .lists) y (omega (arith, P .kept (hits y), lies-times slots N y p g k)) in
+        let r = times-lies expired (v .lists) y (omega (arith, P .kept (hits y), lies-times expired N y p g k)) in
         (r .0, record { timed = omega arith; member = r .2 }))
         (λ g. (p, record { timed = h; member = rw (P .aside p (omega arith)) at k }))
 
@@ -140,8 +138,8 @@ module _ {s : QueueWords} (S : Sound s) where
   wheel-gone {i} {p} {N = N} a empty P q k =
       let one : hits i i ≡ 1 = rw (eq-eqb i i refl) in
       let away : p ≢ expired = λ e. absurd (rw (e, empty) at (a .member)) in
-      by-cases (decLt q slots)
-      (λ h. omega (arith, lies-times slots N i q h k, P .kept (hits i), lies-once S i slots))
+      by-cases (decLt q expired)
+      (λ h. omega (arith, lies-times expired N i q h k, P .kept (hits i), lies-once S i expired))
       (λ h. omega (arith, one-list S i p q (a .member) (rw (P .aside q (omega arith)) at k), a .timed, away))
 
   not-given : (g : Option ℕ) (y : ℕ) → Other g y → givenBy (hits y) (stopped g) ≡ 0

@@ -30,7 +30,7 @@ midway-line s x d f =
     (sound-so s (y .0), ⊎-elim (λ z. z .1) (λ z. absurd (f (z .1))) (y .1))
 
 no-deadline : {e w : ℕ} → First (deadlineLines e w) 12 → ⊥
-no-deadline x = behind (omega arith) (behind (omega arith) (behind (omega arith) x .1) .1) .1
+no-deadline x = behind (omega arith) (behind (omega arith) x .1) .1
 
 asks-mid : (c : Call) (s : QueueWords) → RefusedBy c s 12 → AsksMidPoll c s
 asks-mid (C.Format n turn) s x = absurd (behind (omega arith) (behind (omega arith) x .1) .1)

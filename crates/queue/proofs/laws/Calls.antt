@@ -73,7 +73,6 @@ module _ {s : QueueWords} (S : Sound s) (rest : AtRest s) (value when period : �
         full = λ f. record { told = refl; same = refl };
         old = λ r l f. absurd (nil≢cons (sym e ∙ f));
         far = λ r l f. absurd (nil≢cons (sym e ∙ f));
-        other = λ r l f. absurd (nil≢cons (sym e ∙ f));
         done = λ r l f. absurd (nil≢cons (sym e ∙ f));
       }
 
@@ -86,7 +85,6 @@ module _ {s : QueueWords} (S : Sound s) (rest : AtRest s) (value when period : �
           full = λ f. absurd (nil≢cons (sym f ∙ c .2));
           old = λ r l f g. record { told = ap no (D .old g); same = refl };
           far = λ r l f g. record { told = ap no (D .far g); same = refl };
-          other = λ r l f g. record { told = ap no (D .other g); same = refl };
           done = λ r l f g. absurd (d (D .near g));
         }
 
@@ -146,7 +144,6 @@ module _ {s : QueueWords} (S : Sound s) (rest : AtRest s) (value when period : �
             full = λ f. absurd (nil≢cons (sym f ∙ was));
             old = λ r l f g. absurd (omega (arith, D .old g));
             far = λ r l f g. absurd (omega (arith, D .far g));
-            other = λ r l f g. absurd (omega (arith, D .other g));
             done = λ r l f g.
                 let e : item ∷ c .1 ≡ r ∷ l = sym was ∙ f in
                 let a : item ≡ r = cc in
@@ -176,7 +173,6 @@ module _ {s : QueueWords} (S : Sound s) (rest : AtRest s) (key when : ℕ) where
         dead = λ f. record { told = refl; same = refl };
         old = λ r p N. absurd (h r (names-key S key N));
         far = λ r p N. absurd (h r (names-key S key N));
-        other = λ r p N. absurd (h r (names-key S key N));
         done = λ r p N. absurd (h r (names-key S key N));
       }
 
@@ -200,7 +196,6 @@ module _ {s : QueueWords} (S : Sound s) (rest : AtRest s) (key when : ℕ) where
             dead = λ f. absurd (f i (markOf s i) M);
             old = λ r p N g. record { told = ap no (D .old g); same = refl };
             far = λ r p N g. record { told = ap no (D .far g); same = refl };
-            other = λ r p N g. record { told = ap no (D .other g); same = refl };
             done = λ r p N g. absurd (d (D .near g));
           }
 
@@ -222,7 +217,6 @@ module _ {s : QueueWords} (S : Sound s) (rest : AtRest s) (key when : ℕ) where
               dead = λ f. absurd (f i (markOf s i) M);
               old = λ r p N g. absurd (omega (arith, D .old g));
               far = λ r p N g. absurd (omega (arith, D .far g));
-              other = λ r p N g. absurd (omega (arith, D .other g));
               done = λ r p N g. let e = names-one S M N in rw (← e .0, ← e .1) (answered rest (S .no-now rest) refl H₂);
             }
 

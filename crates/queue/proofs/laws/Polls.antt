@@ -17,7 +17,7 @@ use Rattle.links.proofs.laws.Lists.{change-other}
 use Rattle.links.specs.Links.{at}
 use Rattle.links.proofs.laws.Count.{elem, cnt-ext, cnt-elem, mem-elem, elem-mem}
 use Rattle.links.proofs.laws.Judge.{cat, mem-cat, cat-mem, cat-nodup}
-use Rattle.stack.specs.Places.{slots, expired, free}
+use Rattle.stack.specs.Places.{parking, expired, free}
 use Rattle.stack.proofs.laws.Whole as stack-laws
 use Rattle.wheel.specs.Limited.{Outcome, ended as stopped, yet, Limited}
 use Rattle.wheel.specs.Midway.{Obeys}
@@ -39,7 +39,7 @@ use Rattle.records.specs.View.{View, withElapsed, withLists, withHand}
 use Rattle.records.specs.Records.{lastTurn, packed, At, NoMore, left, freed}
 use Rattle.queue.specs.Steps.{TakesOut, popped, polled, GoesOn, once, again, ended, QueuePolls, handed, nothing}
 use Rattle.queue.specs.Steps.{TakesSome, popped-some, polled-some, PollsSome, handed-some, nothing-some, not-yet, PollsRest, handed-rest, nothing-rest}
-use Rattle.queue.specs.Steps.{Wakes, sleeps, starts, NextWake, at-once, from-wheel, pending, Clears, begun, kept, gave}
+use Rattle.queue.specs.Steps.{sleeps, starts, NextWake, at-once, from-wheel, pending, Clears, begun, kept, gave}
 use Rattle.records.specs.Slices.{valueAt, periodAt}
 use Rattle.records.specs.Words.{QueueWords, queueWords, holding, count, elapsed, markOf, view, Standing, SoundBut, AtRest, Sound, PastKept}
 use Rattle.records.proofs.laws.Words.{past-refl, past-then}
@@ -252,7 +252,7 @@ module _ {s : QueueWords} (S : Sound s) (time limit : ℕ) {no : ℕ} (N : PollN
         -- only i has left the lists
         stays : StayBut i (view s .lists) (listsIn t)
         stays p x k d =
-            by-cases (decLt p slots)
+            by-cases (decLt p expired)
             (λ h. let w = passed-on passed x (none-given to (λ z. d (sym z))) (p, h, k) in (w .0, w .2))
             (λ h. (p, rw (passed .aside p (omega arith)) k))
 
@@ -283,7 +283,7 @@ module _ {s : QueueWords} (S : Sound s) (time limit : ℕ) {no : ℕ} (N : PollN
             stay-yet : to ≢ nobody → StayBut nobody (view s .lists) (listsIn t)
             stay-yet d p x k e =
                 let o : outcome i to ≡ yet to = rw (ne-eqb to nobody d) in
-                by-cases (decLt p slots)
+                by-cases (decLt p expired)
                 (λ h. let w = passed-on passed x (ap (givenBy (hits x)) o) (p, h, k) in (w .0, w .2))
                 (λ h. (p, rw (passed .aside p (omega arith)) k))
 
@@ -331,7 +331,7 @@ module _ {s : QueueWords} (S : Sound s) (time limit : ℕ) {no : ℕ} (N : PollN
 
 -- ---- next wake
 
-module _ {e h : ℕ} {occ : List ℕ} (v : View) (S : Shows e occ h v) where
+module _ {e h g : ℕ} {occ ds : List ℕ} (v : View) (S : Shows e occ ds h g v) where
   -- a timer has expired
   pub wake-now : h ≢ nobody → NextWake v (wake e)
   wake-now d = rw (← S .elapsed) (at-once (S .first d .1))
@@ -344,8 +344,7 @@ module _ {e h : ℕ} {occ : List ℕ} (v : View) (S : Shows e occ h v) where
     pub wake-at : {t : ℕ} → r ≡ Wake·At t → NextWake v (wake t)
     wake-at {t} q =
         let x = rw (q, ← S .elapsed) at W in
-        let y : Wakes v (wake t) = rw (x .3) (starts (x .2)) in
-        from-wheel (S .empty z) y
+        from-wheel (S .empty z) (starts (x .2))
 
 -- ---- length
 
@@ -515,7 +514,11 @@ clear-done {s} {s₁} {i} C e h u =
     = with-rule
     (stands-hold (stands-wheel S (record { stack = S .whole .stack; rows = S .whole .rows }) (stack-laws.kept-refl (s₁ .wheel .stack)) refl refl
     (stay-all nobody (view s₁ .lists))) nobody 0)
-    (record { wheel = λ p x h m. absurd (out p x (omega arith) m); stack = λ x m. absurd (out expired x (omega arith) m) }) in
+    (record {
+      wheel = λ p x h m. absurd (out p x (omega arith) m);
+      parked = λ x m. absurd (out parking x (omega arith) m);
+      stack = λ x m. absurd (out expired x (omega arith) m);
+    }) in
     let K = past-then (C .size) (C .kept) (G .kept) in
     record {
       cleared = withHand h u (view s₁);

@@ -19,12 +19,12 @@ enum-told c = search needs
 returns-2 : tie.Need-returns-2
 returns-2 c =
     let at-poll = c .before .before .before in
-    λ v S. wake-at v S (at-poll .before .if1 .left) (at-poll .poll-at .ensures (v .lists) (S .rows)) (c .before .wake .given .1)
+    λ v S. wake-at v S (at-poll .before .if1 .left) (at-poll .poll-at .ensures (v .lists) (S .wheel)) (c .before .wake .given .1)
 
 returns-3 : tie.Need-returns-3
 returns-3 c =
     let at-poll = c .before .before in
-    λ v S. wake-never v S (at-poll .before .if1 .left) (at-poll .poll-at .ensures (v .lists) (S .rows)) (c .enum-told .given .1)
+    λ v S. wake-never v S (at-poll .before .if1 .left) (at-poll .poll-at .ensures (v .lists) (S .wheel)) (c .enum-told .given .1)
 
 pub next-wake-spec : {M : Type 1} → statement M
 next-wake-spec = tie.close (tie.spec returns poll-at-requires enum-known-wake enum-told returns-2 returns-3)

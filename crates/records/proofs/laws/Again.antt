@@ -14,10 +14,10 @@ module _ {e w : ℕ} where
   -- by the number of the refusal
   module _ {n : ℕ} (D : AheadNo e w n) where
     pub set-no-more : n ≢ 0 → NoMore e w
-    set-no-more d = by-ahead e w (λ f. inr (inl f)) (λ f. inr (inr f)) (λ t. absurd (d (D .near t)))
+    set-no-more d = by-ahead e w inr (λ t. absurd (d (D .near t)))
 
     pub set-again : w < 2 ^ 64 → n ≡ 0 → NoMore e w → ⊥
-    set-again h z = ⊎-elim (λ f. omega arith) (⊎-elim (λ f. omega (arith, D .far f)) (λ f. omega (arith, D .other f)))
+    set-again h z = ⊎-elim (λ f. omega arith) (λ f. omega (arith, D .far f))
 
   -- by the answer's case
   pub again-never : {r : Again} → AgainIs e w r → r ≡ G.Never → NoMore e w
@@ -32,11 +32,10 @@ module _ {e w : ℕ} where
       by-cases (decLt w (2 ^ 64))
       (λ h.
       by-ahead e w
-      (λ x. f (inr (inl x)))
-      (λ x. f (inr (inr x)))
-      (λ t. g (⊎-elim (λ x. omega arith) (⊎-elim (λ x. omega (arith, x .1, t (x .0))) (λ x. x .2 (t (x .0)))))))
+      (λ x. f (inr x))
+      (λ t. g (⊎-elim (λ x. omega arith) (λ x. omega (arith, x .1, t (x .0))))))
       (λ h. f (inl (omega (arith, h))))
 
   -- such a deadline may be placed
   pub again-near : (NoMore e w → ⊥) → Near e w
-  again-near f = by-ahead e w (λ x. absurd (f (inr (inl x)))) (λ x. absurd (f (inr (inr x)))) (λ n. n)
+  again-near f = by-ahead e w (λ x. absurd (f (inr x))) (λ n. n)

@@ -1,30 +1,27 @@
--- The cases of the table, none left out: a deadline is too old, too far, in another block, or taken; a key names a record or it does not.
+-- The cases of the table, none left out: a deadline is too old, too far, or taken; a key names a record or it does not.
 use mathlib.Core.Path.{refl}
 use mathlib.Core.Logic.{by-cases}
 use Prim.Native.Nat.{ℕ, _+_, _-_, _≤_}
 use native.Mathlib.Decide.{ℕ-discrete, decLt}
 use native.Mathlib.Omega.{arith}
-use Rattle.times.specs.Times.{maxDuration, block}
+use Rattle.times.specs.Times.{maxDuration}
 use Rattle.links.specs.Links.{at}
 use Rattle.stack.specs.Places.{free}
-use Rattle.records.specs.Records.{turnIn, numberIn, Names, TooFar, OtherBlock, Near, TooOld, Takes}
+use Rattle.records.specs.Records.{turnIn, numberIn, Names, TooFar, Near, TooOld, Takes}
 use Rattle.records.specs.Words.{QueueWords, count, markOf, view, Sound}
 use Rattle.records.proofs.laws.Found.{key-names, names-key, find-turn}
 
-pub by-ahead : {P : Type 0} (e w : ℕ) → (TooFar e w → P) → (OtherBlock e w → P) → (Near e w → P) → P
-by-ahead e w f g h =
-    by-cases (decLt e w)
-    (λ l.
+pub by-ahead : {P : Type 0} (e w : ℕ) → (TooFar e w → P) → (Near e w → P) → P
+by-ahead e w f h =
     by-cases (decLt maxDuration (w - e))
-    (λ k. f (l, k))
-    (λ k. by-cases (ℕ-discrete (block w) (block e)) (λ b. h (λ z. b)) (λ d. g (l, omega (arith, k), d))))
-    (λ l. h (λ k. absurd (l k)))
+    (λ k. f (omega (arith, k), k))
+    (λ k. h (λ l. omega (arith, k)))
 
-pub by-deadline : {P : Type 0} (e w : ℕ) → (TooOld e w → P) → (TooFar e w → P) → (OtherBlock e w → P) → (Takes e w → P) → P
-by-deadline e w o f g h =
+pub by-deadline : {P : Type 0} (e w : ℕ) → (TooOld e w → P) → (TooFar e w → P) → (Takes e w → P) → P
+by-deadline e w o f h =
     by-cases (decLt (w + 3600000) e)
     o
-    (λ r. by-ahead e w f g (λ n. h (record { recent = r; near = n })))
+    (λ r. by-ahead e w f (λ n. h (record { recent = r; near = n })))
 
 -- a deadline that is taken
 pub takes-so : {e w : ℕ} → e ≤ w + 3600000 → Near e w → Takes e w

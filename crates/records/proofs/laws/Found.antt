@@ -5,9 +5,9 @@ use mathlib.Core.Bool.{Bool, true, false, not}
 use mathlib.Core.List.{List}
 use Prim.Native.Nat.{ℕ, _-_, _≤_, _<_}
 use native.Mathlib.Omega.{arith}
-use lib.Dec.{eqb, ltb}
-use borrow.Author.Tests.{eqb-true, eqb-false, ltb-true, ltb-false}
-use Rattle.times.specs.Times.{maxDuration, block}
+use lib.Dec.{ltb}
+use borrow.Author.Tests.{ltb-true, ltb-false}
+use Rattle.times.specs.Times.{maxDuration}
 use Rattle.links.specs.Links.{at}
 use Rattle.stack.specs.Places.{free}
 use Rattle.stack.proofs.laws.Asked.{not-below, is-below}
@@ -18,49 +18,23 @@ use Rattle.records.specs.Records.{turnIn, numberIn, Names, TooOld}
 use Rattle.records.specs.Words.{QueueWords, count, markOf, view, Sound}
 use Rattle.records.specs.Found.{AheadNo, DeadlineNo, KeyIs, FindIs}
 
--- ---- refusals 4, 5 and 11
+-- ---- refusals 4 and 11
 
 module _ (e w : ℕ) where
-  pub no-past : w ≤ e → AheadNo e w 0
-  no-past h = record {
-    far = λ f. absurd (omega (arith, f));
-    other = λ f. absurd (omega (arith, f));
-    near = λ n. refl;
-    taken = λ z g. absurd (omega (arith, g));
-  }
-
-  pub no-far : e < w → true ≡ ltb maxDuration (w - e) → AheadNo e w 4
-  no-far h t =
+  pub no-far : true ≡ ltb maxDuration (w - e) → AheadNo e w 4
+  no-far t =
       let f : maxDuration < w - e = ltb-true maxDuration (w - e) (sym t) in
-      record {
-        far = λ g. refl;
-        other = λ g. absurd (omega (arith, f, g .1));
-        near = λ n. absurd (omega (arith, f, n h));
-        taken = λ z. absurd (omega arith);
-      }
+      record { far = λ g. refl; near = λ n. absurd (omega (arith, f, n (omega (arith, f)))); taken = λ z. absurd (omega arith) }
 
-  pub no-near : e < w → false ≡ ltb maxDuration (w - e) → true ≡ eqb (block w) (block e) → AheadNo e w 0
-  no-near h f t =
+  pub no-near : false ≡ ltb maxDuration (w - e) → AheadNo e w 0
+  no-near f =
       let n : w - e ≤ maxDuration = ltb-false maxDuration (w - e) (sym f) in
-      let b : block w ≡ block e = eqb-true (block w) (block e) (sym t) in
-      record { far = λ g. absurd (omega (arith, n, g .1)); other = λ g. absurd (g .2 b); near = λ g. refl; taken = λ z g. b }
-
-  pub no-other : e < w → false ≡ ltb maxDuration (w - e) → false ≡ eqb (block w) (block e) → AheadNo e w 5
-  no-other h f t =
-      let n : w - e ≤ maxDuration = ltb-false maxDuration (w - e) (sym f) in
-      let b : block w ≢ block e = eqb-false (block w) (block e) (sym t) in
-      record {
-        far = λ g. absurd (omega (arith, n, g .1));
-        other = λ g. refl;
-        near = λ g. absurd (b (g h));
-        taken = λ z. absurd (omega arith);
-      }
+      record { far = λ g. absurd (omega (arith, n, g .1)); near = λ g. refl; taken = λ z g. n }
 
   pub no-old : TooOld e w → DeadlineNo e w 11
   no-old h = record {
     old = λ f. refl;
     far = λ f. absurd (omega (arith, h, f));
-    other = λ f. absurd (omega (arith, h, f));
     near = λ t. absurd (t .recent h);
     taken = λ z. absurd (omega arith);
   }
@@ -69,7 +43,6 @@ module _ (e w : ℕ) where
   no-recent h A = record {
     old = λ f. absurd (h f);
     far = A .far;
-    other = A .other;
     near = λ t. A .near (t .near);
     taken = λ z. record { recent = h; near = A .taken z };
   }

@@ -4,23 +4,24 @@
 use mathlib.Core.Path.{_≡_, refl, sym, ap, _∙_, subst}
 use mathlib.Core.Logic.{_≢_, inl, inr, ⊎-elim, by-cases}
 use mathlib.Core.List.{List, [], _∷_}
-use Prim.Native.Nat.{ℕ, _+_, _*_, _^_, _≤_, _<_, max}
-use native.Mathlib.Decide.{ℕ-discrete}
+use Prim.Native.Nat.{ℕ, _+_, _-_, _*_, _^_, _≤_, _<_, max}
+use native.Mathlib.Decide.{ℕ-discrete, decLt}
 use native.Mathlib.Omega.{arith}
 use lib.ListN.{length, set}
 use borrow.Author.Tests.{eq-eqb, ne-eqb}
-use Rattle.times.specs.Times.{levelOf, block}
+use Rattle.times.specs.Times.{levelOf, maxDuration, block, NextBlock}
 use Rattle.times.proofs.laws.Quotients.{slot-lt}
 use Rattle.times.proofs.laws.Levels.{level-is}
+use Rattle.times.proofs.laws.Blocks.{near-next}
 use Rattle.links.specs.Lists.{nobody, Mem, without, change}
 use Rattle.links.proofs.laws.Lists.{change-same, change-other}
 use Rattle.links.specs.Links.{at}
 use Rattle.links.specs.Whole.{Kept}
 use Rattle.links.proofs.laws.Whole.{kept-refl, kept-trans, kept-set}
-use Rattle.stack.specs.Places.{slots, expired, free, put}
+use Rattle.stack.specs.Places.{slots, parking, expired, free, put}
 use Rattle.stack.specs.Whole as stack
 use Rattle.stack.proofs.laws.Whole as stack-laws
-use Rattle.wheel.specs.Wheel.{Lists, placeFor, Rule, arrive}
+use Rattle.wheel.specs.Wheel.{Lists, placeFor, OnWheel, Rule, arrive}
 use Rattle.wheel.proofs.laws.Sums.{mem-kept, put-mem, mem-joined}
 use Rattle.wheel.proofs.laws.Between.{rule-less}
 use Rattle.wheel.specs.Words.{WheelWords, WheelWhole, Becomes, CanPush, CanLeave, Leaves, lists as listsIn, markOf as markIn}
@@ -31,7 +32,7 @@ use Rattle.records.specs.Slices.{valueAt, periodAt}
 use Rattle.records.specs.Records.{lastTurn, At, Near, taken, left, target, placed, freed}
 use Rattle.records.specs.Words.{QueueWords, queueWords, holding, count, elapsed, markOf, view, StandingBut, Standing, SoundBut, AtRest, Sound}
 use Rattle.records.proofs.laws.Words.{past-refl, upd-same, upd-other, at-set, given, given-value, given-period}
-use Rattle.records.specs.Inner.{StandsBut, Stands, GoesBut, Goes, LooseAt, PlacesTo, CanPlace, LeavesTo, CanFree}
+use Rattle.records.specs.Inner.{StandsBut, Stands, GoesBut, Goes, LooseAt, HasSlot, PlacesTo, CanPlace, LeavesTo, CanFree}
 
 pub with-rule : {item : ℕ} {s s′ : QueueWords} {v : View} → StandsBut item s v s′ → Rule (v .deadline) (v .elapsed) (v .lists)
     → GoesBut item s v s′
@@ -137,11 +138,12 @@ stands-hold P h u =
       kept = record { links = P .kept .links; values = P .kept .values; deadlines = P .kept .deadlines; turns = P .kept .turns };
     }
 
--- the rule looks at slots and the expired stack alone
+-- the rule looks at the lists of timers alone
 rule-beside : {d : ℕ → ℕ} {e : ℕ} {L : Lists} → Rule d e L → (l : List ℕ) → Rule d e (change L free l)
 rule-beside {d} {e} {L} R l =
     record {
       wheel = λ p x hp m. R .wheel p x hp (rw (change-other L free l p (omega arith)) at m);
+      parked = λ x m. R .parked x (rw (change-other L free l parking (omega arith)) at m);
       stack = λ x m. R .stack x (rw (change-other L free l expired (omega arith)) at m);
     }
 
@@ -224,68 +226,93 @@ target-now : (e w : ℕ) → w ≡ e → target e w ≡ expired
 unfolding target
 target-now e w h = rw (eq-eqb w e h)
 
-target-later : (e w : ℕ) → w ≢ e → target e w ≡ placeFor e w
+target-later : (e w : ℕ) → w ≢ e → block w ≡ block e → target e w ≡ placeFor e w
 unfolding target
-target-later e w h = rw (ne-eqb w e h)
+target-later e w h b = rw (ne-eqb w e h, eq-eqb (block w) (block e) b)
+
+target-next : (e w : ℕ) → w ≢ e → block w ≢ block e → target e w ≡ parking
+unfolding target
+target-next e w h b = rw (ne-eqb w e h, ne-eqb (block w) (block e) b)
+
+-- where a deadline that has no slot goes
+module _ (e w : ℕ) where
+  pub aside-now : w ≤ e → target e (max w e) ≡ expired
+  aside-now h = target-now e (max w e) (omega arith)
+
+  pub aside-later : e < w → (HasSlot e w → ⊥) → target e (max w e) ≡ parking
+  aside-later h out =
+      let z : max w e ≡ w = omega arith in
+      ap (target e) z ∙ target-next e w (omega (arith, h)) (λ b. out (h, b))
 
 module _ {t : WheelWords} {ds : List ℕ} {i when : ℕ} (C : CanPlace t ds i when) where
-  pub place-push : CanPush t expired i
-  place-push = record { whole = C .whole; aside = omega arith; place = omega arith; item = C .item }
+  pub place-insert : HasSlot (t .elapsed) when → CanInsert t when i
+  place-insert h = record { whole = C .whole; near = sym (h .1); item = C .item }
 
-  pub placed-now : when ≤ t .elapsed → {t′ : WheelWords} → Becomes t (change (listsIn t) expired (put expired i (listsIn t expired))) t′
-      → PlacesTo t ds i when t′ (set ds i (t .elapsed))
-  placed-now h {t′} B =
-      let w : max when (t .elapsed) ≡ t .elapsed = omega arith in
-      let p : target (t .elapsed) (max when (t .elapsed)) ≡ expired = target-now (t .elapsed) (max when (t .elapsed)) w in
-      record { becomes = rw p B; deadlines = rw w }
-
-  pub place-insert : t .elapsed < when → CanInsert t when i
-  place-insert h = record { whole = C .whole; near = sym (C .near h); item = C .item }
-
-  pub placed-later : t .elapsed < when → {t′ : WheelWords} → Becomes t (arrive (levelOf (t .elapsed) when) when i (listsIn t)) t′
+  pub placed-slot : HasSlot (t .elapsed) when → {t′ : WheelWords} → Becomes t (arrive (levelOf (t .elapsed) when) when i (listsIn t)) t′
       → PlacesTo t ds i when t′ (set ds i when)
   unfolding arrive placeFor
-  placed-later h {t′} B =
-      let w : max when (t .elapsed) ≡ when = omega arith in
-      let d : when ≢ t .elapsed = omega arith in
+  placed-slot h {t′} B =
+      let w : max when (t .elapsed) ≡ when = omega (arith, h .0) in
+      let d : when ≢ t .elapsed = omega (arith, h .0) in
       let p : target (t .elapsed) (max when (t .elapsed)) ≡ placeFor (t .elapsed) when = ap (target (t .elapsed)) w
-      ∙ target-later (t .elapsed) when d in
+      ∙ target-later (t .elapsed) when d (h .1) in
       record { becomes = rw p B; deadlines = rw w }
 
-rule-placed : {d : ℕ → ℕ} {e : ℕ} {L : Lists} → Rule d e L → (x w : ℕ) → ((p : ℕ) → Mem x (L p) → ⊥) → e ≤ w → (w ≢ e → block w ≡ block e)
+  pub place-aside : (p : ℕ) → slots ≤ p → p < free → CanPush t p i
+  place-aside p a b = record { whole = C .whole; aside = a; place = omega (arith, b); item = C .item }
+
+  pub placed-aside : (p w : ℕ) → p ≡ target (t .elapsed) (max when (t .elapsed)) → w ≡ max when (t .elapsed) → {t′ : WheelWords}
+      → Becomes t (change (listsIn t) p (put p i (listsIn t p))) t′ → PlacesTo t ds i when t′ (set ds i w)
+  placed-aside p w hp hw B = record { becomes = rw (sym hp) B; deadlines = rw hw }
+
+-- which rule is asked of w, by the place that it goes to
+pub record Suits (e w p : ℕ) : Type 0 where
+  pub wheel : p < slots → OnWheel p e w
+  pub parked : p ≡ parking → NextBlock e w
+  pub stack : p ≡ expired → w ≡ e
+
+pub target-suits : (e w : ℕ) → e ≤ w → w - e ≤ maxDuration → Suits e w (target e w)
+target-suits e w late near =
+    by-cases (ℕ-discrete w e)
+    (λ z.
+    let t : target e w ≡ expired = target-now e w z in
+    record { wheel = λ h. absurd (omega (arith, t, h)); parked = λ h. absurd (omega (arith, t, h)); stack = λ h. z })
+    (λ z.
+    by-cases (ℕ-discrete (block w) (block e))
+    (λ b.
+    let t : target e w ≡ placeFor e w = target-later e w z b in
+    record {
+      wheel = λ h. record { place = t; late = late; near = b };
+      parked = λ h. absurd (omega (arith, t, h, place-slot e w));
+      stack = λ h. absurd (omega (arith, t, h, place-slot e w));
+    })
+    (λ b.
+    let t : target e w ≡ parking = target-next e w z b in
+    record { wheel = λ h. absurd (omega (arith, t, h)); parked = λ h. near-next e w late near b; stack = λ h. absurd (omega (arith, t, h)) }))
+
+rule-placed : {d : ℕ → ℕ} {e : ℕ} {L : Lists} → Rule d e L → (x w : ℕ) → ((p : ℕ) → Mem x (L p) → ⊥) → e ≤ w → w - e ≤ maxDuration
     → let p = target e w in Rule (upd d x w) e (change L p (put p x (L p)))
 rule-placed {d} {e} {L} R x w out late near =
     let p = target e w in
+    let T = target-suits e w late near in
     let old : (q y : ℕ) → Mem y (L q) → upd d x w y ≡ d y = λ q y m. upd-other d x w y (λ z. out q (rw z at m)) in
-    by-cases (ℕ-discrete w e)
-    (λ z.
-    let tp : p ≡ expired = target-now e w z in
     record {
       wheel = λ q y hq m.
           ⊎-elim
-          (λ a. absurd (omega arith))
+          (λ a. rw (a .1, upd-same d x w, a .0) (T .wheel (rw (a .0) at hq)))
           (λ k. rw (old q y k) (R .wheel q y hq k))
           (mem-joined L p x q y m);
+      parked = λ y m.
+          ⊎-elim
+          (λ a. rw (a .1, upd-same d x w) (T .parked (sym (a .0))))
+          (λ k. rw (old parking y k) (R .parked y k))
+          (mem-joined L p x parking y m);
       stack = λ y m.
           ⊎-elim
-          (λ a. rw (a .1) (upd-same d x w ∙ z))
+          (λ a. rw (a .1, upd-same d x w) (T .stack (sym (a .0))))
           (λ k. old expired y k ∙ R .stack y k)
           (mem-joined L p x expired y m);
-    })
-    (λ z.
-    let tp : p ≡ placeFor e w = target-later e w z in
-    record {
-      wheel = λ q y hq m.
-          ⊎-elim
-          (λ a. rw (a .1, upd-same d x w) (record { place = a .0 ∙ tp; late = late; near = near z }))
-          (λ k. rw (old q y k) (R .wheel q y hq k))
-          (mem-joined L p x q y m);
-      stack = λ y m.
-          ⊎-elim
-          (λ a. absurd (omega (arith, place-slot e w)))
-          (λ k. old expired y k ∙ R .stack y k)
-          (mem-joined L p x expired y m);
-    })
+    }
 
 -- i comes into a list: who is in none now was in none before it, and is not i
 come-retired : {i : ℕ} {s : QueueWords} → StandingBut i s → (p : ℕ)
@@ -305,9 +332,9 @@ goes-placed {s} {i} S o when near P =
     let w : ℕ = max when (elapsed s) in
     let p : ℕ = target (elapsed s) w in
     let L : Lists = change (view s .lists) p (put p i (view s .lists p)) in
-    let same : w ≢ elapsed s → block w ≡ block (elapsed s)
-    = λ z. let a : w ≡ when = omega (arith, z) in rw a (near (omega (arith, z))) in
-    let R : Rule (upd (at (s .deadlines)) i w) (elapsed s) L = rule-placed (S .rule) i w (loose-out T o) (omega arith) same in
+    let few : w - elapsed s ≤ maxDuration
+    = by-cases (decLt (elapsed s) when) (λ h. omega (arith, near h)) (λ h. omega (arith, h)) in
+    let R : Rule (upd (at (s .deadlines)) i w) (elapsed s) L = rule-placed (S .rule) i w (loose-out T o) (omega arith) few in
     with-rule
     (stands T (B .whole) (B .kept) (B .elapsed) (B .lists) (kept-refl _ _)
     (rw (P .deadlines) (kept-set (count s) (s .deadlines) i w (o .below))) (kept-refl _ _)
@@ -350,7 +377,7 @@ stands-freed {s} {i} S o {t} {ts} P =
     (λ q. rw (upd-other (at (s .turns)) i x j q) (S .turns j g)))
     (λ j g d out. let r = come-retired S free j g out in upd-other (at (s .turns)) i x j (r .0) ∙ r .1)))
 
--- who is freed leaves slots and expired stack as they are
+-- who is freed leaves the lists of timers as they are
 rule-freed : (v : View) → Rule (v .deadline) (v .elapsed) (v .lists) → (i : ℕ) → let u = freed i v in
     Rule (u .deadline) (u .elapsed) (u .lists)
 unfolding freed

@@ -1,31 +1,36 @@
--- `place` meets its contract: on the expired stack (`placed-now`) or in a slot (`placed-later`).
+-- `place` meets its contract: in a slot (`placed-slot`), or in a list that is none (`placed-aside`).
 use borrow.Author.Needs.{needs}
-use Rattle.records.proofs.laws.Inner.{place-push, placed-now, place-insert, placed-later}
+use Rattle.records.proofs.laws.Inner.{place-insert, placed-slot, place-aside, placed-aside}
 use Rattle.records.proofs.place.Statement.{statement}
 use Rattle.records.proofs.place.Tie as tie
 
-abbrev to-then1 : tie.After-push-arg6 → tie.Then1
-to-then1 c =
+abbrev to-start : tie.After-has-slot → tie.Start
+to-start c =
+    let a = c .before .before .before .before in
+    a .before
+
+abbrev to-slot : tie.After-insert-arg6 → tie.Then1
+to-slot c =
     let a = c .before .before .before .before in
     a .before .before
 
-abbrev to-start : tie.After-slice-known4 → tie.Start
-to-start c = c .before .before .before .before
+abbrev to-insert : tie.After-slice-known7 → tie.After-insert
+to-insert c =
+    let a = c .before .before .before .before in
+    a .before .before
 
-abbrev to-push : tie.After-slice-known7 → tie.After-push
+abbrev to-aside : tie.After-push-arg6 → tie.After-aside
+to-aside c =
+    let a = c .before .before .before .before in
+    a .before .before
+
+abbrev to-push : tie.After-slice-known10 → tie.After-push
 to-push c =
     let a = c .before .before .before .before in
     a .before .before
 
-abbrev to-else1 : tie.After-insert-arg6 → tie.Else1
-to-else1 c =
-    let a = c .before .before .before .before in
-    a .before .before
-
-abbrev to-insert : tie.After-slice-known10 → tie.After-insert
-to-insert c =
-    let a = c .before .before .before .before in
-    a .before .before
+has-slot-requires : tie.Need-has-slot-requires
+has-slot-requires c κs = search needs
 
 mul-deadlines : tie.Need-mul-deadlines
 mul-deadlines c = search needs
@@ -33,8 +38,10 @@ mul-deadlines c = search needs
 slice-write-deadlines : tie.Need-slice-write-deadlines
 slice-write-deadlines c = search needs
 
-push-requires : tie.Need-push-requires
-push-requires c κs = place-push (to-start (to-then1 c .before) .pre)
+insert-requires : tie.Need-insert-requires
+insert-requires c κs =
+    let y = to-slot c in
+    place-insert (to-start (y .before) .pre) (y .before .has-slot .ensures .yes (y .if1 .taken))
 
 same-length : tie.Need-same-length
 same-length c = search needs
@@ -50,9 +57,12 @@ same-length-4 c = search needs
 
 returns : tie.Need-returns
 returns c =
-    let at-push = to-push c in
-    let then1 = to-then1 (at-push .before) in
-    placed-now (to-start (then1 .before) .pre) (then1 .if1 .taken) (at-push .push .ensures)
+    let p = to-insert c in
+    let y = to-slot (p .before) in
+    placed-slot (to-start (y .before) .pre) (y .before .has-slot .ensures .yes (y .if1 .taken)) (p .insert .ensures)
+
+raised-requires : tie.Need-raised-requires
+raised-requires c κs = search needs
 
 mul-deadlines-2 : tie.Need-mul-deadlines-2
 mul-deadlines-2 c = search needs
@@ -60,10 +70,15 @@ mul-deadlines-2 c = search needs
 slice-write-deadlines-2 : tie.Need-slice-write-deadlines-2
 slice-write-deadlines-2 c = search needs
 
-insert-requires : tie.Need-insert-requires
-insert-requires c κs =
-    let else1 = to-else1 c in
-    place-insert (to-start (else1 .before) .pre) (else1 .if1 .left)
+aside-requires : tie.Need-aside-requires
+aside-requires c κs =
+    let e = c .before in
+    e .before .has-slot .ensures .no (e .if1 .left)
+
+push-requires : tie.Need-push-requires
+push-requires c κs =
+    let a = to-aside c in
+    place-aside (to-start (a .before .before .before) .pre) _ (a .aside .ensures .1) (a .aside .ensures .2)
 
 same-length-5 : tie.Need-same-length-5
 same-length-5 c = search needs
@@ -79,25 +94,29 @@ same-length-8 c = search needs
 
 returns-2 : tie.Need-returns-2
 returns-2 c =
-    let at-insert = to-insert c in
-    let else1 = to-else1 (at-insert .before) in
-    placed-later (to-start (else1 .before) .pre) (else1 .if1 .left) (at-insert .insert .ensures)
+    let p = to-push c in
+    let a = to-aside (p .before) in
+    let r = a .before in
+    placed-aside (to-start (r .before .before) .pre) _ _ (a .aside .ensures .0) (r .raised .ensures) (p .push .ensures)
 
 pub place-spec : {M : Type 1} → statement M
 place-spec =
     tie.close
     (tie.spec
+    has-slot-requires
     mul-deadlines
     slice-write-deadlines
-    push-requires
+    insert-requires
     same-length
     same-length-2
     same-length-3
     same-length-4
     returns
+    raised-requires
     mul-deadlines-2
     slice-write-deadlines-2
-    insert-requires
+    aside-requires
+    push-requires
     same-length-5
     same-length-6
     same-length-7

@@ -35,7 +35,6 @@ use Rattle.recover.specs.Scan.{enough, short, NumberOf, formats, made, n
 record Apart (k : ℕ) : Type 0 where
   three : k ≢ 3
   four : k ≢ 4
-  five : k ≢ 5
   six : k ≢ 6
   seven : k ≢ 7
   eight : k ≢ 8
@@ -47,7 +46,6 @@ apart one =
     record {
       three = λ e. omega arith;
       four = λ e. omega arith;
-      five = λ e. omega arith;
       six = λ e. omega arith;
       seven = λ e. omega arith;
       eight = λ e. omega arith;
@@ -58,7 +56,6 @@ apart two =
     record {
       three = λ e. omega arith;
       four = λ e. omega arith;
-      five = λ e. omega arith;
       six = λ e. omega arith;
       seven = λ e. omega arith;
       eight = λ e. omega arith;
@@ -69,7 +66,6 @@ apart thirteen =
     record {
       three = λ e. omega arith;
       four = λ e. omega arith;
-      five = λ e. omega arith;
       six = λ e. omega arith;
       seven = λ e. omega arith;
       eight = λ e. omega arith;
@@ -78,7 +74,7 @@ apart thirteen =
     }
 
 no-deadline : (e w : ℕ) {k : ℕ} → Apart k → First (deadlineLines e w) k → ⊥
-no-deadline e w a f = behind (a .five) (behind (a .four) (behind (a .eleven) f .1) .1) .1
+no-deadline e w a f = behind (a .four) (behind (a .eleven) f .1) .1
 
 -- what the table says behind its line of 12
 not-held : {k : ℕ} {P Q : Type 0} → Saved k → ((k ≡ 12) × P) ⊎ ((P → ⊥) × Q) → Q

@@ -109,7 +109,9 @@ closed-makes {s} e = subst (λ (y : Step). Makes y s s) (sym e) closed
 -- ---- no store
 
 pub no-store-is : {w : Wheel} → NoStoreClaim w → w ≡ noWheel
-no-store-is N = no-store-once N (record { elapsed = refl; occupied = refl; records = refl; expired = refl; free = refl; hand = refl; until = refl })
+no-store-is N =
+    no-store-once N
+    (record { elapsed = refl; occupied = refl; records = refl; expired = refl; free = refl; parking = refl; hand = refl; until = refl })
 
 -- "from no store": it has no record
 no-store-not-sound : (vs ds ns ps ts ms : List ℕ) → Sound (noStore vs ds ns ps ts ms) → ⊥

@@ -37,8 +37,18 @@ element-copy-out-result-2 c = search needs
 returns-3 : tie.Need-returns-3
 unfolding headOf
 returns-3 c =
-    let e : c .before .before .before .args .place ≡ free = omega (arith, c .before .if2 .left) in
-    simp (le-ltb _ _ (c .before .before .if1 .left), ne-eqb _ _ (c .before .if2 .left), eq-eqb _ _ e)
+    let e = c .before .before in
+    simp (le-ltb _ _ (e .before .if1 .left), ne-eqb _ _ (e .if2 .left), eq-eqb _ _ (c .before .if3 .taken))
+
+element-copy-out-result-3 : tie.Need-element-copy-out-result-3
+element-copy-out-result-3 c = search needs
+
+returns-4 : tie.Need-returns-4
+unfolding headOf
+returns-4 c =
+    let e = c .before .before in
+    let z : e .before .before .args .place ≡ free = omega (arith, e .if2 .left, c .before .if3 .left) in
+    simp (le-ltb _ _ (e .before .if1 .left), ne-eqb _ _ (e .if2 .left), ne-eqb _ _ (c .before .if3 .left), eq-eqb _ _ z)
 
 pub head-of-spec : {M : Type 1} → statement M
 head-of-spec =
@@ -52,4 +62,6 @@ head-of-spec =
     element-copy-out-result
     returns-2
     element-copy-out-result-2
-    returns-3)
+    returns-3
+    element-copy-out-result-3
+    returns-4)

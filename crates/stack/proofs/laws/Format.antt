@@ -17,8 +17,8 @@ use Rattle.links.specs.Links.{links, at, net, Room}
 use Rattle.links.specs.Whole.{Kept, LinksKept}
 use Rattle.links.proofs.laws.Whole.{kept-refl, kept-trans, kept-set, room-kept}
 use Rattle.stack.specs.declared.Stacks.{Stacks}
-use Rattle.stack.specs.Places.{slots, expired, free, places}
-use Rattle.stack.specs.Heads.{headOf, Shape}
+use Rattle.stack.specs.Places.{slots, parking, expired, free, places}
+use Rattle.stack.specs.Heads.{headOf, stacksBy, Shape}
 use Rattle.stack.proofs.laws.Heads.{head-slot, head-past}
 use Rattle.stack.specs.Words.{StackWords, words, headAt}
 use Rattle.stack.specs.Whole.{Whole, lists}
@@ -121,9 +121,10 @@ module _ (n : ℕ) (ns ps ms : List ℕ) (some : 0 < n) (small : n ≤ nobody) (
       first zero h = absurd (omega arith)
       first (suc m) h = refl
 
-      rest : p ≢ free → slots ≤ p → headOf (record { n = n; expired = 65535; free = 0 }) noRows p ≡ nobody
+      rest : p ≢ free → slots ≤ p → headOf (stacksBy n 65535 0 65535) noRows p ≡ nobody
       rest d h =
-          by-cases (ℕ-discrete p expired) (λ e. rw e) (λ k. head-past (record { n = n; expired = 65535; free = 0 }) noRows p (omega arith))
+          by-cases (ℕ-discrete p parking) (λ e. rw e)
+          (λ g. by-cases (ℕ-discrete p expired) (λ e. rw e) (λ k. head-past (stacksBy n 65535 0 65535) noRows p (omega arith)))
 
   -- the free list from k on
   chain : (m k : ℕ) → k + m ≡ n → Seg (s .nx) (s .pv) (before n k) (range m k) nobody
@@ -231,6 +232,6 @@ module _ (n : ℕ) (ns ps ms : List ℕ) where
         by zero h = absurd (omega arith)
         by (suc m) h = omega arith
 
-    pub fill-done : words (n ∷ 65535 ∷ 0 ∷ []) noRows (set ns′ b 65535) ps′ ms′ ≡ formatted n ns ps ms
+    pub fill-done : words (n ∷ 65535 ∷ 0 ∷ 65535 ∷ []) noRows (set ns′ b 65535) ps′ ms′ ≡ formatted n ns ps ms
     unfolding formatted
     fill-done = rw (fill-last, F .nexts, F .prevs, F .marks, all)

@@ -13,8 +13,8 @@ use borrow.Author.Tests.{eq-eqb, ne-eqb, lt-ltb, le-ltb}
 use Rattle.links.specs.Lists.{nobody}
 use Rattle.links.proofs.laws.Family.{Upd}
 use Rattle.stack.specs.declared.Stacks.{Stacks}
-use Rattle.stack.specs.Places.{slotPlace, slots, expired, free, places}
-use Rattle.stack.specs.Heads.{slotHead, withSlotHead, headOf, setSlot, rowsWith, stacksWith, Shape}
+use Rattle.stack.specs.Places.{slotPlace, slots, parking, expired, free, places}
+use Rattle.stack.specs.Heads.{slotHead, withSlotHead, headOf, setSlot, rowsWith, stacksBy, stacksWith, Shape}
 
 -- ---- the head of a place, by its kind
 
@@ -22,6 +22,10 @@ module _ (st : Stacks) (hh : List (List ℕ)) where
   pub head-slot : (p : ℕ) → p < slots → headOf st hh p ≡ getD (getD hh (p / 64) []) (p % 64) 0
   unfolding headOf
   head-slot p h = rw (lt-ltb p slots h)
+
+  pub head-parking : headOf st hh parking ≡ st .parking
+  unfolding headOf
+  head-parking = refl
 
   pub head-expired : headOf st hh expired ≡ st .expired
   unfolding headOf
@@ -35,9 +39,10 @@ module _ (st : Stacks) (hh : List (List ℕ)) where
   unfolding headOf
   head-past p h =
       let a : slots ≤ p = omega arith in
-      let b : p ≢ expired = omega arith in
-      let c : p ≢ free = omega arith in
-      rw (le-ltb p slots a, ne-eqb p expired b, ne-eqb p free c)
+      let b : p ≢ parking = omega arith in
+      let c : p ≢ expired = omega arith in
+      let d : p ≢ free = omega arith in
+      rw (le-ltb p slots a, ne-eqb p parking b, ne-eqb p expired c, ne-eqb p free d)
 
 -- ---- a slot by its level k and its number s there
 
@@ -90,29 +95,37 @@ module _ (hh : List (List ℕ)) (H : Shape hh) where
       })
       (λ h.
       let h′ : slots ≤ p = omega (arith, h) in
+      by-cases (ℕ-discrete p parking)
+      (λ g.
+      record {
+        same = rw (le-ltb p slots h′, eq-eqb p parking g);
+        other = λ j d. rw (le-ltb p slots h′, eq-eqb p parking g, ne-eqb j parking (λ k. d (k ∙ sym g)));
+      })
+      (λ g.
       by-cases (ℕ-discrete p expired)
       (λ e.
       record {
-        same = rw (le-ltb p slots h′, eq-eqb p expired e);
-        other = λ j d. rw (le-ltb p slots h′, eq-eqb p expired e, ne-eqb j expired (λ k. d (k ∙ sym e)));
+        same = rw (le-ltb p slots h′, ne-eqb p parking g, eq-eqb p expired e);
+        other = λ j d. rw (le-ltb p slots h′, ne-eqb p parking g, eq-eqb p expired e, ne-eqb j expired (λ k. d (k ∙ sym e)));
       })
       (λ e.
-      let e′ : p ≡ free = omega (arith, e) in
+      let e′ : p ≡ free = omega (arith, e, g) in
       record {
-        same = rw (le-ltb p slots h′, ne-eqb p expired e, eq-eqb p free e′);
-        other = λ j d. rw (le-ltb p slots h′, ne-eqb p expired e, ne-eqb j free (λ z. d (z ∙ sym e′)));
-      }))
+        same = rw (le-ltb p slots h′, ne-eqb p parking g, ne-eqb p expired e, eq-eqb p free e′);
+        other = λ j d. rw (le-ltb p slots h′, ne-eqb p parking g, ne-eqb p expired e, ne-eqb j free (λ z. d (z ∙ sym e′)));
+      })))
 
 -- a change of one head keeps the number of records
 pub count-with : (st : Stacks) (p v : ℕ) → stacksWith st p v .n ≡ st .n
 unfolding stacksWith
-count-with st p v = by (ltb p slots) (eqb p expired)
+count-with st p v = by (ltb p slots) (eqb p parking) (eqb p expired)
   where
-    by : (a b : Bool) → cond a st (cond b (record { n = st .n; expired = v; free = st .free })
-        (record { n = st .n; expired = st .expired; free = v })) .n ≡ st .n
-    by true b = refl
-    by false true = refl
-    by false false = refl
+    by : (a b c : Bool) → cond a st (cond b (stacksBy (st .n) (st .expired) (st .free) v)
+        (cond c (stacksBy (st .n) v (st .free) (st .parking)) (stacksBy (st .n) (st .expired) v (st .parking)))) .n ≡ st .n
+    by true b c = refl
+    by false true c = refl
+    by false false true = refl
+    by false false false = refl
 
 -- and the shape
 pub shape-with : (hh : List (List ℕ)) → Shape hh → (p v : ℕ) → Shape (rowsWith hh p v)
@@ -139,7 +152,8 @@ module _ (st st′ : Stacks) (hh hh′ : List (List ℕ)) (same : (p : ℕ) → 
   stacks-fixed e =
       let a : st′ .expired ≡ st .expired = sym (head-expired st′ hh′) ∙ same expired ∙ head-expired st hh in
       let b : st′ .free ≡ st .free = sym (head-free st′ hh′) ∙ same free ∙ head-free st hh in
-      λ i. record { n = e i; expired = a i; free = b i }
+      let c : st′ .parking ≡ st .parking = sym (head-parking st′ hh′) ∙ same parking ∙ head-parking st hh in
+      λ i. record { n = e i; expired = a i; free = b i; parking = c i }
 
   slot-fixed : (k s : ℕ) → k < 6 → s < 64 → getD (getD hh′ k []) s 0 ≡ getD (getD hh k []) s 0
   slot-fixed k s hk hs =

@@ -108,7 +108,7 @@ module _ (t : StackWords) (k : ℕ) (hk : k < 6) where
         filled = λ m z. row-done (S .has) h;
       }
 
--- ---- the two that are no slots
+-- ---- the three that are no slots
 
 module _ (t : StackWords) (left₀ : ℕ) where
   pub rest-wrong : (p left : ℕ) → from t slots left₀ ≡ from t p left → from t p left ≡ Wrong → false ≡ rest t left₀

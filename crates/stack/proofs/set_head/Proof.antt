@@ -6,11 +6,14 @@ use Rattle.stack.specs.Heads.{rowsWith, stacksWith}
 use Rattle.stack.proofs.set_head.Statement.{statement}
 use Rattle.stack.proofs.set_head.Tie as tie
 
-abbrev other : tie.After-tops → tie.Then2
-other c = c .before .before .before
+abbrev park : tie.After-tops → tie.Then2
+park c = c .before .before .before .before
 
-abbrev last : tie.After-tops2 → tie.Else2
-last c = c .before .before .before
+abbrev other : tie.After-tops2 → tie.Then3
+other c = c .before .before .before .before
+
+abbrev last : tie.After-tops3 → tie.Else3
+last c = c .before .before .before .before
 
 mul-heads : tie.Need-mul-heads
 mul-heads c = search needs
@@ -34,19 +37,42 @@ element-copy-out-t16 c = search needs
 element-copy-out-t19 : tie.Need-element-copy-out-t19
 element-copy-out-t19 c = search needs
 
-returns-2 : tie.Need-returns-2
-unfolding rowsWith stacksWith
-returns-2 c = simp (le-ltb _ _ (other c .before .if1 .left), eq-eqb _ _ (other c .if2 .taken)) (refl, refl)
-
 element-copy-out-t22 : tie.Need-element-copy-out-t22
 element-copy-out-t22 c = search needs
+
+returns-2 : tie.Need-returns-2
+unfolding rowsWith stacksWith
+returns-2 c = simp (le-ltb _ _ (park c .before .if1 .left), eq-eqb _ _ (park c .if2 .taken)) (refl, refl)
 
 element-copy-out-t25 : tie.Need-element-copy-out-t25
 element-copy-out-t25 c = search needs
 
+element-copy-out-t28 : tie.Need-element-copy-out-t28
+element-copy-out-t28 c = search needs
+
+element-copy-out-t31 : tie.Need-element-copy-out-t31
+element-copy-out-t31 c = search needs
+
 returns-3 : tie.Need-returns-3
 unfolding rowsWith stacksWith
-returns-3 c = simp (le-ltb _ _ (last c .before .if1 .left), ne-eqb _ _ (last c .if2 .left)) (refl, refl)
+returns-3 c =
+    let e = other c .before in
+    simp (le-ltb _ _ (e .before .if1 .left), ne-eqb _ _ (e .if2 .left), eq-eqb _ _ (other c .if3 .taken)) (refl, refl)
+
+element-copy-out-t34 : tie.Need-element-copy-out-t34
+element-copy-out-t34 c = search needs
+
+element-copy-out-t37 : tie.Need-element-copy-out-t37
+element-copy-out-t37 c = search needs
+
+element-copy-out-t40 : tie.Need-element-copy-out-t40
+element-copy-out-t40 c = search needs
+
+returns-4 : tie.Need-returns-4
+unfolding rowsWith stacksWith
+returns-4 c =
+    let e = last c .before in
+    simp (le-ltb _ _ (e .before .if1 .left), ne-eqb _ _ (e .if2 .left), ne-eqb _ _ (last c .if3 .left)) (refl, refl)
 
 pub set-head-spec : {M : Type 1} → statement M
 set-head-spec =
@@ -59,7 +85,13 @@ set-head-spec =
     returns
     element-copy-out-t16
     element-copy-out-t19
-    returns-2
     element-copy-out-t22
+    returns-2
     element-copy-out-t25
-    returns-3)
+    element-copy-out-t28
+    element-copy-out-t31
+    returns-3
+    element-copy-out-t34
+    element-copy-out-t37
+    element-copy-out-t40
+    returns-4)

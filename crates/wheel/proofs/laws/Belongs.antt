@@ -4,53 +4,84 @@ use mathlib.Core.Logic.{_≢_, _↔_, _⊎_, inl, inr, ⊎-elim, by-cases}
 use mathlib.Core.List.{List, [], _∷_}
 use Prim.Native.Nat.{ℕ, suc, _-_, _/_, _%_, _^_, _≤_, _<_, max}
 use native.Mathlib.Nat.{div-add-mod'}
-use native.Mathlib.Decide.{decLe, ℕ-discrete}
+use native.Mathlib.Decide.{decLe, decLt, ℕ-discrete}
 use native.Mathlib.Omega.{arith}
-use Rattle.times.specs.Times.{width, slotOf, levelOf, floor, Lies}
-use Rattle.times.proofs.laws.Quotients.{slot-lt, agree-above, lies-late, lies-agree, lies-block, lies-down}
+use Rattle.times.specs.Times.{width, slotOf, levelOf, floor, Lies, block, NextBlock}
+use Rattle.times.proofs.laws.Quotients.{slot-lt, floor-quotient, agree-above, lies-late, lies-agree, lies-block, lies-down}
 use Rattle.times.proofs.laws.Levels.{level-is, block-six}
 use Rattle.links.specs.Lists.{Mem}
-use Rattle.stack.specs.Places.{slotPlace, slots, expired}
+use Rattle.stack.specs.Places.{slotPlace, slots, parking, expired}
 use Rattle.wheel.specs.Wheel.{Lists, placeFor, OnWheel}
 use Rattle.wheel.specs.Between.{Spot, Draining}
 use Rattle.wheel.proofs.laws.Between.{place-level, place-slot, on-spot, spot-on}
 use Rattle.wheel.specs.Limited.{start}
-use Rattle.wheel.specs.Midway.{InHand, Belongs}
-use Rattle.wheel.proofs.laws.Midway.{start-floor, start-slot, floor-same}
+use Rattle.wheel.specs.Midway.{InHand, Belongs, Parked}
+use Rattle.wheel.proofs.laws.Midway.{list-floor, list-slot, floor-same}
 
--- a record in the slot q with the deadline w, where the slot h of level k + 1, which starts at c, is drained
+-- a record in the slot q with the deadline w, where the list h of height k + 1, which starts at c, is drained
 pub record Fits (k h c q w : ℕ) : Type 0 where
   pub spot : Spot q c w
   pub low : k ≤ q / 64
   pub hand : q ≡ h → floor (suc k) w ≡ c
   pub later : q ≢ h → k < q / 64 → c < floor (q / 64) w
 
-pub draining-fits : {d : ℕ → ℕ} {k h c : ℕ} {L : Lists} → h < slots → Draining d k h c L ↔ ((q y : ℕ) → q < slots → Mem y (L q) → Fits k h c q (d y))
+-- and one that is parked
+pub record FitsParked (k h c w : ℕ) : Type 0 where
+  pub hand : h ≡ parking → floor (suc k) w ≡ c
+  pub parked : h ≢ parking → NextBlock c w
+
+pub draining-fits : {d : ℕ → ℕ} {k h c : ℕ} {L : Lists} → h < expired
+    → Draining d k h c L ↔ (((q y : ℕ) → q < slots → Mem y (L q) → Fits k h c q (d y)) × ((y : ℕ) → Mem y (L parking) → FitsParked k h c (d y)))
 draining-fits {d} {k} {h} {c} {L} hh = (
-  λ D q y hq m. record {
-    spot = D .spot q y hq m;
-    low = D .low q y hq m;
-    hand = λ (e : q ≡ h). D .hand y (rw e at m);
-    later = λ n u. D .later q y hq n m u;
-  },
+  λ D. (
+    λ q y hq m. record {
+      spot = D .spot q y hq m;
+      low = D .low q y hq m;
+      hand = λ (e : q ≡ h). D .hand y (rw e at m);
+      later = λ n u. D .later q y hq n m u;
+    },
+    λ y m. record { hand = λ (e : h ≡ parking). D .hand y (rw e m); parked = λ n. D .parked y n m },
+  ),
   λ f. record {
-    spot = λ q y hq m. f q y hq m .spot;
-    hand = λ y m. f h y hh m .hand refl;
-    low = λ q y hq m. f q y hq m .low;
-    later = λ q y hq n m u. f q y hq m .later n u;
+    spot = λ q y hq m. f .0 q y hq m .spot;
+    hand = λ y m.
+        by-cases (decLt h slots) (λ a. f .0 h y a m .hand refl)
+        (λ a. let z : h ≡ parking = omega (arith, hh, a) in f .1 y (rw z at m) .hand z);
+    low = λ q y hq m. f .0 q y hq m .low;
+    later = λ q y hq n m u. f .0 q y hq m .later n u;
+    parked = λ y n m. f .1 y m .parked n;
   },
 )
 
+-- that is the judge's test, where c is a multiple of the width
+pub parked-fits : (k h c w : ℕ) → h / 64 ≡ suc k → floor (suc k) c ≡ c → FitsParked k h c w ↔ Parked h c w
+parked-fits k h c w lv hc = (
+  λ F. record { aside = F .parked; inside = λ e. sym (block-six w) ∙ whole-same (six e) (F .hand e) ∙ block-six c },
+  λ J. record { hand = λ e. floor-same (suc k) w c (as-width (six e) (block-six w ∙ J .inside e ∙ sym (block-six c))) ∙ hc; parked = J .aside },
+)
+  where
+    six : h ≡ parking → suc k ≡ 6
+    six e = omega (arith, lv, e)
+
+    as-width : suc k ≡ 6 → w / width 6 ≡ c / width 6 → w / width (suc k) ≡ c / width (suc k)
+    as-width j q = rw j q
+
+    whole-same : suc k ≡ 6 → floor (suc k) w ≡ c → w / width 6 ≡ c / width 6
+    whole-same j q = sym (floor-quotient 6 w) ∙ ap (λ (n : ℕ). n / width 6) (ap (λ (n : ℕ). floor n w) (sym j) ∙ q)
+
 -- the level of w at c is at most k exactly where they agree above k
-level-agree : (c w k : ℕ) → suc k < 6 → levelOf c w ≤ k → w / width (suc k) ≡ c / width (suc k)
-level-agree c w k h l = sym (level-is c w .above (suc k) (omega (arith, l)) h)
+level-agree : (c w k : ℕ) → k < 6 → block w ≡ block c → levelOf c w ≤ k → w / width (suc k) ≡ c / width (suc k)
+level-agree c w k h n l =
+    by-cases (ℕ-discrete (suc k) 6)
+    (λ (z : suc k ≡ 6). rw z (block-six w ∙ n ∙ sym (block-six c)))
+    (λ z. sym (level-is c w .above (suc k) (omega (arith, l)) (omega (arith, h, z))))
 
 agree-level : (c w k : ℕ) → w / width (suc k) ≡ c / width (suc k) → levelOf c w ≤ k
 agree-level c w k e =
     by-cases (decLe (levelOf c w) k) (λ h. h)
     (λ h. absurd (level-is c w .differ (omega (arith, h)) (sym (agree-above w c (suc k) e (levelOf c w) (omega (arith, h))))))
 
-module _ (k h c q w : ℕ) (lv : h / 64 ≡ suc k) (hh : h < slots) (hc : floor (suc k) c ≡ c) (hs : slotOf c (suc k) ≡ h % 64) (hq : q < slots) where
+module _ (k h c q w : ℕ) (lv : h / 64 ≡ suc k) (hh : h < expired) (hc : floor (suc k) c ≡ c) (hs : h < slots → slotOf c (suc k) ≡ h % 64) (hq : q < slots) where
   abbrev lev : ℕ
   lev = levelOf c w
 
@@ -90,11 +121,11 @@ module _ (k h c q w : ℕ) (lv : h / 64 ≡ suc k) (hh : h < slots) (hc : floor 
       in-hand z =
           let e : q ≡ h = z .0 in
           let v : q / 64 ≡ suc k = ap (λ (n : ℕ). n / 64) e ∙ lv in
-          let a : w / width (suc k) ≡ c / width (suc k) = level-agree c w k (omega (arith, lv, hh)) (z .1) in
+          let a : w / width (suc k) ≡ c / width (suc k) = level-agree c w k (omega (arith, lv, hh)) (J .near) (z .1) in
           let f = floor-w a in
           record {
             spot = record {
-              slot = ap (λ (n : ℕ). n % 64) e ∙ sym hs ∙ ap (λ (n : ℕ). n % 64) (sym a) ∙ ap (slotOf w) (sym v);
+              slot = ap (λ (n : ℕ). n % 64) e ∙ sym (hs (omega (arith, hq, e))) ∙ ap (λ (n : ℕ). n % 64) (sym a) ∙ ap (slotOf w) (sym v);
               lies = subst (λ (n : ℕ). Lies n c w) (sym v) (record { above = agree-above w c (suc k) a (suc (suc k)) (omega arith); start = omega (arith, f) });
             };
             low = omega (arith, v);
@@ -108,7 +139,7 @@ module _ (k h c q w : ℕ) (lv : h / 64 ≡ suc k) (hh : h < slots) (hc : floor 
           let p′ : q ≡ slotPlace k (slotOf w k) = subst (λ (n : ℕ). q ≡ slotPlace n (slotOf w n)) m p in
           let v : q / 64 ≡ k = ap (λ (n : ℕ). n / 64) p′ ∙ place-level k (slotOf w k) (slot-lt w k) in
           let s : q % 64 ≡ slotOf w k = ap (λ (n : ℕ). n % 64) p′ ∙ place-slot k (slotOf w k) (slot-lt w k) in
-          let a : w / width (suc k) ≡ c / width (suc k) = level-agree c w k (omega (arith, lv, hh)) l in
+          let a : w / width (suc k) ≡ c / width (suc k) = level-agree c w k (omega (arith, lv, hh)) (J .near) l in
           record {
             spot = record { slot = s ∙ ap (slotOf w) (sym v); lies = subst (λ (n : ℕ). Lies n c w) (sym v) (lies-down k c w (floor-w a)) };
             low = omega (arith, v);
@@ -135,7 +166,7 @@ module _ (k h c q w : ℕ) (lv : h / 64 ≡ suc k) (hh : h < slots) (hc : floor 
               let v : q / 64 ≡ suc k = ap (λ (n : ℕ). n / 64) g ∙ lv in
               let b : w / width (suc k) / 64 ≡ c / width (suc k) / 64 = lies-block (suc k) c w (subst (λ (n : ℕ). Lies n c w) v (S .lies)) in
               let t : w / width (suc k) % 64 ≡ c / width (suc k) % 64
-              = ap (λ (n : ℕ). w / width n % 64) (sym v) ∙ sym (S .slot) ∙ ap (λ (n : ℕ). n % 64) g ∙ sym hs in
+              = ap (λ (n : ℕ). w / width n % 64) (sym v) ∙ sym (S .slot) ∙ ap (λ (n : ℕ). n % 64) g ∙ sym (hs (omega (arith, hq, g))) in
               floor-w (omega (arith, b, t))
 
 -- without a poll in hand: 01's rule
@@ -161,13 +192,14 @@ floor-mod k e = (λ h. omega (arith, h, div-add-mod' e (width k)), λ h. omega (
 -- what a judge tests of a poll in hand, in numbers
 pub record HandTests (d : ℕ → ℕ) (until p e : ℕ) (L : Lists) : Type 0 where
   pub high : 0 < p / 64
-  pub below : p < slots
+  pub below : p < expired
   pub filled : (x : ℕ) × (l : List ℕ) × (L p ≡ x ∷ l)
   pub stack : L expired ≡ []
   pub late : e ≤ start e p
   pub due : start e p ≤ until
   pub each : (q y : ℕ) → q < slots → Mem y (L q) → Belongs (p / 64 - 1) p (start e p) q (d y)
-  pub own : start e p ≡ e → (e % width (suc (p / 64)) ≡ 0) × (e % 2 ^ 36 ≢ 0)
+  pub parked : (y : ℕ) → Mem y (L parking) → Parked p (start e p) (d y)
+  pub own : start e p ≡ e → (e % width (suc (p / 64)) ≡ 0) × (e % 2 ^ 36 ≡ 0 → (0 < e) × (L parking ≡ []))
 
 block-mod : (e : ℕ) → e % width 6 ≡ e % 2 ^ 36
 unfolding width
@@ -175,14 +207,15 @@ block-mod e = refl
 
 pub hand-tests : (d : ℕ → ℕ) (until p e : ℕ) (L : Lists) → InHand d until p e L ↔ HandTests d until p e L
 hand-tests d until p e L = (
-  λ H. let q = lev (H .high) in record {
+  λ H. let q = lev (H .high) in let F = draining-fits (H .below) .0 (H .rule) in record {
     high = H .high;
     below = H .below;
     filled = H .filled;
     stack = H .stack;
     late = H .late;
     due = H .due;
-    each = λ r y hr m. fits-belongs (p / 64 - 1) p (start e p) r (d y) q (H .below) (whole q) (slot q) hr (draining-fits (H .below) .0 (H .rule) r y hr m);
+    each = λ r y hr m. fits-belongs (p / 64 - 1) p (start e p) r (d y) q (H .below) (whole q (H .below)) (slot q) hr (F .0 r y hr m);
+    parked = λ y m. parked-fits (p / 64 - 1) p (start e p) (d y) q (whole q (H .below)) .0 (F .1 y m);
     own = λ z. (floor-mod (suc (p / 64)) e .0 (H .own z .0), λ w. H .own z .1 (floor-mod 6 e .1 (block-mod e ∙ w)));
   },
   λ T. let q = lev (T .high) in record {
@@ -192,7 +225,10 @@ hand-tests d until p e L = (
     stack = T .stack;
     late = T .late;
     due = T .due;
-    rule = draining-fits (T .below) .1 (λ r y hr m. belongs-fits (p / 64 - 1) p (start e p) r (d y) q (T .below) (whole q) (slot q) hr (T .each r y hr m));
+    rule = draining-fits (T .below) .1 (
+      λ r y hr m. belongs-fits (p / 64 - 1) p (start e p) r (d y) q (T .below) (whole q (T .below)) (slot q) hr (T .each r y hr m),
+      λ y m. parked-fits (p / 64 - 1) p (start e p) (d y) q (whole q (T .below)) .1 (T .parked y m),
+    );
     own = λ z. (floor-mod (suc (p / 64)) e .1 (T .own z .0), λ w. T .own z .1 (sym (block-mod e) ∙ floor-mod 6 e .0 w));
   },
 )
@@ -200,8 +236,8 @@ hand-tests d until p e L = (
     lev : 0 < p / 64 → p / 64 ≡ suc (p / 64 - 1)
     lev h = omega (arith, h)
 
-    whole : p / 64 ≡ suc (p / 64 - 1) → floor (suc (p / 64 - 1)) (start e p) ≡ start e p
-    whole q = subst (λ (n : ℕ). floor n (start e p) ≡ start e p) q (start-floor e (p / 64) (p % 64))
+    whole : p / 64 ≡ suc (p / 64 - 1) → p < expired → floor (suc (p / 64 - 1)) (start e p) ≡ start e p
+    whole q h = list-floor (p / 64 - 1) p e q h
 
-    slot : p / 64 ≡ suc (p / 64 - 1) → slotOf (start e p) (suc (p / 64 - 1)) ≡ p % 64
-    slot q = subst (λ (n : ℕ). slotOf (start e p) n ≡ p % 64) q (start-slot e (p / 64) (p % 64) (omega arith))
+    slot : p / 64 ≡ suc (p / 64 - 1) → p < slots → slotOf (start e p) (suc (p / 64 - 1)) ≡ p % 64
+    slot q h = list-slot (p / 64 - 1) p e q h

@@ -1,44 +1,52 @@
--- A drain of the first slot: elapsed rises to the slot's start, and each entry goes one level down. The rule holds again when the slot is empty, and
--- the heights have fallen by the moves.
+-- A drain of the next list: elapsed rises to its start, and each entry goes one level down. The rule holds again when the list is empty, and the heights
+-- have fallen by the moves.
 use mathlib.Core.Path.{_≡_, refl, sym, ap, _∙_, subst}
-use mathlib.Core.Logic.{_≢_, _⊎_, inl, inr, ⊎-elim}
+use mathlib.Core.Logic.{_≢_, _⊎_, inl, inr, ⊎-elim, by-cases}
 use mathlib.Core.List.{List, [], _∷_}
 use Prim.Native.Nat.{ℕ, suc, _+_, _*_, _/_, _≤_, _<_}
 use native.Mathlib.Nat.{le-trans}
+use native.Mathlib.Decide.{ℕ-discrete}
 use native.Mathlib.Omega.{arith}
-use Rattle.times.specs.Times.{slotOf, startAt, floor}
+use Rattle.times.specs.Times.{slotOf, NextBlock}
 use Rattle.times.proofs.laws.Quotients.{slot-lt, floor-le, floor-64, lies-raise, lies-down}
+use Rattle.times.proofs.laws.Blocks.{end-block}
 use Rattle.links.specs.Lists.{Mem, change}
 use Rattle.links.proofs.laws.Lists.{change-same, change-other}
-use Rattle.stack.specs.Places.{slotPlace, slots, put, levelAt}
-use Rattle.wheel.specs.Wheel.{Lists, FirstSlot, arrive, Drains, drained, moved}
+use Rattle.stack.specs.Places.{slotPlace, slots, parking, expired, put, levelAt}
+use Rattle.wheel.specs.Wheel.{Lists, NextList, in-slot, in-parking, arrive, Drains, drained, moved}
 use Rattle.wheel.specs.Sums.{total}
 use Rattle.wheel.proofs.laws.Sums.{mem-joined, mem-left, total-less, total-more}
 use Rattle.wheel.specs.Between.{Spot, Between, Draining}
 use Rattle.wheel.proofs.laws.Between.{place-level, place-slot}
-use Rattle.wheel.proofs.laws.Next.{here-below, slot-below, first-in, start-is, start-late, next-lowest, next-not-before, next-start}
+use Rattle.wheel.proofs.laws.Next.{start-late, start-ends, list-late, list-start, list-lowest, list-later, list-least, list-height, list-some}
 use Rattle.wheel.specs.Drain.{heights}
 
--- the sum of a weight over the wheel that does not ask where
+-- the sum of a weight over the wheel and the parking list that does not ask where
 unfoldable pub amount : (ℕ → ℕ) → Lists → ℕ
-amount v L = total (λ p x. v x) slots L
+amount v L = total (λ p x. v x) expired L
 
--- ---- elapsed rises to the start of the first slot
+-- ---- elapsed rises to the start of the next list
 
-pub drain-begins : {d : ℕ → ℕ} {e : ℕ} {L : Lists} → Between d e L → {k s : ℕ} → FirstSlot e L (suc k) s
-    → Draining d k (slotPlace (suc k) s) (startAt e (suc k) s) L
-drain-begins {d} {e} {L} B {k} {s} F =
+-- up to the start of a slot it stays in its block
+list-block : {d : ℕ → ℕ} {e : ℕ} {L : Lists} → Between d e L → {k p c : ℕ} → NextList e L k p c → (y : ℕ) → p ≢ parking → Mem y (L parking)
+    → NextBlock c (d y)
+list-block {e = e} B (in-slot F) y n m =
+    omega (arith, B .parked y m, end-block e _ (start-late B F) (start-ends B F))
+list-block B (in-parking E is) y n m = absurd (n refl)
+
+pub drain-begins : {d : ℕ → ℕ} {e : ℕ} {L : Lists} → Between d e L → {k p c : ℕ} → NextList e L (suc k) p c → Draining d k p c L
+drain-begins {d} {e} {L} B {k} {p} {c} X =
     record {
       spot = λ q y hq my.
-          let p = B .spot q y hq my in
+          let s = B .spot q y hq my in
           record {
-            slot = p .slot;
-            lies = lies-raise (levelAt q) e (d y) (p .lies) (startAt e (suc k) s) (start-late B F)
-                (next-not-before B F q y hq my);
+            slot = s .slot;
+            lies = lies-raise (levelAt q) e (d y) (s .lies) c (list-late B X) (list-least B X q y (omega (arith, hq)) my);
           };
-      hand = λ y my. sym (start-is B F y my);
-      low = λ q y hq my. omega (arith, next-lowest B F q y hq my);
-      later = λ q y hq n my l. next-start B F q y hq my n;
+      hand = λ y my. list-start B X y my;
+      low = λ q y hq my. omega (arith, list-lowest B X q y (omega (arith, hq)) my);
+      later = λ q y hq n my l. list-later B X q y (omega (arith, hq)) n my;
+      parked = list-block B X;
     }
 
 -- when the slot is empty
@@ -47,6 +55,7 @@ drain-ends {d} {k} {h} {e} {L} D none =
     record {
       spot = D .spot;
       later = λ p x q y hp hq mx my l. D .later p x hp (λ g. subst (Mem x) (ap L g ∙ none) mx) mx (omega (arith, D .low q y hq my));
+      parked = λ x m. by-cases (ℕ-discrete h parking) (λ (g : h ≡ parking). absurd (subst (Mem x) (ap L (sym g) ∙ none) m)) (λ n. D .parked x n m);
     }
 
 -- ---- one move
@@ -56,9 +65,9 @@ pub record Moved (d : ℕ → ℕ) (k h : ℕ) (L : Lists) (m : ℕ) (M : Lists)
   pub rule : (e : ℕ) → Draining d k h e L → Draining d k h e M
   pub fallen : heights M + m ≡ heights L
   pub kept : (v : ℕ → ℕ) → amount v M ≡ amount v L
-  pub aside : (q : ℕ) → slots ≤ q → M q ≡ L q
+  pub aside : (q : ℕ) → expired ≤ q → M q ≡ L q
 
-module _ (d : ℕ → ℕ) (k h : ℕ) (level : h / 64 ≡ suc k) (below : h < slots) where
+module _ (d : ℕ → ℕ) (k h : ℕ) (level : h / 64 ≡ suc k) (below : h < expired) where
   module _ (L : Lists) (x : ℕ) (l : List ℕ) (is : L h ≡ x ∷ l) where
     -- where it goes
     abbrev to : ℕ
@@ -71,7 +80,7 @@ module _ (d : ℕ → ℕ) (k h : ℕ) (level : h / 64 ≡ suc k) (below : h < s
     to-level = place-level k (slotOf (d x) k) (slot-lt (d x) k)
 
     to-below : to < slots
-    to-below = omega (arith, level, slot-lt (d x) k)
+    to-below = omega (arith, level, below, slot-lt (d x) k)
 
     to-other : h ≢ to
     to-other = omega (arith, level, to-level)
@@ -84,15 +93,16 @@ module _ (d : ℕ → ℕ) (k h : ℕ) (level : h / 64 ≡ suc k) (below : h < s
     unfolding arrive
     move-rest = change-other (change L h l) to (put to x (change L h l to)) h to-other ∙ change-same L h l
 
-    move-aside : (q : ℕ) → slots ≤ q → went q ≡ L q
+    move-aside : (q : ℕ) → expired ≤ q → went q ≡ L q
     unfolding arrive
     move-aside q a =
         change-other (change L h l) to (put to x (change L h l to)) q (omega (arith, to-below))
         ∙ change-other L h l q (omega (arith, below))
 
-    move-total : (u : ℕ → ℕ → ℕ) → total u slots went + u h x ≡ total u slots L + u to x
+    move-total : (u : ℕ → ℕ → ℕ) → total u expired went + u h x ≡ total u expired L + u to x
     unfolding arrive
-    move-total u = omega (arith, total-less u slots L h x l below is, total-more u slots (change L h l) to x to-below)
+    move-total u = omega
+        (arith, total-less u expired L h x l below is, total-more u expired (change L h l) to x (omega (arith, to-below)))
 
     move-rule : (e : ℕ) → Draining d k h e L → Draining d k h e went
     move-rule e D =
@@ -102,6 +112,7 @@ module _ (d : ℕ → ℕ) (k h : ℕ) (level : h / 64 ≡ suc k) (below : h < s
           low = λ r y hr m. ⊎-elim (λ a. omega (arith, ap (λ (p : ℕ). levelAt p) (a .0), to-level)) (D .low r y hr) (who r y m);
           later = λ r y hr n m g.
               ⊎-elim (λ a. absurd (omega (arith, g, ap (λ (p : ℕ). levelAt p) (a .0), to-level))) (λ a. D .later r y hr n a g) (who r y m);
+          parked = λ y n m. ⊎-elim (λ a. absurd (omega (arith, a .0, to-below))) (D .parked y n) (who parking y m);
         }
       where
         landed : Spot to e (d x)
@@ -134,7 +145,7 @@ module _ (d : ℕ → ℕ) (k h : ℕ) (level : h / 64 ≡ suc k) (below : h < s
         aside = λ q a. B .aside q a ∙ A .aside q a;
       }
 
-  -- all of them: the slot is empty after it
+  -- all of them: the list is empty after it
   pub drains-law : {L M : Lists} {m : ℕ} → Drains d k h L m M → Moved d k h L m M × (M h ≡ [])
   drains-law (drained {L} e) = (moved-none L, e)
   drains-law (moved {L} {M} {m} {x} {l} e r) =
@@ -144,36 +155,37 @@ module _ (d : ℕ → ℕ) (k h : ℕ) (level : h / 64 ≡ suc k) (below : h < s
       by : (m : ℕ) → 1 + m ≡ suc m
       by m = omega arith
 
--- ---- a drain of the first slot
+-- ---- a drain of the next list
 
--- M is L after a drain of a slot that starts at c
+-- M is L after a drain of a list that starts at c
 pub record Drained (d : ℕ → ℕ) (e : ℕ) (L : Lists) (m c : ℕ) (M : Lists) : Type 0 where
   pub rule : Between d c M
   pub some : 0 < m
   pub fallen : heights M + m ≡ heights L
   pub kept : (v : ℕ → ℕ) → amount v M ≡ amount v L
-  pub aside : (q : ℕ) → slots ≤ q → M q ≡ L q
+  pub aside : (q : ℕ) → expired ≤ q → M q ≡ L q
   pub rises : e ≤ c
   pub whole : c / 64 * 64 ≡ c
-  pub reached : (q y : ℕ) → q < slots → Mem y (L q) → c ≤ d y
+  pub reached : (q y : ℕ) → q < expired → Mem y (L q) → c ≤ d y
 
 some-moves : {d : ℕ → ℕ} {k h m x : ℕ} {L M : Lists} {l : List ℕ} → L h ≡ x ∷ l → Drains d k h L m M → 0 < m
 some-moves is (drained e) = let z : _≡_ {A = ℕ} 0 1 = cc in absurd (omega arith)
 some-moves is (moved e r) = omega arith
 
-pub drain-law : {d : ℕ → ℕ} {e : ℕ} {L : Lists} → Between d e L → {k s : ℕ} → FirstSlot e L (suc k) s → {m : ℕ} {M : Lists}
-    → Drains d k (slotPlace (suc k) s) L m M → Drained d e L m (startAt e (suc k) s) M
-drain-law {d} {e} {L} B {k} {s} F {m} {M} D =
-    let p : ℕ = slotPlace (suc k) s in
-    let R = drains-law d k p (place-level (suc k) s (slot-below B F)) (here-below B F) D in
-    let a = start-is B F (F .head) (first-in B F) in
+pub drain-law : {d : ℕ → ℕ} {e : ℕ} {L : Lists} → Between d e L → {k p c : ℕ} → NextList e L (suc k) p c → {m : ℕ} {M : Lists}
+    → Drains d k p L m M → Drained d e L m c M
+drain-law {d} {e} {L} B {k} {p} {c} X {m} {M} D =
+    let h = list-height X in
+    let R = drains-law d k p (h .0) (h .1) D in
+    let o = list-some X in
+    let a = list-start B X (o .0) (rw (o .2) (inl refl)) in
     record {
-      rule = drain-ends (R .0 .rule (startAt e (suc k) s) (drain-begins B F)) (R .1);
-      some = some-moves (F .filled) D;
+      rule = drain-ends (R .0 .rule c (drain-begins B X)) (R .1);
+      some = some-moves (o .2) D;
       fallen = R .0 .fallen;
       kept = R .0 .kept;
       aside = R .0 .aside;
-      rises = start-late B F;
-      whole = ap (λ (z : ℕ). z / 64 * 64) a ∙ floor-64 k (d (F .head)) ∙ sym a;
-      reached = λ q y hq my. le-trans (next-not-before B F q y hq my) (floor-le (levelAt q) (d y));
+      rises = list-late B X;
+      whole = ap (λ (z : ℕ). z / 64 * 64) (sym a) ∙ floor-64 k (d (o .0)) ∙ a;
+      reached = λ q y hq my. le-trans (list-least B X q y hq my) (floor-le (levelAt q) (d y));
     }

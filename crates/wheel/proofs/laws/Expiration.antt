@@ -1,29 +1,32 @@
--- The next expiration, found in the occupied rows, is the first slot of the lists whose rows they are.
+-- The next expiration, found in the occupied rows and the head of the parking list, is what comes next of the lists whose they are.
 use mathlib.Core.Path.{_≡_, refl, sym, ap, _∙_}
 use mathlib.Core.Logic.{inl}
 use mathlib.Core.Bool.{false, true≢false}
 use mathlib.Core.List.{List, [], _∷_}
+use mathlib.Core.Logic.{_≢_}
 use Prim.Native.Nat.{ℕ, _+_, _-_, _/_, _%_, _≤_, _<_}
 use native.Mathlib.Omega.{arith}
-use Rattle.times.specs.Times.{slotOf, startAt}
+use Rattle.times.specs.Times.{slotOf, startAt, floor}
 use Rattle.times.proofs.laws.Quotients.{slot-lt}
+use Rattle.times.proofs.laws.Blocks.{next-floor}
 use Rattle.row.specs.Row.{flagAt, Lowest}
 use Rattle.row.proofs.laws.Rows.{flag-none}
+use Rattle.links.specs.Lists.{nobody}
 use Rattle.links.specs.Links.{at}
 use Rattle.stack.specs.Places.{slotPlace, slots, levelAt, slotAt}
 use Rattle.wheel.specs.declared.Expiration.{Expiration}
-use Rattle.wheel.specs.declared.Next.the-variants.{At}
+use Rattle.wheel.specs.declared.Next.the-variants.{At, Nothing}
 use Rattle.wheel.specs.declared.Wake.the-variants.{At as Wake·At}
-use Rattle.wheel.specs.Wheel.{Lists, FirstSlot, EmptyWheel}
+use Rattle.wheel.specs.Wheel.{Lists, FirstSlot, EmptyWheel, in-slot, in-parking}
 use Rattle.wheel.specs.Rows.{filled, Rows}
 use Rattle.wheel.proofs.laws.Rows.{flag-is, unfilled, filled-some}
 use Rattle.wheel.specs.Between.{Between}
 use Rattle.wheel.proofs.laws.Between.{place-level, place-slot}
 use Rattle.wheel.proofs.laws.Next.{not-passed}
-use Rattle.wheel.specs.Expiration.{NotPassed, NextIs, WakeIs}
+use Rattle.wheel.specs.Expiration.{NotPassed, Sees, NextIs, WakeIs}
 
 pub wake-at : {e : ℕ} {L : Lists} (x : Expiration) → NextIs e L (At x) → WakeIs e L (Wake·At (x .deadline))
-wake-at x N = (x .level, x .slot, N .0, N .1)
+wake-at x N = (x .level, slotPlace (x .level) (x .slot), N .1)
 
 -- the rule inside a poll has it that no slot was passed
 pub between-passed : {d : ℕ → ℕ} {e : ℕ} {L : Lists} {occ : List ℕ} → Between d e L → Rows occ L → NotPassed e occ
@@ -51,8 +54,8 @@ module _ {occ : List ℕ} {L : Lists} (R : Rows occ L) where
       (ap (λ (r : ℕ). filled (L r)) (sym p) ∙ sym (flag-is R (levelAt q) (slotAt q) (omega arith) (omega arith)) ∙ ap
       (λ (x : ℕ). flagAt x (slotAt q)) z ∙ flag-none (slotAt q))
 
-  pub none-found : ((j : ℕ) → j < 6 → at occ j ≡ 0) → EmptyWheel L
-  none-found z q h = none-at q h (z (levelAt q) (omega arith))
+  no-slot : ((j : ℕ) → j < 6 → at occ j ≡ 0) → EmptyWheel L
+  no-slot z q h = none-at q h (z (levelAt q) (omega arith))
 
   -- no slot that elapsed has passed is occupied, so that the lowest of a row is none of them
   lowest-late : (e k s : ℕ) → k < 6 → NotPassed e occ → Lowest (flagAt (at occ k)) 64 s → slotOf e k ≤ s
@@ -81,4 +84,12 @@ module _ {occ : List ℕ} {L : Lists} (R : Rows occ L) where
   -- with its start, as the code tells it
   pub next-found : (e k s t : ℕ) → k < 6 → ((j : ℕ) → j < k → at occ j ≡ 0) → NotPassed e occ → Lowest (flagAt (at occ k)) 64 s
       → t ≡ startAt e k s → NextIs e L (At (record { level = k; slot = s; deadline = t }))
-  next-found e k s t hk z P F et = (slot-found e k s hk z P F, et)
+  next-found e k s t hk z P F et = (F .within, rw et (in-slot (slot-found e k s hk z P F)))
+
+-- no row has a flag: nothing, or the parking list
+module _ {d : ℕ → ℕ} {e : ℕ} {occ : List ℕ} {head : ℕ} {L : Lists} (S : Sees d e occ head L) (z : (j : ℕ) → j < 6 → at occ j ≡ 0) where
+  pub none-found : head ≡ nobody → NextIs e L Nothing
+  none-found h = (no-slot (S .rows) z, S .none h)
+
+  pub parking-found : head ≢ nobody → (t : ℕ) → t ≡ floor 6 (d head) → NextIs e L (At (record { level = 6; slot = 0; deadline = t }))
+  parking-found h t et = (omega arith, rw (et, next-floor e (d head) (S .block h)) (in-parking (no-slot (S .rows) z) (S .some h .1)))

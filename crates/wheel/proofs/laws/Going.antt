@@ -1,14 +1,16 @@
 -- A poll in hand that answers has done what a whole poll promises, over the store in hand.
 use mathlib.Core.Path.{_≡_, refl, sym, ap, _∙_, subst}
-use mathlib.Core.Logic.{inl}
+use mathlib.Core.Logic.{inl, by-cases}
 use mathlib.Core.List.{List, _∷_, nil≢cons}
 use mathlib.Core.Option.{Option, none, some}
-use Prim.Native.Nat.{ℕ, suc, _+_, _-_, _*_, _/_, _<_}
+use Prim.Native.Nat.{ℕ, suc, _+_, _-_, _*_, _/_, _≤_, _<_}
 use native.Mathlib.Nat.{le-trans}
+use native.Mathlib.Decide.{decLt, ℕ-discrete}
 use native.Mathlib.Omega.{arith}
 use Rattle.times.specs.Times.{floor}
 use Rattle.times.proofs.laws.Quotients.{floor-le, floor-64}
-use Rattle.stack.specs.Places.{slots, expired}
+use Rattle.links.specs.Lists.{Mem}
+use Rattle.stack.specs.Places.{slots, parking, expired}
 use Rattle.wheel.specs.Wheel.{Lists, Drains, drained, moved}
 use Rattle.wheel.proofs.laws.Sums.{hits, lies-times, times-lies}
 use Rattle.wheel.proofs.laws.Drain.{amount, Drained, drain-ends, drains-law}
@@ -22,7 +24,7 @@ use Rattle.wheel.specs.Midway.{InHand}
 
 waits-same : (L M : Lists) → ((v : ℕ → ℕ) → amount v M ≡ amount v L) → (y : ℕ) → Waits L y → Waits M y
 unfolding amount
-waits-same L M e y k = times-lies slots M y (omega (arith, e (hits y), lies-times slots L y (k .0) (k .1) (k .2)))
+waits-same L M e y k = times-lies expired M y (omega (arith, e (hits y), lies-times expired L y (k .0) (k .1) (k .2)))
 
 end-drain : {d : ℕ → ℕ} {now e : ℕ} {L : Lists} {m c : ℕ} {M : Lists} {got : Option ℕ} {moves drains e′ : ℕ} {N : Lists} → Drained d e L m c M
     → Promise d now c M got moves drains e′ N → Promise d now e L got (m + moves) (suc drains) e′ N
@@ -60,6 +62,20 @@ some-moves is (drained e) = absurd (nil≢cons (sym e ∙ is))
 some-moves is (moved e r) = omega arith
 
 module _ {d : ℕ → ℕ} {now p e : ℕ} {L : Lists} (H : InHand d now p e L) where
+  on-wheel : (q y : ℕ) → q < slots → Mem y (L q) → start e p ≤ d y
+  on-wheel q y hq my = le-trans (H .rule .spot q y hq my .lies .start) (floor-le (q / 64) (d y))
+
+  parked : (y : ℕ) → Mem y (L parking) → start e p ≤ d y
+  parked y my =
+      by-cases (ℕ-discrete p parking)
+      (λ (z : p ≡ parking). omega (arith, H .rule .hand y (rw z my), floor-le (suc (p / 64 - 1)) (d y)))
+      (λ n. omega (arith, H .rule .parked y n my))
+
+  -- nothing waits before the start of the list in hand
+  pub hand-reached : (q y : ℕ) → q < expired → Mem y (L q) → start e p ≤ d y
+  hand-reached q y hq my =
+      by-cases (decLt q slots) (λ h. on-wheel q y h my) (λ n. let z : q ≡ parking = omega (arith, hq, n) in parked y (rw z at my))
+
   rest-drained : {m : ℕ} {M : Lists} → Drains d (p / 64 - 1) p L m M → Drained d e L m (start e p) M
   rest-drained {m} {M} D =
       let R = drains-law d (p / 64 - 1) p (omega (arith, H .high)) (H .below) D in
@@ -73,7 +89,7 @@ module _ {d : ℕ → ℕ} {now p e : ℕ} {L : Lists} (H : InHand d now p e L) 
         aside = R .0 .aside;
         rises = H .late;
         whole = ap (λ (z : ℕ). z / 64 * 64) (sym a) ∙ floor-64 (p / 64 - 1) (d (f .0)) ∙ a;
-        reached = λ q y hq my. le-trans (H .rule .spot q y hq my .lies .start) (floor-le (q / 64) (d y));
+        reached = hand-reached;
       }
 
   -- a least due timer or none of those in hand, the rest kept, the clock of a whole poll, 01's rule again

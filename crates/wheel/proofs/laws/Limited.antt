@@ -1,14 +1,37 @@
 -- Two calls with limits say what one with both limits says (`chained`), and a whole poll is one that has moves enough (`polls-limited`, `limited-polls`).
-use mathlib.Core.Path.{_≡_, refl, sym, ap, subst}
+use mathlib.Core.Path.{_≡_, refl, sym, ap, _∙_, subst}
+use mathlib.Core.Logic.{_≢_}
 use mathlib.Core.Option.{Option, none, some}
-use Prim.Native.Nat.{ℕ, suc, _+_, _-_, _/_, _≤_, _<_}
+use Prim.Native.Nat.{ℕ, suc, _+_, _-_, _/_, _%_, _≤_, _<_}
 use native.Mathlib.Omega.{arith}
 use native.Mathlib.Nat.{zero-add, add-assoc}
-use Rattle.times.specs.Times.{startAt}
-use Rattle.stack.specs.Places.{slotPlace}
-use Rattle.wheel.specs.Wheel.{Lists, Drains, drained, moved, Polls, idle, early, out, drain}
+use borrow.Author.Tests.{ne-eqb}
+use Rattle.times.specs.Times.{startAt, blockEnd}
+use Rattle.stack.specs.Places.{slotPlace, parking}
+use Rattle.wheel.specs.Wheel.{Lists, NextList, in-slot, in-parking, Drains, drained, moved, Polls, idle, early, out, drain}
 use Rattle.wheel.proofs.laws.Between.{place-level, place-slot}
+use Rattle.wheel.proofs.laws.Next.{list-height}
 use Rattle.wheel.specs.Limited.{Outcome, ended, yet, start, Limited, rests, waits, hands, finds, stops, moves, empties}
+
+-- ---- the start of a list
+
+pub start-slot-at : (e p : ℕ) → p ≢ parking → start e p ≡ startAt e (p / 64) (p % 64)
+unfolding start
+start-slot-at e p n = rw (ne-eqb p parking n)
+
+pub start-parking : (e : ℕ) → start e parking ≡ blockEnd e
+unfolding start
+start-parking e = refl
+
+pub parking-fits : (e p n : ℕ) → p ≡ parking → start e p < n → blockEnd e < n
+parking-fits e p n z h = subst (λ (c : ℕ). c < n) (ap (start e) z ∙ start-parking e) h
+
+pub list-begins : {e : ℕ} {L : Lists} {k p c : ℕ} → NextList e L k p c → c ≡ start e p
+list-begins {e} (in-slot {k} {s} F) =
+    let h : s < 64 = omega (arith, F .is) in
+    let a : startAt e (slotPlace k s / 64) (slotPlace k s % 64) ≡ startAt e k s = rw (place-level k s h, place-slot k s h) in
+    sym a ∙ sym (start-slot-at e (slotPlace k s) (omega (arith, h, F .within)))
+list-begins {e} (in-parking E is) = sym (start-parking e)
 
 -- the rest of a drain in hand, and a whole poll after it
 pub record Finishes (d : ℕ → ℕ) (now p e : ℕ) (L : Lists) (g : Option ℕ) (m n e′ : ℕ) (N : Lists) : Type 0 where
@@ -74,11 +97,9 @@ module _ {d : ℕ → ℕ} {now : ℕ} where
   polls-limited (idle E) b = rests E
   polls-limited (early F h) b = waits F h
   polls-limited (out F h is) b = hands F h is
-  polls-limited (drain {e} {k} {s} {m = c} {moves = i} {e′ = e′} {N = N} F h D r) b =
-      let hs : s < 64 = omega (arith, F .is) in
-      let a : startAt e (suc k) s ≡ start e (slotPlace (suc k) s) = rw (place-level (suc k) s hs, place-slot (suc k) s hs) in
-      let q = drains-limited (place-level (suc k) s hs) D (rw a at (polls-limited r b)) in
-      finds F h (limit-as (sym (add-assoc c i b)) q)
+  polls-limited (drain {e} {k} {p} {m = c} {moves = i} {e′ = e′} {N = N} X h D r) b =
+      let q = drains-limited (list-height X .0) D (rw (list-begins X) at (polls-limited r b)) in
+      finds X h (limit-as (sym (add-assoc c i b)) q)
 
   -- ---- and the other way: an answer under a limit is the whole poll's
 
@@ -87,12 +108,10 @@ module _ {d : ℕ → ℕ} {now : ℕ} where
   limited-polls (rests E) = idle E
   limited-polls (waits F h) = early F h
   limited-polls (hands F h is) = out F h is
-  limited-polls (finds {e = e} {k = k} {s = s} F h r) =
+  limited-polls (finds {e = e} {k = k} {p = p} X h r) =
       let Q = limited-polls r in
-      let hs : s < 64 = omega (arith, F .is) in
-      let a : start e (slotPlace (suc k) s) ≡ startAt e (suc k) s = rw (place-level (suc k) s hs, place-slot (suc k) s hs) in
-      let z : slotPlace (suc k) s / 64 - 1 ≡ k = omega (arith, place-level (suc k) s hs) in
-      counts-as (sym (Q .all)) (sym (Q .one)) (drain F h (rw z at (Q .rest)) (rw a at (Q .polls)))
+      let z : p / 64 - 1 ≡ k = omega (arith, list-height X .0) in
+      counts-as (sym (Q .all)) (sym (Q .one)) (drain X h (rw z at (Q .rest)) (rw (← list-begins X) at (Q .polls)))
   limited-polls (moves is r) =
       let Q = limited-polls r in
       record {

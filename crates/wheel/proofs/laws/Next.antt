@@ -1,16 +1,18 @@
 -- The first slot of the lowest level holds the least deadlines: all that lies elsewhere is later than all that lies in it, and so is its slot's start.
+-- The same of the list that comes next, which may be the parking list.
 use mathlib.Core.Path.{_≡_, refl, sym, ap, _∙_, subst}
 use mathlib.Core.Logic.{_≢_, inl, by-cases}
-use mathlib.Core.List.{List, [], _∷_}
+use mathlib.Core.List.{List, [], _∷_, nil≢cons}
 use Prim.Native.Nat.{ℕ, _+_, _-_, _*_, _/_, _%_, _≤_, _<_}
 use native.Mathlib.Nat.{lt-of-not-le}
-use native.Mathlib.Decide.{decLe, ℕ-discrete}
+use native.Mathlib.Decide.{decLe, decLt, ℕ-discrete}
 use native.Mathlib.Omega.{arith}
-use Rattle.times.specs.Times.{width, slotOf, startAt, floor, Lies}
+use Rattle.times.specs.Times.{width, slotOf, startAt, floor, Lies, NextBlock, blockEnd}
 use Rattle.times.proofs.laws.Quotients.{quotient-le, slot-lt, lt-floor, floor-le, lies-late, lies-block, lies-start, lies-before}
+use Rattle.times.proofs.laws.Blocks.{end-later, next-floor, lies-ends}
 use Rattle.links.specs.Lists.{Mem}
-use Rattle.stack.specs.Places.{slotPlace, slots, levelAt, slotAt}
-use Rattle.wheel.specs.Wheel.{Lists, FirstSlot}
+use Rattle.stack.specs.Places.{slotPlace, slots, parking, expired, levelAt, slotAt}
+use Rattle.wheel.specs.Wheel.{Lists, FirstSlot, NextList, in-slot, in-parking, NoneWaits}
 use Rattle.wheel.specs.Between.{Between}
 use Rattle.wheel.proofs.laws.Between.{place-level, place-slot}
 
@@ -59,22 +61,22 @@ module _ {d : ℕ → ℕ} {e : ℕ} {L : Lists} (B : Between d e L) where
     first-in = rw (F .filled) (inl refl)
 
     -- whatever lies in the slot lies at its level
-    in-slot : (x : ℕ) → Mem x (L here) → (s ≡ slotOf (d x) k) × Lies k e (d x)
-    in-slot x m =
+    at-level : (x : ℕ) → Mem x (L here) → (s ≡ slotOf (d x) k) × Lies k e (d x)
+    at-level x m =
         let p = B .spot here x here-below m in
         (sym (place-slot k s slot-below) ∙ p .slot ∙ ap (slotOf (d x)) here-level, subst (λ (j : ℕ). Lies j e (d x)) here-level (p .lies))
 
     -- and its start is that deadline rounded down
     pub start-is : (x : ℕ) → Mem x (L here) → startAt e k s ≡ floor k (d x)
-    start-is x m = let r = in-slot x m in ap (startAt e k) (r .0) ∙ lies-start k e (d x) (r .1)
+    start-is x m = let r = at-level x m in ap (startAt e k) (r .0) ∙ lies-start k e (d x) (r .1)
 
     pub start-late : e ≤ startAt e k s
-    start-late = omega (arith, start-is (F .head) first-in, in-slot (F .head) first-in .1 .start)
+    start-late = omega (arith, start-is (F .head) first-in, at-level (F .head) first-in .1 .start)
 
     -- the steps to it
     steps-is : (x : ℕ) → Mem x (L here) → F .steps ≡ ahead k e (d x)
     steps-is x m =
-        let r = in-slot x m in
+        let r = at-level x m in
         omega (arith, F .is, F .near, r .0, ahead-slot k e (d x) (r .1), ahead-lt k e (d x) (r .1), slot-lt e k)
 
     module _ (q y : ℕ) (hq : q < slots) (my : Mem y (L q)) where
@@ -101,7 +103,7 @@ module _ {d : ℕ → ℕ} {e : ℕ} {L : Lists} (B : Between d e L) where
           let p = B .spot q y hq my in
           let late : e / width k ≤ d y / width k = quotient-le k (lies-late (levelAt q) e (d y) (p .lies)) in
           let t : slotAt q ≡ d y / width k % 64 = p .slot ∙ ap (λ (j : ℕ). d y / width j % 64) h in
-          let r = in-slot x mx in
+          let r = at-level x mx in
           let late-x : e / width k ≤ d x / width k = quotient-le k (lies-late k e (d x) (r .1)) in
           rw h (lt-floor k (d x) (d y) .0 (omega (arith, steps-is x mx, no-earlier h, t, r .0, n, h, late, late-x))))
           (λ h. higher-later q y here x hq here-below my mx (omega (arith, h, next-lowest, here-level)))
@@ -118,6 +120,57 @@ module _ {d : ℕ → ℕ} {e : ℕ} {L : Lists} (B : Between d e L) where
 
       pub next-start : q ≢ here → startAt e k s < floor (levelAt q) (d y)
       next-start n = omega (arith, start-is (F .head) first-in, floor-le k (d (F .head)), next-before (F .head) first-in n)
+
+    -- and before the block ends
+    pub start-ends : startAt e k s < blockEnd e
+    start-ends =
+        omega (arith, start-is (F .head) first-in, floor-le k (d (F .head)), lies-ends k e (d (F .head)) (F .within) (at-level (F .head) first-in .1))
+
+  -- ---- the next list, by its place p and its start c
+
+  -- what is no slot is the parking list
+  parked-at : (q y : ℕ) → q < expired → (q < slots → ⊥) → Mem y (L q) → (q ≡ parking) × NextBlock e (d y) × (floor (levelAt q) (d y) ≡ blockEnd e)
+  parked-at q y hq n m =
+      let z : q ≡ parking = omega (arith, hq, n) in
+      let b : NextBlock e (d y) = B .parked y (rw z at m) in
+      (z, b, ap (λ (j : ℕ). floor (levelAt j) (d y)) z ∙ next-floor e (d y) b)
+
+  pub list-late : {k p c : ℕ} → NextList e L k p c → e ≤ c
+  list-late (in-slot F) = start-late F
+  list-late (in-parking E is) = omega (arith, end-later e)
+
+  -- it starts at the floor of whatever lies in it
+  pub list-start : {k p c : ℕ} → NextList e L k p c → (x : ℕ) → Mem x (L p) → floor k (d x) ≡ c
+  list-start (in-slot F) x m = sym (start-is F x m)
+  list-start (in-parking E is) x m = next-floor e (d x) (B .parked x m)
+
+  -- nothing lies lower, and what else there is starts later
+  pub list-lowest : {k p c : ℕ} → NextList e L k p c → (q y : ℕ) → q < expired → Mem y (L q) → k ≤ levelAt q
+  list-lowest (in-slot F) q y hq m =
+      by-cases (decLt q slots) (λ h. next-lowest F q y h m) (λ n. omega (arith, parked-at q y hq n m .0, F .within))
+  list-lowest (in-parking E is) q y hq m =
+      by-cases (decLt q slots) (λ h. absurd (none-in y (E q h) m)) (λ n. omega (arith, parked-at q y hq n m .0))
+
+  pub list-later : {k p c : ℕ} → NextList e L k p c → (q y : ℕ) → q < expired → q ≢ p → Mem y (L q) → c < floor (levelAt q) (d y)
+  list-later (in-slot F) q y hq d m =
+      by-cases (decLt q slots) (λ h. next-start F q y h m d) (λ n. omega (arith, start-ends F, parked-at q y hq n m .2))
+  list-later (in-parking E is) q y hq d m =
+      by-cases (decLt q slots) (λ h. absurd (none-in y (E q h) m)) (λ n. absurd (d (parked-at q y hq n m .0)))
+
+  pub list-least : {k p c : ℕ} → NextList e L k p c → (q y : ℕ) → q < expired → Mem y (L q) → c ≤ floor (levelAt q) (d y)
+  list-least (in-slot F) q y hq m =
+      by-cases (decLt q slots) (λ h. next-not-before F q y h m) (λ n. omega (arith, start-ends F, parked-at q y hq n m .2))
+  list-least (in-parking E is) q y hq m =
+      by-cases (decLt q slots) (λ h. absurd (none-in y (E q h) m)) (λ n. omega (arith, parked-at q y hq n m .2))
+
+-- its place is one of its height, and somebody lies there
+pub list-height : {e : ℕ} {L : Lists} {k p c : ℕ} → NextList e L k p c → (p / 64 ≡ k) × (p < expired)
+list-height (in-slot {k} {s} F) = let h : s < 64 = omega (arith, F .is) in (place-level k s h, omega (arith, F .within, h))
+list-height (in-parking E is) = omega arith
+
+pub list-some : {e : ℕ} {L : Lists} {k p c : ℕ} → NextList e L k p c → (x : ℕ) × (l : List ℕ) × (L p ≡ x ∷ l)
+list-some (in-slot F) = (F .head, F .rest, F .filled)
+list-some (in-parking {x} {l} E is) = (x, l, is)
 
 -- ---- there is one first slot only
 
@@ -151,3 +204,22 @@ module _ {e : ℕ} {L : Lists} where
       let z : _≡_ {A = List ℕ} [] (F .head ∷ F .rest) = sym (E (slotPlace k s) (omega (arith, F .is, F .within))) ∙ F .filled in
       let w : _≡_ {A = ℕ} 0 1 = cc in
       omega arith
+
+-- and one next list only, unless there is none: it has the height, the place and the start of any other
+pub record SameList (k p c j q b : ℕ) : Type 0 where
+  pub height : k ≡ j
+  pub place : p ≡ q
+  pub start : c ≡ b
+
+module _ {e : ℕ} {L : Lists} where
+  pub list-one : {k p c j q b : ℕ} → NextList e L k p c → NextList e L j q b → SameList k p c j q b
+  list-one (in-slot F) (in-slot G) =
+      let r = first-one F G in
+      record { height = r .0; place = rw (r .0, r .1); start = rw (r .0, r .1) }
+  list-one (in-slot F) (in-parking E is) = absurd (first-not-empty F E)
+  list-one (in-parking E is) (in-slot F) = absurd (first-not-empty F E)
+  list-one (in-parking E is) (in-parking E′ is′) = record { height = refl; place = refl; start = refl }
+
+  pub list-not-none : {k p c : ℕ} → NextList e L k p c → NoneWaits L → ⊥
+  list-not-none (in-slot F) N = first-not-empty F (N .0)
+  list-not-none (in-parking E is) N = nil≢cons (sym (N .1) ∙ is)

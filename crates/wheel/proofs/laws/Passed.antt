@@ -10,7 +10,7 @@ use native.Mathlib.Decide.{ℕ-discrete}
 use borrow.Author.Tests.{ne-eqb}
 use Rattle.links.specs.Lists.{nobody}
 use Rattle.links.specs.Links.{at}
-use Rattle.stack.specs.Places.{slots, expired, mostHeights}
+use Rattle.stack.specs.Places.{expired, mostHeights}
 use Rattle.wheel.specs.Wheel.{Lists, Rule}
 use Rattle.wheel.specs.Drain.{heights}
 use Rattle.wheel.specs.Poll.{Waits}
@@ -35,7 +35,7 @@ givenBy v (yet p) = 0
 pub record Passed (L : Lists) (o : Outcome) (m : ℕ) (N : Lists) : Type 0 where
   pub kept : (v : ℕ → ℕ) → amount v N + givenBy v o ≡ amount v L
   pub counted : m + heights N ≡ heights L
-  pub aside : (q : ℕ) → slots ≤ q → N q ≡ L q
+  pub aside : (q : ℕ) → expired ≤ q → N q ≡ L q
 
 promise-passed : {d : ℕ → ℕ} {now e m n c : ℕ} {L N : Lists} {got : Option ℕ} → Promise d now e L got m n c N → Passed L (ended got) m N
 promise-passed P = record { kept = P .kept; counted = P .counted; aside = P .aside }
@@ -63,7 +63,7 @@ module _ {d : ℕ → ℕ} {now b e m n c : ℕ} {L N : Lists} where
 -- who waits still waits, but for whom was handed out
 pub passed-on : {L N : Lists} {o : Outcome} {m : ℕ} → Passed L o m N → (y : ℕ) → givenBy (hits y) o ≡ 0 → Waits L y → Waits N y
 unfolding amount
-passed-on {L} {N} P y z k = times-lies slots N y (omega (arith, P .kept (hits y), lies-times slots L y (k .0) (k .1) (k .2)))
+passed-on {L} {N} P y z k = times-lies expired N y (omega (arith, P .kept (hits y), lies-times expired L y (k .0) (k .1) (k .2)))
 
 -- ---- a whole poll
 

@@ -4,11 +4,10 @@ use mathlib.Core.List.{List, _∷_, nil≢cons}
 use mathlib.Core.Option.{Option, some}
 use Prim.Native.Nat.{ℕ, suc, _+_, _-_, _/_, _≤_, _<_}
 use native.Mathlib.Omega.{arith}
-use Rattle.times.specs.Times.{startAt}
 use Rattle.links.specs.Lists.{change}
 use Rattle.stack.specs.Places.{slotPlace}
-use Rattle.wheel.specs.Wheel.{Lists, FirstSlot, arrive}
-use Rattle.wheel.proofs.laws.Next.{first-one, first-not-empty}
+use Rattle.wheel.specs.Wheel.{Lists, NextList, in-slot, arrive}
+use Rattle.wheel.proofs.laws.Next.{first-one, list-one, list-not-none}
 use Rattle.wheel.specs.Limited.{Outcome, ended, Limited, rests, waits, hands, finds, stops, moves, empties}
 
 -- ---- one thing only
@@ -23,11 +22,9 @@ pub record Alike (o : Outcome) (m n e : ℕ) (L : Lists) (o′ : Outcome) (m′ 
 alike-refl : {o : Outcome} {m n e : ℕ} {L : Lists} → Alike o m n e L o m n e L
 alike-refl = record { answer = refl; moves = refl; drains = refl; elapsed = refl; lists = refl }
 
-clash : {now e k s j t : ℕ} {L : Lists} → FirstSlot e L k s → FirstSlot e L j t → now < startAt e k s → startAt e j t ≤ now → ⊥
-clash {now} {e} {k} {s} {j} {t} F G h g =
-    let q = first-one F G in
-    let z : startAt e k s ≡ startAt e j t = rw (q .0, q .1) in
-    omega (arith, h, g, z)
+-- one list does not start both before now and after it
+clash : {now e k p c j q b : ℕ} {L : Lists} → NextList e L k p c → NextList e L j q b → now < c → b ≤ now → ⊥
+clash X Y h g = omega (arith, h, g, list-one X Y .start)
 
 zero-suc : {k : ℕ} → 0 ≡ suc k → ⊥
 zero-suc e = omega arith
@@ -36,29 +33,27 @@ module _ {d : ℕ → ℕ} {now : ℕ} where
   pub limited-once : {h : Option ℕ} {b e : ℕ} {L : Lists} {o o′ : Outcome} {m n c m′ n′ c′ : ℕ} {N N′ : Lists}
       → Limited d now h b e L o m n c N → Limited d now h b e L o′ m′ n′ c′ N′ → Alike o m n c N o′ m′ n′ c′ N′
   limited-once (rests E) (rests G) = alike-refl
-  limited-once (rests E) (waits F h) = absurd (first-not-empty F E)
-  limited-once (rests E) (hands F h i) = absurd (first-not-empty F E)
-  limited-once (rests E) (finds F h r) = absurd (first-not-empty F E)
-  limited-once (waits F h) (rests E) = absurd (first-not-empty F E)
-  limited-once (waits F h) (waits G g) = alike-refl
-  limited-once (waits F h) (hands G g i) = absurd (clash F G h g)
-  limited-once (waits F h) (finds G g r) = absurd (clash F G h g)
-  limited-once (hands F h i) (rests E) = absurd (first-not-empty F E)
-  limited-once (hands F h i) (waits G g) = absurd (clash G F g h)
+  limited-once (rests E) (waits X h) = absurd (list-not-none X E)
+  limited-once (rests E) (hands F h i) = absurd (list-not-none (in-slot F) E)
+  limited-once (rests E) (finds X h r) = absurd (list-not-none X E)
+  limited-once (waits X h) (rests E) = absurd (list-not-none X E)
+  limited-once (waits X h) (waits Y g) = alike-refl
+  limited-once (waits X h) (hands G g i) = absurd (clash X (in-slot G) h g)
+  limited-once (waits X h) (finds Y g r) = absurd (clash X Y h g)
+  limited-once (hands F h i) (rests E) = absurd (list-not-none (in-slot F) E)
+  limited-once (hands F h i) (waits Y g) = absurd (clash Y (in-slot F) g h)
   limited-once (hands {s = s} {x = x} {L = L} {l = l} F h i) (hands {s = t} {x = y} {l = j} G g u) =
       let q : s ≡ t = first-one F G .1 in
       let z : x ∷ l ≡ y ∷ j = sym i ∙ ap (λ (v : ℕ). L (slotPlace 0 v)) q ∙ u in
       let a : x ≡ y = cc in
       let b : l ≡ j = cc in
       record { answer = ap (λ (v : ℕ). ended (some v)) a; moves = refl; drains = refl; elapsed = refl; lists = rw (q, b) }
-  limited-once (hands F h i) (finds G g r) = absurd (zero-suc (first-one F G .0))
-  limited-once (finds F h r) (rests E) = absurd (first-not-empty F E)
-  limited-once (finds F h r) (waits G g) = absurd (clash G F g h)
-  limited-once (finds F h r) (hands G g i) = absurd (zero-suc (first-one G F .0))
-  limited-once {o′ = o′} {m′ = m′} {n′ = n′} {c′ = c′} {N′ = N′} (finds {b = b} {e = e} {k = k} {s = s} {L = L} F h r) (finds {k = j} {s = t} G g w) =
-      let q = first-one F G in
-      let z : slotPlace (suc j) t ≡ slotPlace (suc k) s = omega (arith, q .0, q .1) in
-      limited-once r (subst (λ (p : ℕ). Limited d now (some p) b e L o′ m′ n′ c′ N′) z w)
+  limited-once (hands F h i) (finds Y g r) = absurd (zero-suc (list-one (in-slot F) Y .height))
+  limited-once (finds X h r) (rests E) = absurd (list-not-none X E)
+  limited-once (finds X h r) (waits Y g) = absurd (clash Y X g h)
+  limited-once (finds X h r) (hands G g i) = absurd (zero-suc (list-one (in-slot G) X .height))
+  limited-once {o′ = o′} {m′ = m′} {n′ = n′} {c′ = c′} {N′ = N′} (finds {b = b} {e = e} {L = L} X h r) (finds Y g w) =
+      limited-once r (subst (λ (p : ℕ). Limited d now (some p) b e L o′ m′ n′ c′ N′) (sym (list-one X Y .place)) w)
   limited-once (stops i) (stops j) = alike-refl
   limited-once (stops i) (empties j r) = absurd (nil≢cons (sym j ∙ i))
   limited-once (moves {b = b} {e = e} {p = p} {x = x} {L = L} {l = l} i r) (moves {x = y} {N = N′} {l = j} {o = o′} {m = m′} {n = n′} {e′ = c′} u w) =

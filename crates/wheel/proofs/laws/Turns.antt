@@ -4,7 +4,7 @@ use mathlib.Core.Path.{_≡_, refl, sym, ap, _∙_, subst}
 use mathlib.Core.Logic.{_≢_, inl, by-cases}
 use mathlib.Core.List.{List, [], _∷_, nil≢cons}
 use mathlib.Core.Option.{Option, none, some}
-use Prim.Native.Nat.{ℕ, zero, suc, _+_, _-_, _≤_, _<_}
+use Prim.Native.Nat.{ℕ, zero, suc, _+_, _-_, _^_, _≤_, _<_}
 use native.Mathlib.Omega.{arith}
 use native.Mathlib.Nat.{zero-add}
 use native.Mathlib.Decide.{ℕ-discrete}
@@ -14,29 +14,29 @@ use Rattle.times.specs.Times.{startAt, levelOf}
 use Rattle.times.proofs.laws.Levels.{level-is}
 use Rattle.links.specs.Lists.{nobody, firstD, change}
 use Rattle.links.specs.Links.{at}
-use Rattle.stack.specs.Places.{slotPlace, slots, places, levelAt, slotAt, topLevel, mostHeights}
-use Rattle.stack.specs.Heads.{slotHead}
-use Rattle.stack.proofs.laws.Heads.{slot-head}
+use Rattle.stack.specs.Places.{slotPlace, parking, expired, places, levelAt, slotAt, topHeight, mostHeights}
+use Rattle.stack.proofs.laws.Heads.{head-parking}
 use Rattle.stack.specs.Whole as stack
 use Rattle.stack.proofs.laws.Whole as stack-laws
 use Rattle.wheel.specs.declared.Expiration.{Expiration}
 use Rattle.wheel.specs.declared.Next.{Next}
 use Rattle.wheel.specs.declared.Next.the-variants.{At, Nothing}
-use Rattle.wheel.specs.Wheel.{Lists, FirstSlot, arrive, Polls, idle, early, out}
+use Rattle.wheel.specs.Wheel.{Lists, FirstSlot, NextList, in-slot, in-parking, arrive, Polls, idle, early, out}
 use Rattle.wheel.specs.Limited.{Outcome, ended, yet, start, Limited, rests, waits, hands, finds, stops, moves, empties}
 use Rattle.wheel.specs.Midway.{InHand}
-use Rattle.wheel.specs.Rows.{Rows}
+use Rattle.wheel.specs.Between.{Between}
 use Rattle.wheel.proofs.laws.Sums.{total-zero, total-le, total-scale}
-use Rattle.wheel.proofs.laws.Next.{slot-below}
+use Rattle.wheel.proofs.laws.Next.{list-height, list-some}
+use Rattle.wheel.proofs.laws.Limited.{list-begins}
 use Rattle.wheel.specs.Drain.{heights}
 use Rattle.wheel.proofs.laws.Drain.{move-law}
-use Rattle.wheel.proofs.laws.Midway.{Looking, Inside, start-at, inside-hand, hand-inside, begun, found, moved-on, emptied}
+use Rattle.wheel.proofs.laws.Midway.{Looking, Inside, inside-hand, hand-inside, begun, found, moved-on, emptied}
 use Rattle.wheel.proofs.laws.Poll.{poll-law}
-use Rattle.wheel.specs.Expiration.{NotPassed, NextIs, GoesTo}
+use Rattle.wheel.specs.Expiration.{CanLook, Sees, NextIs, CanGo, GoesTo}
 use Rattle.wheel.proofs.laws.Expiration.{between-passed}
 use Rattle.wheel.specs.Words.{WheelWords, wheelWords, lists, count, WheelWhole, Becomes, LooseIn, CanAdd, CanPop, Pops}
 use Rattle.wheel.proofs.laws.Words.{headAt}
-use Rattle.wheel.specs.Turns.{CanInsert, CanMove, MovesOne, Shifts, stays, shifts, DrainsTo, CanPoll, gotten, outcome, PollsTo}
+use Rattle.wheel.specs.Turns.{CanInsert, CanTake, CanMove, MovesOne, Shifts, stays, shifts, DrainsTo, CanPoll, gotten, outcome, PollsTo}
 
 -- ---- becoming, twice
 
@@ -59,6 +59,18 @@ insert-adds {t} {w} C k e = record { whole = C .whole; level = omega (arith, lev
 pub inserted : (t : WheelWords) (w i k : ℕ) {t′ : WheelWords} → k ≡ levelOf (t .elapsed) w → Becomes t (arrive k w i (lists t)) t′
     → Becomes t (arrive (levelOf (t .elapsed) w) w i (lists t)) t′
 inserted t w i k e B = rw e at B
+
+-- ---- the head of a slot, or of the parking list
+
+pub take-slot : {t : WheelWords} {k s : ℕ} → CanTake t k s → k < 6 → CanPop t k s
+take-slot C h = record { whole = C .whole; level = h; slot = C .slot }
+
+-- above the six levels only it is left
+pub take-parking : {t : WheelWords} {k s : ℕ} → CanTake t k s → 6 ≤ k → parking ≡ slotPlace k s
+take-parking C h = omega (arith, C .below, h)
+
+pub taken-parking : {t u : WheelWords} {k s item : ℕ} → CanTake t k s → 6 ≤ k → Pops t parking item u → Pops t (slotPlace k s) item u
+taken-parking {t} {u} {k} {s} {item} C h Q = subst (λ p. Pops t p item u) (take-parking C h) Q
 
 -- ---- one move
 
@@ -102,7 +114,7 @@ module _ {t : WheelWords} {ds : List ℕ} {k s : ℕ} (C : CanMove t ds k s) {it
     pub move-adds : CanAdd u (k - 1) item
     move-adds =
         let r = Q .some item (was .0) (was .1) in
-        record { whole = r .2 .whole; level = omega (arith, C .pop .level); item = r .1 }
+        record { whole = r .2 .whole; level = omega (arith, C .pop .below, C .high); item = r .1 }
 
     pub moved-some : (w : ℕ) → w ≡ at ds item → {v : WheelWords} → Becomes u (arrive (k - 1) w item (lists u)) v
         → MovesOne (at ds) t (k - 1) (slotPlace k s) item v
@@ -143,7 +155,7 @@ module _ {t₀ : WheelWords} {ds : List ℕ} {k s : ℕ} (C : CanMove t₀ ds k 
     pub turn-can : CanMove t ds k s
     turn-can =
         record {
-          pop = record { whole = S .becomes .whole; level = C .pop .level; slot = C .pop .slot };
+          pop = record { whole = S .becomes .whole; slot = C .pop .slot; below = C .pop .below };
           high = C .high;
           deadlines = omega arith;
         }
@@ -185,14 +197,43 @@ module _ {t₀ : WheelWords} {ds : List ℕ} {k s : ℕ} (C : CanMove t₀ ds k 
 
 -- ---- a poll, look by look
 
--- each record is at most at the top level
+-- no record is higher than a parked one
 pub heights-small : {t : WheelWords} → WheelWhole t → heights (lists t) ≤ mostHeights
 unfolding heights
 heights-small {t} W =
-    let a = total-le (λ p x. levelAt p) (λ p x. topLevel) slots (lists t) (omega arith) in
-    let b = total-scale topLevel places (lists t) 0 places (omega arith) in
-    let c = total-scale topLevel places (lists t) slots 2 (omega arith) in
-    omega (arith, total-zero (λ p x. topLevel) (lists t), stack-laws.members-few (W .stack))
+    let a = total-le (λ p x. levelAt p) (λ p x. topHeight) expired (lists t) (omega arith) in
+    let b = total-scale topHeight places (lists t) 0 places (omega arith) in
+    let c = total-scale topHeight places (lists t) expired 2 (omega arith) in
+    omega (arith, total-zero (λ p x. topHeight) (lists t), stack-laws.members-few (W .stack))
+
+-- the head of the parking list
+parked-head : (t : WheelWords) → headAt t parking ≡ t .stack .stacks .parking
+parked-head t = head-parking (t .stack .stacks) (t .stack .heads)
+
+parked-first : {t : WheelWords} → WheelWhole t → t .stack .stacks .parking ≢ nobody
+    → (l : List ℕ) × (lists t parking ≡ t .stack .stacks .parking ∷ l)
+parked-first {t} W h = rw (parked-head t) at (stack-laws.list-cons (W .stack) parking (λ z. h (sym (parked-head t) ∙ z)))
+
+-- what a look asks, and what it sees
+pub wheel-asks : {t : WheelWords} → WheelWhole t → {d : ℕ → ℕ} → Between d (t .elapsed) (lists t) → (ds : List ℕ) → count t ≤ length ds
+    → CanLook (t .elapsed) (t .occupied) ds (t .stack .stacks .parking)
+wheel-asks {t} W B ds h =
+    record {
+      rows = between-passed B (W .rows);
+      deadline = λ n.
+          let r = parked-first W n in
+          omega (arith, h, stack-laws.member-below (W .stack) parking (t .stack .stacks .parking) (rw (r .1) (inl refl)));
+    }
+
+pub wheel-sees : {t : WheelWords} → WheelWhole t → {d : ℕ → ℕ} → Between d (t .elapsed) (lists t)
+    → Sees d (t .elapsed) (t .occupied) (t .stack .stacks .parking) (lists t)
+wheel-sees {t} W B =
+    record {
+      rows = W .rows;
+      none = λ z. stack-laws.list-empty (W .stack) parking (parked-head t ∙ z);
+      some = parked-first W;
+      block = λ h. let r = parked-first W h in B .parked (t .stack .stacks .parking) (rw (r .1) (inl refl));
+    }
 
 pub got-none : (i : ℕ) → i ≡ nobody → gotten i ≡ none
 got-none i e = rw (eq-eqb i nobody e)
@@ -235,14 +276,19 @@ module _ {d : ℕ → ℕ} {now e : ℕ} {L : Lists} where
   out-at zero s x l F z h i = (hands F h i, out F h i)
   out-at (suc k) s x l F z h i = absurd (omega arith)
 
-  finds-at : {b m n e′ : ℕ} {N : Lists} {o : Outcome} (k s : ℕ) → FirstSlot e L k s → k ≢ 0 → startAt e k s ≤ now
-      → Limited d now (some (slotPlace k s)) b e L o m n e′ N → Limited d now none b e L o m n e′ N
-  finds-at zero s F z h r = absurd (z refl)
-  finds-at (suc k) s F z h r = finds F h r
+  out-next : {b k p c : ℕ} → NextList e L k p c → k ≡ 0 → c ≤ now → {x : ℕ} {l : List ℕ} → L p ≡ x ∷ l
+      → Limited d now none b e L (ended (some x)) 0 0 e (change L p l) × Polls d now e L (some x) 0 0 e (change L p l)
+  out-next (in-slot {k} {s} F) z h {x} {l} i = out-at k s x l F z h i
+  out-next (in-parking E is) z h i = absurd (omega arith)
 
-  found-at : Looking d now e L → (k s : ℕ) → FirstSlot e L k s → k ≢ 0 → startAt e k s ≤ now → InHand d now (slotPlace k s) e L
-  found-at P zero s F z h = absurd (z refl)
-  found-at P (suc k) s F z h = inside-hand d now (found d now P F h) (F .filled)
+  finds-at : {b m n e′ : ℕ} {N : Lists} {o : Outcome} (k : ℕ) {p c : ℕ} → NextList e L k p c → k ≢ 0 → c ≤ now
+      → Limited d now (some p) b e L o m n e′ N → Limited d now none b e L o m n e′ N
+  finds-at zero X z h r = absurd (z refl)
+  finds-at (suc k) X z h r = finds X h r
+
+  found-at : Looking d now e L → (k : ℕ) {p c : ℕ} → NextList e L k p c → k ≢ 0 → c ≤ now → InHand d now p e L
+  found-at P zero X z h = absurd (z refl)
+  found-at P (suc k) X z h = inside-hand d now (found d now P X h) (list-some X .2)
 
 -- some moves out of p
 module _ {d : ℕ → ℕ} {now : ℕ} where
@@ -300,8 +346,11 @@ module _ {t₀ : WheelWords} {ds : List ℕ} {hand now : ℕ} (C : CanPoll t₀ 
       looking : Looking d now (t .elapsed) (lists t)
       looking = S .passing .free free
 
-      look-asks : NotPassed (t .elapsed) (t .occupied)
-      look-asks = between-passed (looking .rule) (S .whole .rows)
+      look-asks : CanLook (t .elapsed) (t .occupied) ds (t .stack .stacks .parking)
+      look-asks = wheel-asks (S .whole) (looking .rule) ds (omega (arith, C .deadlines, S .kept .size))
+
+      look-sees : Sees d (t .elapsed) (t .occupied) (t .stack .stacks .parking) (lists t)
+      look-sees = wheel-sees (S .whole) (looking .rule)
 
       -- the poll ends: what it hands out, elapsed and the lists after it
       ends : {item : ℕ} {u : WheelWords} → Limited d now none left (t .elapsed) (lists t) (ended (gotten item)) 0 0 (u .elapsed) (lists u)
@@ -331,47 +380,50 @@ module _ {t₀ : WheelWords} {ds : List ℕ} {hand now : ℕ} (C : CanPoll t₀ 
           → PollsTo d now limit hand t₀ nobody place count drains (wheelWords now (t .occupied) (t .stack))
       poll-idle E = rest (rests E) (idle E)
 
-      module _ {k s : ℕ} (F : FirstSlot (t .elapsed) (lists t) k s) (c : ℕ) (ec : c ≡ startAt (t .elapsed) k s) where
-        -- a slot start past now
+      module _ {k s c : ℕ} (N : (s < 64) × NextList (t .elapsed) (lists t) k (slotPlace k s) c) where
+        -- a start past now
         pub poll-early : now < c
             → PollsTo d now limit hand t₀ nobody place count drains (wheelWords now (t .occupied) (t .stack))
-        poll-early h = rest (waits F (omega arith)) (early F (omega arith))
+        poll-early h = rest (waits (N .1) h) (early (N .1) h)
 
-        pub pop-can : CanPop t k s
-        pop-can = record { whole = S .whole; level = F .within; slot = slot-below (looking .rule) F }
+        pub pop-can : k ≡ 0 → CanPop t k s
+        pop-can z = record { whole = S .whole; level = omega arith; slot = N .0 }
+
+        pub place-can : (s < 64) × (slotPlace k s < expired)
+        place-can = (N .0, list-height (N .1) .1)
 
         -- the head of a slot of level 0
         pub poll-out : k ≡ 0 → c ≤ now → (item : ℕ) {u : WheelWords} → Pops t (slotPlace k s) item u
             → PollsTo d now limit hand t₀ item place count drains u
         poll-out z due item {u} Q =
-            let x : ℕ = F .head in
-            let l : List ℕ = F .rest in
-            let r = Q .some x l (F .filled) in
+            let f = list-some (N .1) in
+            let x : ℕ = f .0 in
+            let l : List ℕ = f .1 in
+            let r = Q .some x l (f .2) in
             let h : item ≢ nobody
             = omega (
               arith,
               r .0,
-              stack-laws.member-below (S .whole .stack) (slotPlace k s) x (rw (F .filled) (inl refl)),
+              stack-laws.member-below (S .whole .stack) (slotPlace k s) x (rw (f .2) (inl refl)),
               stack-laws.small (S .whole .stack),
             ) in
-            let o = out-at {d = d} {now = now} {b = left} k s x l F z (omega arith) (F .filled) in
+            let o = out-next {d = d} {now = now} {b = left} (N .1) z due (f .2) in
             let g : gotten item ≡ some x = got-some item h ∙ ap some (r .0) in
             ends {item = item} {u = u} (rw (g, r .2 .elapsed, r .2 .lists) (o .0)) (rw (g, r .2 .elapsed, r .2 .lists) (o .1)) (r .2 .whole) (r .2 .kept)
             (λ y. rw (r .0) (r .1))
 
-        -- a slot above level 0: its drain is in hand
+        -- a list above level 0: its drain is in hand
         pub poll-finds : k ≢ 0 → c ≤ now → (p : ℕ) → p ≡ slotPlace k s → PollSo p left count drains t
         poll-finds z due p is =
-            let hs = slot-below (looking .rule) F in
-            let n : p ≢ nobody = omega (arith, is, hs, F .within) in
-            let H : InHand d now p (t .elapsed) (lists t) = rw is (found-at looking k s F z (omega arith)) in
+            let n : p ≢ nobody = omega (arith, is, list-height (N .1) .1) in
+            let H : InHand d now p (t .elapsed) (lists t) = rw is (found-at looking k (N .1) z due) in
             record {
               whole = S .whole;
               passing = record { free = λ w. absurd (n w); inside = λ w. H };
               kept = S .kept;
               within = S .within;
               so-far = λ {o} {m} {n = i} {e} {M} r.
-                  S .so-far (from-as (sym (got-none place free)) refl (finds-at k s F z (omega arith) (from-as (got-some p n ∙ ap some is) refl r)));
+                  S .so-far (from-as (sym (got-none place free)) refl (finds-at k (N .1) z due (from-as (got-some p n ∙ ap some is) refl r)));
               counted = S .counted;
               few = S .few;
             }
@@ -383,13 +435,14 @@ module _ {t₀ : WheelWords} {ds : List ℕ} {hand now : ℕ} (C : CanPoll t₀ 
       hand-is = S .passing .inside held
 
       module _ (k s : ℕ) (ek : k ≡ levelAt place) (es : s ≡ slotAt place) where
-        hand-parts : (k < 6) × (s < 64) × (place ≡ slotPlace k s)
-        hand-parts = (omega (arith, hand-is .below), omega (arith, es), omega (arith, ek, es))
+        hand-parts : (s < 64) × (slotPlace k s < expired) × (place ≡ slotPlace k s)
+        hand-parts = (omega (arith, es), omega (arith, ek, es, hand-is .below), omega (arith, ek, es))
 
+      module _ (k s : ℕ) (ek : k ≡ levelAt place) (es : s ≡ slotAt place) where
         pub drain-can : CanMove t ds k s
         drain-can =
             record {
-              pop = record { whole = S .whole; level = hand-parts .0; slot = hand-parts .1 };
+              pop = record { whole = S .whole; slot = omega (arith, es); below = omega (arith, ek, es, hand-is .below) };
               high = omega (arith, ek, hand-is .high);
               deadlines = omega (arith, C .deadlines, S .kept .size);
             }
@@ -407,13 +460,10 @@ module _ {t₀ : WheelWords} {ds : List ℕ} {hand now : ℕ} (C : CanPoll t₀ 
           fallen : left - r + heights (lists u) ≡ heights (lists t)
           fallen = shifts-fallen (hand-inside d now hand-is) shifted
 
-          head-at : headAt u place ≡ slotHead (u .stack .heads) k s
-          head-at = ap (headAt u) (sym at-place) ∙ sym (slot-head k s (hand-parts .0) (hand-parts .1) (u .stack .stacks) (u .stack .heads))
-
           -- the limit is used up, and the head is left
-          pub poll-yet : slotHead (u .stack .heads) k s ≢ nobody → PollsTo d now limit hand t₀ nobody place c drains u
+          pub poll-yet : headAt u place ≢ nobody → PollsTo d now limit hand t₀ nobody place c drains u
           poll-yet h =
-              let f = stack-laws.list-cons (D .becomes .whole .stack) place (λ z. h (sym head-at ∙ z)) in
+              let f = stack-laws.list-cons (D .becomes .whole .stack) place h in
               let z : r ≡ 0 = by-cases (ℕ-discrete r 0) (λ w. w)
               (λ w. absurd (nil≢cons (sym (rw at-place at (D .stopped w)) ∙ f .1))) in
               let q : Limited d now (some place) (left - r + 0) (t .elapsed) (lists t) (yet place) (left - r + 0) 0 (t .elapsed) (lists u)
@@ -432,15 +482,13 @@ module _ {t₀ : WheelWords} {ds : List ℕ} {hand now : ℕ} (C : CanPoll t₀ 
               }
 
           -- the slot is empty, elapsed becomes its start, and it looks again
-          pub poll-drained : slotHead (u .stack .heads) k s ≡ nobody → (w : ℕ) → w ≡ startAt (t .elapsed) k s
+          pub poll-drained : headAt u place ≡ nobody → (w : ℕ) → w ≡ start (t .elapsed) place
               → PollSo nobody r c (drains + 1) (wheelWords w (u .occupied) (u .stack)) × (heights (lists u) < heights (lists t))
-          poll-drained h w ew =
-              let e : lists u place ≡ [] = stack-laws.list-empty (D .becomes .whole .stack) place (head-at ∙ h) in
+          poll-drained h w st =
+              let e : lists u place ≡ [] = stack-laws.list-empty (D .becomes .whole .stack) place h in
               let f = hand-is .filled in
               let pos : 0 < left - r = shifts-some (f .2) e shifted in
-              let st : w ≡ start (t .elapsed) place = ew ∙ rw (ek, es) in
-              let P : Looking d now (start (t .elapsed) place) (lists u) = rw (start-at d now (levelAt place - 1) place (t .elapsed) (inside .level))
-              (emptied d now inside e) in (
+              let P : Looking d now (start (t .elapsed) place) (lists u) = emptied d now inside e in (
                 record {
                   whole = record { stack = D .becomes .whole .stack; rows = D .becomes .whole .rows };
                   passing = record { free = λ z. rw st P; inside = λ z. absurd (z refl) };
@@ -457,40 +505,46 @@ module _ {t₀ : WheelWords} {ds : List ℕ} {hand now : ℕ} (C : CanPoll t₀ 
                 omega (arith, fallen, pos),
               )
 
--- ---- the poll goes on: with the drain in hand, or with the first slot
+-- ---- the poll goes on: with the drain in hand, or with the next list
 
--- what `next_slot` found, by the answer's case
-goes-nothing : {e hand : ℕ} {L : Lists} {r : Next} → GoesTo e hand L r → r ≡ Nothing → GoesTo e hand L Nothing
-goes-nothing G z = rw z at G
+-- what `next_list` found, by the answer's case
+module _ {d : ℕ → ℕ} {e : ℕ} {occ : List ℕ} {head hand : ℕ} {r : Next} (G : GoesTo d e occ head hand r) where
+  goes-nothing : r ≡ Nothing → GoesTo d e occ head hand Nothing
+  goes-nothing z = rw z at G
 
-goes-at : {e hand : ℕ} {L : Lists} {r : Next} → GoesTo e hand L r → (x : Expiration) → r ≡ At x → GoesTo e hand L (At x)
-goes-at G x z = rw z at G
+  goes-at : (x : Expiration) → r ≡ At x → GoesTo d e occ head hand (At x)
+  goes-at x z = rw z at G
 
 module _ {t₀ : WheelWords} {ds : List ℕ} {hand now : ℕ} (C : CanPoll t₀ ds hand now) (limit : ℕ)
     {place left count drains : ℕ} {t : WheelWords} (S : PolledSo (at ds) now limit hand t₀ place left count drains t) where
-  pub next-asks : (place ≡ nobody → NotPassed (t .elapsed) (t .occupied)) × (place ≢ nobody → place < slots)
-  next-asks = (λ z. look-asks C limit S z, λ z. S .passing .inside z .below)
+  -- the start of the list in hand is at most now, a u64
+  pub next-asks : now < 2 ^ 64 → CanGo (t .elapsed) (t .occupied) ds (t .stack .stacks .parking) place
+  next-asks f =
+      record {
+        free = λ z. look-asks C limit S z;
+        held = λ z. let H = S .passing .inside z in (H .below, omega (arith, f, H .due));
+      }
 
-  module _ {r : Next} (N : (L : Lists) → Rows (t .occupied) L → GoesTo (t .elapsed) place L r) where
-    -- an empty wheel: nothing is in hand
+  module _ {r : Next} (G : GoesTo (at ds) (t .elapsed) (t .occupied) (t .stack .stacks .parking) place r) where
+    -- nothing waits: nothing is in hand
     pub next-idle : r ≡ Nothing → PollsTo (at ds) now limit hand t₀ nobody place count drains (wheelWords now (t .occupied) (t .stack))
     next-idle e =
-        let G = goes-nothing (N (lists t) (S .whole .rows)) e in
-        by-cases (ℕ-discrete place nobody) (λ z. poll-idle C limit S z (G .free z)) (λ z. absurd (G .held z))
+        let H = goes-nothing G e in
+        by-cases (ℕ-discrete place nobody) (λ z. poll-idle C limit S z (H .free z (lists t) (look-sees C limit S z))) (λ z. absurd (H .held z))
 
     module _ (x : Expiration) (e : r ≡ At x) where
-      goes : GoesTo (t .elapsed) place (lists t) (At x)
-      goes = goes-at (N (lists t) (S .whole .rows)) x e
+      goes : GoesTo (at ds) (t .elapsed) (t .occupied) (t .stack .stacks .parking) place (At x)
+      goes = goes-at G x e
 
-      held-start : (z : place ≢ nobody) → x .deadline ≡ start (t .elapsed) place
-      held-start z = let G = goes .held z in G .2 ∙ rw (G .0, G .1)
+      looked : place ≡ nobody → NextIs (t .elapsed) (lists t) (At x)
+      looked z = goes .free z (lists t) (look-sees C limit S z)
 
-      -- a slot start past now, or a slot of level 0: nothing is in hand
+      -- a start past now, or a slot of level 0: nothing is in hand
       pub next-early : now < x .deadline → PollsTo (at ds) now limit hand t₀ nobody place count drains (wheelWords now (t .occupied) (t .stack))
       next-early h =
           by-cases (ℕ-discrete place nobody)
-          (λ z. let F = goes .free z in poll-early C limit S z (F .0) _ (F .1) h)
-          (λ z. absurd (omega (arith, h, held-start z, S .passing .inside z .due)))
+          (λ z. poll-early C limit S z (looked z) h)
+          (λ z. absurd (omega (arith, h, goes .held z .2, S .passing .inside z .due)))
 
       module _ (low : x .level ≡ 0) where
         none-held : place ≡ nobody
@@ -499,56 +553,55 @@ module _ {t₀ : WheelWords} {ds : List ℕ} {hand now : ℕ} (C : CanPoll t₀ 
             (λ z. absurd (omega (arith, low, goes .held z .0, S .passing .inside z .high)))
 
         pub next-pops : CanPop t (x .level) (x .slot)
-        next-pops = let F = goes .free none-held in pop-can C limit S none-held (F .0) _ (F .1)
+        next-pops = pop-can C limit S none-held (looked none-held) low
 
         pub next-out : x .deadline ≤ now → (item : ℕ) {u : WheelWords} → Pops t (slotPlace (x .level) (x .slot)) item u
             → PollsTo (at ds) now limit hand t₀ item place count drains u
-        next-out due item Q = let F = goes .free none-held in poll-out C limit S none-held (F .0) _ (F .1) low due item Q
+        next-out due item Q = poll-out C limit S none-held (looked none-held) low due item Q
 
-      -- a slot above level 0: its drain is in hand
+      -- a list above level 0: its drain is in hand
       module _ (high : x .level ≢ 0) (due : x .deadline ≤ now) where
         abbrev p : ℕ
         p = slotPlace (x .level) (x .slot)
 
-        parts : (x .level < 6) × (x .slot < 64)
-        parts =
+        held-parts : place ≢ nobody → (x .slot < 64) × (p < expired) × (place ≡ p)
+        held-parts z = hand-parts C limit S z _ _ (goes .held z .0) (goes .held z .1)
+
+        pub next-parts : (x .slot < 64) × (p < expired)
+        next-parts =
             by-cases (ℕ-discrete place nobody)
-            (λ z. let F = goes .free z in let q = pop-can C limit S z (F .0) _ (F .1) in (q .level, q .slot))
-            (λ z. let G = goes .held z in let q = hand-parts C limit S z _ _ (G .0) (G .1) in (q .0, q .1))
+            (λ z. place-can C limit S z (looked z))
+            (λ z. let q = held-parts z in (q .0, q .1))
 
         drains-it : PolledSo (at ds) now limit hand t₀ p left count drains t
         drains-it =
             by-cases (ℕ-discrete place nobody)
-            (λ z. let F = goes .free z in poll-finds C limit S z (F .0) _ (F .1) high due p refl)
-            (λ z.
-            let G = goes .held z in
-            let q : place ≡ p = hand-parts C limit S z _ _ (G .0) (G .1) .2 in
-            subst (λ (y : ℕ). PolledSo (at ds) now limit hand t₀ y left count drains t) q S)
+            (λ z. poll-finds C limit S z (looked z) high due p refl)
+            (λ z. subst (λ (y : ℕ). PolledSo (at ds) now limit hand t₀ y left count drains t) (held-parts z .2) S)
 
         some-place : p ≢ nobody
-        some-place = omega (arith, parts)
+        some-place = omega (arith, next-parts)
 
         level-at : x .level ≡ levelAt p
-        level-at = omega (arith, parts)
+        level-at = omega (arith, next-parts)
 
         slot-at : x .slot ≡ slotAt p
-        slot-at = omega (arith, parts)
-
-        pub next-parts : (x .level < 6) × (x .slot < 64)
-        next-parts = parts
+        slot-at = omega (arith, next-parts)
 
         pub next-can : CanMove t ds (x .level) (x .slot)
         next-can = drain-can C limit drains-it some-place _ _ level-at slot-at
 
-        module _ (o : ℕ) {u : WheelWords} (D : DrainsTo (at ds) t (x .level - 1) p left o u) (c : ℕ) (is : c ≡ limit - o) where
-          pub next-yet : slotHead (u .stack .heads) (x .level) (x .slot) ≢ nobody → (q : ℕ) → q ≡ p
-              → PollsTo (at ds) now limit hand t₀ nobody q c drains u
-          next-yet h q z = rw z (poll-yet C limit drains-it some-place _ _ level-at slot-at o D c is h)
+        module _ (o : ℕ) {u : WheelWords} (D : DrainsTo (at ds) t (x .level - 1) p left o u) (c : ℕ) (is : c ≡ limit - o) (q : ℕ) (qp : q ≡ p) where
+          pub next-yet : headAt u q ≢ nobody → PollsTo (at ds) now limit hand t₀ nobody q c drains u
+          next-yet h = rw qp (poll-yet C limit drains-it some-place _ _ level-at slot-at o D c is (rw qp at h))
 
-          pub next-drained : slotHead (u .stack .heads) (x .level) (x .slot) ≡ nobody
+          pub next-drained : headAt u q ≡ nobody
               → PolledSo (at ds) now limit hand t₀ nobody o c (drains + 1) (wheelWords (x .deadline) (u .occupied) (u .stack))
               × (heights (lists u) < heights (lists t))
-          next-drained h = poll-drained C limit drains-it some-place _ _ level-at slot-at o D c is h _ start-is
+          next-drained h = poll-drained C limit drains-it some-place _ _ level-at slot-at o D c is (rw qp at h) _ start-is
             where
-              start-is : x .deadline ≡ startAt (t .elapsed) (x .level) (x .slot)
-              start-is = by-cases (ℕ-discrete place nobody) (λ z. goes .free z .1) (λ z. goes .held z .2)
+              start-is : x .deadline ≡ start (t .elapsed) p
+              start-is =
+                  by-cases (ℕ-discrete place nobody)
+                  (λ z. list-begins (looked z .1))
+                  (λ z. goes .held z .2 ∙ ap (start (t .elapsed)) (held-parts z .2))

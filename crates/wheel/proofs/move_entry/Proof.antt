@@ -5,29 +5,29 @@ use Rattle.wheel.proofs.laws.Turns.{moved-none, move-deadline, move-add
 use Rattle.wheel.proofs.move_entry.Statement.{statement}
 use Rattle.wheel.proofs.move_entry.Tie as tie
 
-abbrev start : tie.After-pop-entry-arg5 → tie.Start
+abbrev start : tie.After-take-entry-arg6 → tie.Start
 start c =
     let a = c .before .before .before .before in
     let b = a .before .before .before .before in
-    b .before
+    b .before .before
 
-abbrev popped : tie.After-slice-known6 → tie.After-pop-entry
+abbrev popped : tie.After-slice-known6 → tie.After-take-entry
 popped c =
     let a = c .before .before .before .before in
     a .before .before
 
-abbrev some : tie.After-add-entry-arg5 → tie.Else1
+abbrev some : tie.After-add-entry-arg6 → tie.Else1
 some c =
     let a = c .before .before .before .before in
-    a .before .before
+    a .before .before .before
 
 abbrev added : tie.After-slice-known9 → tie.After-add-entry
 added c =
     let a = c .before .before .before .before in
     a .before .before
 
-pop-entry-requires : tie.Need-pop-entry-requires
-pop-entry-requires c κs = search needs
+take-entry-requires : tie.Need-take-entry-requires
+take-entry-requires c κs = search needs
 
 same-length : tie.Need-same-length
 same-length c = search needs
@@ -39,7 +39,7 @@ same-length-3 : tie.Need-same-length-3
 same-length-3 c = search needs
 
 returns : tie.Need-returns
-returns c = let p = popped (c .before) in moved-none (start (p .before) .pre) (p .pop-entry .ensures) (c .if1 .taken)
+returns c = let p = popped (c .before) in moved-none (start (p .before) .pre) (p .take-entry .ensures) (c .if1 .taken)
 
 cast-when : tie.Need-cast-when
 cast-when c = search needs
@@ -51,7 +51,7 @@ shared-slice-read-when : tie.Need-shared-slice-read-when
 shared-slice-read-when c =
     let e = c .before in
     let p = popped (e .before) in
-    move-deadline (start (p .before) .pre) (p .pop-entry .ensures) (e .if1 .left)
+    move-deadline (start (p .before) .pre) (p .take-entry .ensures) (e .if1 .left)
 
 sub-add-entry : tie.Need-sub-add-entry
 sub-add-entry c = search needs
@@ -60,7 +60,7 @@ add-entry-requires : tie.Need-add-entry-requires
 add-entry-requires c κs =
     let e = some c in
     let p = popped (e .before) in
-    move-adds (start (p .before) .pre) (p .pop-entry .ensures) (e .if1 .left)
+    move-adds (start (p .before) .pre) (p .take-entry .ensures) (e .if1 .left)
 
 same-length-4 : tie.Need-same-length-4
 same-length-4 c = search needs
@@ -76,13 +76,13 @@ returns-2 c =
     let a = added c in
     let e = some (a .before) in
     let p = popped (e .before) in
-    moved-some (start (p .before) .pre) (p .pop-entry .ensures) (e .if1 .left) _ refl (a .add-entry .ensures)
+    moved-some (start (p .before) .pre) (p .take-entry .ensures) (e .if1 .left) _ refl (a .add-entry .ensures)
 
 pub move-entry-spec : {M : Type 1} → statement M
 move-entry-spec =
     tie.close
     (tie.spec
-    pop-entry-requires
+    take-entry-requires
     same-length
     same-length-2
     same-length-3

@@ -1,22 +1,29 @@
 -- `next_expiration` meets its contract: the levels passed are empty, and the lowest slot of the first that is not is the first from elapsed on (`next-found`).
+-- Where all are, the parking list is left (`parking-found`).
 use borrow.Author.Needs.{needs}
 use mathlib.Core.Path.{_≡_}
 use Prim.Native.Nat.{ℕ, _≤_, _<_, _-_}
 use native.Mathlib.Omega.{arith}
 use borrow.Author.Count.{below-more}
 use Rattle.links.specs.Links.{at}
-use Rattle.wheel.proofs.laws.Expiration.{next-found, none-found}
+use Rattle.wheel.proofs.laws.Expiration.{next-found, none-found, parking-found}
 use Rattle.wheel.proofs.next_expiration.Statement.{statement}
 use Rattle.wheel.proofs.next_expiration.Tie as tie
 
 abbrev Inv-loop : tie.InvT-loop
-Inv-loop elapsed rows level₀ level = (level ≤ 6) × ((j : ℕ) → j < level → at rows j ≡ 0)
+Inv-loop elapsed rows deadlines parking level₀ level = (level ≤ 6) × ((j : ℕ) → j < level → at rows j ≡ 0)
 
 abbrev μ-loop : tie.MeasureT-loop
-μ-loop elapsed rows level₀ level = 6 - level
+μ-loop elapsed rows deadlines parking level₀ level = 6 - level
 
 abbrev turn : tie.After-row Inv-loop μ-loop → tie.At-loop Inv-loop μ-loop
 turn c = c .before .before
+
+abbrev start : tie.At-loop Inv-loop μ-loop → tie.Start Inv-loop μ-loop
+start c = c .before .before
+
+abbrev parked : tie.After-block-start Inv-loop μ-loop → tie.Else2 Inv-loop μ-loop
+parked c = c .before .before
 
 abbrev row-of : tie.After-slot-start Inv-loop μ-loop → tie.After-row Inv-loop μ-loop
 row-of c = c .before .before .before
@@ -39,7 +46,8 @@ slot-start-requires c κs = (omega arith, c .first-slot .ensures .within)
 returns : tie.Need-returns Inv-loop μ-loop
 returns c =
     let at-loop = turn (row-of c) in
-    λ L R. next-found R _ _ _ _ (omega arith) (at-loop .loop .inv .1) (at-loop .before .pre) (c .before .first-slot .ensures) (c .slot-start .ensures)
+    λ L S. next-found (S .rows) _ _ _ _ (omega arith) (at-loop .loop .inv .1) (start at-loop .pre .rows) (c .before .first-slot .ensures)
+    (c .slot-start .ensures)
 
 add-level : tie.Need-add-level Inv-loop μ-loop
 add-level c = search needs
@@ -51,7 +59,21 @@ loop-again : tie.Need-loop-again Inv-loop μ-loop
 loop-again c = (omega arith, below-more _ _ (turn (c .before) .loop .inv .1) (c .if1 .left))
 
 returns-2 : tie.Need-returns-2 Inv-loop μ-loop
-returns-2 c = λ L R. none-found R (λ j h. c .before .loop .inv .1 j (omega arith))
+returns-2 c = λ L S. none-found S (λ j h. c .before .before .loop .inv .1 j (omega arith)) (c .if2 .taken)
+
+mul-block-start : tie.Need-mul-block-start Inv-loop μ-loop
+mul-block-start c = search needs
+
+shared-slice-read-block-start : tie.Need-shared-slice-read-block-start Inv-loop μ-loop
+shared-slice-read-block-start c = let e = c .before in start (e .before .before) .pre .deadline (e .if2 .left)
+
+block-start-requires : tie.Need-block-start-requires Inv-loop μ-loop
+block-start-requires c κs = search needs
+
+returns-3 : tie.Need-returns-3 Inv-loop μ-loop
+returns-3 c =
+    let e = parked c in
+    λ L S. parking-found S (λ j h. e .before .before .loop .inv .1 j (omega arith)) (e .if2 .left) _ (c .block-start .ensures)
 
 pub next-expiration-spec : {M : Type 1} → statement M
 next-expiration-spec =
@@ -68,4 +90,8 @@ next-expiration-spec =
     add-level
     loop-less
     loop-again
-    returns-2)
+    returns-2
+    mul-block-start
+    shared-slice-read-block-start
+    block-start-requires
+    returns-3)

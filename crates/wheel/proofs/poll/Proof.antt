@@ -1,9 +1,11 @@
 -- `poll` meets its contract: what the poll says from here it says from the start with the counts so far (`next-drained`, and a law for each way
 -- out).
 use borrow.Author.Needs.{needs}
-use Prim.Native.Nat.{_<_}
 use native.Mathlib.Omega.{arith}
-use mathlib.Core.Path.{refl}
+use mathlib.Core.Path.{refl, sym, ap, _∙_}
+use Prim.Native.Nat.{_<_}
+use Rattle.stack.specs.Places.{slotPlace, expired}
+use Rattle.stack.specs.Heads.{headOf}
 use Rattle.links.specs.Links.{at}
 use Rattle.wheel.specs.Words.{words, lists}
 use Rattle.wheel.specs.Drain.{heights}
@@ -13,14 +15,14 @@ use Rattle.wheel.proofs.poll.Statement.{statement}
 use Rattle.wheel.proofs.poll.Tie as tie
 
 abbrev Inv-loop : tie.InvT-loop
-Inv-loop elapsed rows₀ tops heads₀ nexts₀ prevs₀ marks₀ deadlines hand time limit e₀ place₀ left₀ moves₀ drains₀
-    rows heads nexts prevs marks e place left moves drains =
-    PolledSo (at deadlines) time limit hand (words elapsed rows₀ tops heads₀ nexts₀ prevs₀ marks₀)
+Inv-loop elapsed rows₀ tops₀ heads₀ nexts₀ prevs₀ marks₀ deadlines hand time limit e₀ place₀ left₀ moves₀ drains₀
+    rows tops heads nexts prevs marks e place left moves drains =
+    PolledSo (at deadlines) time limit hand (words elapsed rows₀ tops₀ heads₀ nexts₀ prevs₀ marks₀)
     place left moves drains (words e rows tops heads nexts prevs marks)
 
 abbrev μ-loop : tie.MeasureT-loop
-μ-loop elapsed rows₀ tops heads₀ nexts₀ prevs₀ marks₀ deadlines hand time limit e₀ place₀ left₀ moves₀ drains₀
-    rows heads nexts prevs marks e place left moves drains =
+μ-loop elapsed rows₀ tops₀ heads₀ nexts₀ prevs₀ marks₀ deadlines hand time limit e₀ place₀ left₀ moves₀ drains₀
+    rows tops heads nexts prevs marks e place left moves drains =
     heights (lists (words e rows tops heads nexts prevs marks))
 
 abbrev start : tie.At-loop Inv-loop μ-loop → tie.Start Inv-loop μ-loop
@@ -28,37 +30,45 @@ start c =
     let a = c .before .before .before .before in
     a .before
 
-abbrev turn : tie.After-next-slot Inv-loop μ-loop → tie.At-loop Inv-loop μ-loop
-turn c = c .before .before
+abbrev turn : tie.After-next-list Inv-loop μ-loop → tie.At-loop Inv-loop μ-loop
+turn c = c .before .before .before
 
-abbrev found : tie.After-known-told Inv-loop μ-loop → tie.After-next-slot Inv-loop μ-loop
+abbrev found : tie.After-known-told Inv-loop μ-loop → tie.After-next-list Inv-loop μ-loop
 found c = c .before .before .before
 
-abbrev popping : tie.After-pop-entry-arg5 Inv-loop μ-loop → tie.Then2 Inv-loop μ-loop
+abbrev popping : tie.After-pop-entry-arg6 Inv-loop μ-loop → tie.Then2 Inv-loop μ-loop
 popping c =
     let a = c .before .before .before .before in
-    a .before
+    a .before .before
 
 abbrev popped : tie.After-slice-known6 Inv-loop μ-loop → tie.After-pop-entry Inv-loop μ-loop
 popped c =
     let a = c .before .before .before .before in
     a .before .before
 
-abbrev draining : tie.After-poll-expiration-arg5 Inv-loop μ-loop → tie.Else2 Inv-loop μ-loop
+abbrev draining : tie.After-poll-expiration-arg6 Inv-loop μ-loop → tie.Else2 Inv-loop μ-loop
 draining c =
     let a = c .before .before .before .before in
-    a .before
+    a .before .before
 
 abbrev drained : tie.After-slice-known9 Inv-loop μ-loop → tie.After-poll-expiration Inv-loop μ-loop
 drained c =
     let a = c .before .before .before .before in
     a .before .before
 
+abbrev headed : tie.After-list-head Inv-loop μ-loop → tie.After-slice-known9 Inv-loop μ-loop
+headed c = c .before .before .before
+
 loop-holds : tie.Need-loop-holds Inv-loop μ-loop
 loop-holds c = poll-start (c .before .before .before .before .pre) _
 
-next-slot-requires : tie.Need-next-slot-requires Inv-loop μ-loop
-next-slot-requires c κs = next-asks (start (c .before) .pre) _ (c .before .loop .inv)
+element-copy-out-next-list : tie.Need-element-copy-out-next-list Inv-loop μ-loop
+element-copy-out-next-list c = search needs
+
+next-list-requires : tie.Need-next-list-requires Inv-loop μ-loop
+next-list-requires c κs =
+    let t = c .before .before in
+    next-asks (start t .pre) _ (t .loop .inv) (start t .fits .time .fits)
 
 enum-known-next : tie.Need-enum-known-next Inv-loop μ-loop
 enum-known-next c = search needs
@@ -72,7 +82,7 @@ pop-entry-requires c κs =
     let k = o .before .before in
     let n = found k in
     let t = turn n in
-    next-pops (start t .pre) _ (t .loop .inv) (n .next-slot .ensures) _ (k .before .next .given .1) (o .if2 .taken)
+    next-pops (start t .pre) _ (t .loop .inv) (n .next-list .ensures) _ (k .before .next .given .1) (o .if2 .taken)
 
 poll-expiration-requires : tie.Need-poll-expiration-requires Inv-loop μ-loop
 poll-expiration-requires c κs =
@@ -80,7 +90,7 @@ poll-expiration-requires c κs =
     let k = d .before .before in
     let n = found k in
     let t = turn n in
-    next-can (start t .pre) _ (t .loop .inv) (n .next-slot .ensures) _ (k .before .next .given .1) (d .if2 .left) (d .before .if1 .left)
+    next-can (start t .pre) _ (t .loop .inv) (n .next-list .ensures) _ (k .before .next .given .1) (d .if2 .left) (d .before .if1 .left)
 
 sub-moves : tie.Need-sub-moves Inv-loop μ-loop
 sub-moves c =
@@ -88,71 +98,53 @@ sub-moves c =
     let t = turn (found (draining (p .before) .before .before)) in
     omega (arith, p .poll-expiration .ensures .within, t .loop .inv .within)
 
--- the slot that it goes on with, once it is drained
-abbrev known : tie.After-slice-known9 Inv-loop μ-loop → tie.After-next Inv-loop μ-loop
-known c = draining (drained c .before) .before .before .before
-
-parts : (c : tie.After-slice-known9 Inv-loop μ-loop) → (known c .next .given .0 .0 .level < 6) × (known c .next .given .0 .0 .slot < 64)
+parts : (c : tie.After-slice-known9 Inv-loop μ-loop) → let x = draining (drained c .before) .before .before .before .next .given .0 .0 in
+    (x .slot < 64) × (slotPlace (x .level) (x .slot) < expired)
 parts c =
     let d = draining (drained c .before) in
     let k = d .before .before in
     let n = found k in
     let t = turn n in
-    next-parts (start t .pre) _ (t .loop .inv) (n .next-slot .ensures) _ (k .before .next .given .1) (d .if2 .left) (d .before .if1 .left)
+    next-parts (start t .pre) _ (t .loop .inv) (n .next-list .ensures) _ (k .before .next .given .1) (d .if2 .left) (d .before .if1 .left)
 
-mul-if3 : tie.Need-mul-if3 Inv-loop μ-loop
-mul-if3 c =
-    let q = parts c in
-    search needs
+list-head-requires : tie.Need-list-head-requires Inv-loop μ-loop
+list-head-requires c κs = parts (c .before .before)
 
-mul-if3-2 : tie.Need-mul-if3-2 Inv-loop μ-loop
-mul-if3-2 c =
-    let q = parts c in
-    search needs
-
-index-1-if3 : tie.Need-index-1-if3 Inv-loop μ-loop
-index-1-if3 c =
-    let q = parts c in
-    search needs
-
-index-2-if3 : tie.Need-index-2-if3 Inv-loop μ-loop
-index-2-if3 c =
-    let q = parts c in
-    search needs
-
-slot-place-requires : tie.Need-slot-place-requires Inv-loop μ-loop
-slot-place-requires c κs = parts (c .before .before)
+list-place-requires : tie.Need-list-place-requires Inv-loop μ-loop
+list-place-requires c κs = parts (headed (c .before))
 
 add-drains : tie.Need-add-drains Inv-loop μ-loop
 add-drains c =
-    let t = turn (found (draining (drained (c .before .before) .before) .before .before)) in
+    let t = turn (found (draining (drained (headed (c .before)) .before) .before .before)) in
     omega (arith, counts-small (start t .pre) _ (t .loop .inv))
 
 loop-less : tie.Need-loop-less Inv-loop μ-loop
 loop-less c =
-    let p = drained (c .before .before) in
+    let h = c .before in
+    let p = drained (headed h) in
     let d = draining (p .before) in
     let k = d .before .before in
     let n = found k in
     let t = turn n in
-    next-drained (start t .pre) _ (t .loop .inv) (n .next-slot .ensures) _ (k .before .next .given .1) (d .if2 .left) (d .before .if1 .left)
-    _ (p .poll-expiration .ensures) _ refl (c .if3 .left) .1
+    next-drained (start t .pre) _ (t .loop .inv) (n .next-list .ensures) _ (k .before .next .given .1) (d .if2 .left) (d .before .if1 .left)
+    _ (p .poll-expiration .ensures) _ refl _ refl (sym (h .list-head .ensures) ∙ c .if3 .left) .1
 
 loop-again : tie.Need-loop-again Inv-loop μ-loop
 loop-again c =
-    let p = drained (c .before .before) in
+    let h = c .before in
+    let p = drained (headed h) in
     let d = draining (p .before) in
     let k = d .before .before in
     let n = found k in
     let t = turn n in
-    next-drained (start t .pre) _ (t .loop .inv) (n .next-slot .ensures) _ (k .before .next .given .1) (d .if2 .left) (d .before .if1 .left)
-    _ (p .poll-expiration .ensures) _ refl (c .if3 .left) .0
+    next-drained (start t .pre) _ (t .loop .inv) (n .next-list .ensures) _ (k .before .next .given .1) (d .if2 .left) (d .before .if1 .left)
+    _ (p .poll-expiration .ensures) _ refl _ refl (sym (h .list-head .ensures) ∙ c .if3 .left) .0
 
 returns : tie.Need-returns Inv-loop μ-loop
 returns c =
     let n = c .before .before in
     let t = turn n in
-    next-idle (start t .pre) _ (t .loop .inv) (n .next-slot .ensures) (c .enum-told .given .1)
+    next-idle (start t .pre) _ (t .loop .inv) (n .next-list .ensures) (c .enum-told .given .1)
 
 same-length : tie.Need-same-length Inv-loop μ-loop
 same-length c = returns c .kept .links .nexts .size
@@ -168,7 +160,7 @@ returns-2 c =
     let k = c .before in
     let n = found k in
     let t = turn n in
-    next-early (start t .pre) _ (t .loop .inv) (n .next-slot .ensures) _ (k .before .next .given .1) (c .if1 .taken)
+    next-early (start t .pre) _ (t .loop .inv) (n .next-list .ensures) _ (k .before .next .given .1) (c .if1 .taken)
 
 same-length-4 : tie.Need-same-length-4 Inv-loop μ-loop
 same-length-4 c = returns-2 c .kept .links .nexts .size
@@ -186,7 +178,7 @@ returns-3 c =
     let k = o .before .before in
     let n = found k in
     let t = turn n in
-    next-out (start t .pre) _ (t .loop .inv) (n .next-slot .ensures) _ (k .before .next .given .1) (o .if2 .taken) (o .before .if1 .left)
+    next-out (start t .pre) _ (t .loop .inv) (n .next-list .ensures) _ (k .before .next .given .1) (o .if2 .taken) (o .before .if1 .left)
     _ (p .pop-entry .ensures)
 
 same-length-7 : tie.Need-same-length-7 Inv-loop μ-loop
@@ -200,14 +192,16 @@ same-length-9 c = returns-3 c .kept .links .marks .size
 
 returns-4 : tie.Need-returns-4 Inv-loop μ-loop
 returns-4 c =
-    let b = c .before in
-    let p = drained (b .before .before) in
+    let y = c .before in
+    let h = y .before in
+    let p = drained (headed h) in
     let d = draining (p .before) in
     let k = d .before .before in
     let n = found k in
     let t = turn n in
-    next-yet (start t .pre) _ (t .loop .inv) (n .next-slot .ensures) _ (k .before .next .given .1) (d .if2 .left) (d .before .if1 .left)
-    _ (p .poll-expiration .ensures) _ refl (b .if3 .taken) _ (c .slot-place .ensures)
+    next-yet (start t .pre) _ (t .loop .inv) (n .next-list .ensures) _ (k .before .next .given .1) (d .if2 .left) (d .before .if1 .left)
+    _ (p .poll-expiration .ensures) _ refl _ (c .list-place .ensures)
+    (λ z. y .if3 .taken (h .list-head .ensures ∙ ap (headOf _ _) (sym (c .list-place .ensures)) ∙ z))
 
 same-length-10 : tie.Need-same-length-10 Inv-loop μ-loop
 same-length-10 c = returns-4 c .kept .links .nexts .size
@@ -225,17 +219,15 @@ poll-spec =
     Inv-loop
     μ-loop
     loop-holds
-    next-slot-requires
+    element-copy-out-next-list
+    next-list-requires
     enum-known-next
     enum-told
     pop-entry-requires
     poll-expiration-requires
     sub-moves
-    mul-if3
-    mul-if3-2
-    index-1-if3
-    index-2-if3
-    slot-place-requires
+    list-head-requires
+    list-place-requires
     add-drains
     loop-less
     loop-again

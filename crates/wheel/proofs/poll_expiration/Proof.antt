@@ -10,22 +10,22 @@ use Rattle.wheel.proofs.poll_expiration.Statement.{statement}
 use Rattle.wheel.proofs.poll_expiration.Tie as tie
 
 abbrev Inv-loop : tie.InvT-loop
-Inv-loop elapsed rows₀ tops heads₀ nexts₀ prevs₀ marks₀ deadlines level slot limit left₀ rows heads nexts prevs marks left =
-    DrainedSo (at deadlines) (words elapsed rows₀ tops heads₀ nexts₀ prevs₀ marks₀)
+Inv-loop elapsed rows₀ tops₀ heads₀ nexts₀ prevs₀ marks₀ deadlines level slot limit left₀ rows tops heads nexts prevs marks left =
+    DrainedSo (at deadlines) (words elapsed rows₀ tops₀ heads₀ nexts₀ prevs₀ marks₀)
     (level - 1) (slotPlace level slot) limit left (words elapsed rows tops heads nexts prevs marks)
 
 abbrev μ-loop : tie.MeasureT-loop
-μ-loop elapsed rows₀ tops heads₀ nexts₀ prevs₀ marks₀ deadlines level slot limit left₀ rows heads nexts prevs marks left = left
+μ-loop elapsed rows₀ tops₀ heads₀ nexts₀ prevs₀ marks₀ deadlines level slot limit left₀ rows tops heads nexts prevs marks left = left
 
 abbrev start : tie.At-loop Inv-loop μ-loop → tie.Start Inv-loop μ-loop
 start c =
     let a = c .before .before .before .before in
     a .before
 
-abbrev turn : tie.After-move-entry-arg5 Inv-loop μ-loop → tie.Else1 Inv-loop μ-loop
+abbrev turn : tie.After-move-entry-arg6 Inv-loop μ-loop → tie.Else1 Inv-loop μ-loop
 turn c =
     let a = c .before .before .before .before in
-    a .before
+    a .before .before
 
 abbrev moved : tie.After-slice-known6 Inv-loop μ-loop → tie.After-move-entry Inv-loop μ-loop
 moved c =

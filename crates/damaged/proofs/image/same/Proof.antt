@@ -5,10 +5,10 @@ use Rattle.damaged.proofs.image.same.Statement.{statement}
 use Rattle.damaged.proofs.image.same.Tie as tie
 
 abbrev Inv-loop : tie.InvT-loop
-Inv-loop a b i₀ i = (i ≤ 481)
+Inv-loop a b i₀ i = (i ≤ 482)
 
 abbrev μ-loop : tie.MeasureT-loop
-μ-loop a b i₀ i = 481 - i
+μ-loop a b i₀ i = 482 - i
 
 loop-holds : tie.Need-loop-holds Inv-loop μ-loop
 loop-holds c = search needs

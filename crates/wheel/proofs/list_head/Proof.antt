@@ -1,0 +1,44 @@
+-- `list_head` meets its contract: a slot's head (`slot-head`), and above the six levels only the parking list is left.
+use borrow.Author.Needs.{needs}
+use mathlib.Core.Path.{_≡_, refl}
+use native.Mathlib.Omega.{arith}
+use Rattle.stack.specs.Places.{slotPlace, parking}
+use Rattle.stack.proofs.laws.Heads.{slot-head, head-parking}
+use Rattle.wheel.proofs.list_head.Statement.{statement}
+use Rattle.wheel.proofs.list_head.Tie as tie
+
+mul-result : tie.Need-mul-result
+mul-result c = search needs
+
+mul-result-2 : tie.Need-mul-result-2
+mul-result-2 c = search needs
+
+index-1-result : tie.Need-index-1-result
+index-1-result c = search needs
+
+index-2-result : tie.Need-index-2-result
+index-2-result c = search needs
+
+returns : tie.Need-returns
+returns c = slot-head _ _ (c .before .if1 .taken) (c .before .before .pre .0) _ _
+
+element-copy-out-result : tie.Need-element-copy-out-result
+element-copy-out-result c = search needs
+
+returns-2 : tie.Need-returns-2
+returns-2 c =
+    let e = c .before in
+    let z : slotPlace (e .before .args .level) (e .before .args .slot) ≡ parking = omega (arith, e .if1 .left, e .before .pre .1) in
+    rw (z, head-parking) refl
+
+pub list-head-spec : {M : Type 1} → statement M
+list-head-spec =
+    tie.close
+    (tie.spec
+    mul-result
+    mul-result-2
+    index-1-result
+    index-2-result
+    returns
+    element-copy-out-result
+    returns-2)
