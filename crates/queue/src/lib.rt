@@ -410,7 +410,7 @@ pub fn length(n: u16, marks: &[u16]) -> u64
     requires { ⌜ n ≤ length (now marks) ⌝ }
     ensures { λ r. ⌜ r ≡ pendingIn (at (old marks)) n ⌝ }
 {
-    let mut count = 0u64;
+    let mut count = 0u16;
     let mut i = 0u16;
     while i < n {
         if stack::is_pending(marks[i as usize]) {
@@ -418,7 +418,7 @@ pub fn length(n: u16, marks: &[u16]) -> u64
         }
         i += 1;
     }
-    count
+    count as u64
 }
 
 // The record `item` leaves if it is pending.

@@ -49,6 +49,9 @@ loop-again c =
     (λ w. (omega arith, omega arith, w .1 ∙ turn .loop .inv .2 ∙ sym (pending-same _ _ (e ∙ w .0 .left))))
     (c .if1 .came)
 
+cast-result : tie.Need-cast-result Inv-loop μ-loop
+cast-result c = search needs
+
 returns : tie.Need-returns Inv-loop μ-loop
 returns c =
     let e : c .before .loop .i ≡ c .before .before .before .args .n = omega arith in
@@ -69,4 +72,5 @@ length-spec =
     add-i
     loop-less
     loop-again
+    cast-result
     returns)
