@@ -6,9 +6,9 @@ mod prototype;
 mod replay;
 
 use clock::{in_turns, timed, timed_alone, Side, Times};
-use ours::Store;
+use ours::{Store, NO_WORDS};
 use speed::original;
-use speed::script::{Mix, COMMANDS, INSERT, MIXES, SIZES};
+use speed::script::{asked, sum_of, Answer, Asked, Mix, COMMANDS, EVERY_MIX, INSERT, MIXES, SIZES};
 use std::hint::black_box;
 
 /// A judged call takes microseconds, so these runs are shorter.
@@ -19,7 +19,7 @@ const JUDGED_SIZES: [usize; 5] = [64, 1024, 8192, 32_768, 65_535];
 const JUDGED_RECORDS: usize = 1_000_000;
 const DAY: u64 = 86_400_000;
 
-const USAGE: &str = "usage: speed calls|judge|sizes|judged|replay ROUNDS FOLDER-OF-MIXES [PROGRAM]";
+const USAGE: &str = "usage: speed calls|run|judge|sizes|judged|replay ROUNDS FOLDER-OF-MIXES [PROGRAM]";
 
 fn main() {
     let words: Vec<String> = std::env::args().collect();
@@ -34,6 +34,7 @@ fn main() {
         .collect();
     match (*what, rest) {
         ("calls", []) => calls(rounds, &mixes),
+        ("run", []) => run(rounds, &mixes, &SIZES.map(|records| Mix::read(folder, EVERY_MIX, records))),
         ("judge", []) => judge(rounds, &mixes),
         ("sizes", []) => sizes(rounds),
         ("judged", []) => judged(rounds, &mixes),
@@ -94,6 +95,64 @@ fn calls(rounds: usize, mixes: &[Mix]) {
                 &prototype::refused().to_string(),
             ],
         );
+    }
+}
+
+/// Runs of so many commands each, one behind the other, into room for as many answers: ns a command, and the sum of the answers.
+fn in_runs(
+    size: usize,
+    commands: &[Asked],
+    answers: &mut [Answer],
+    mut run: impl FnMut(&[Asked], &mut [Answer]),
+) -> (f64, Option<u64>) {
+    let (mut time, mut sum) = (0.0, 0);
+    for part in commands.chunks(size) {
+        let room = &mut answers[..part.len()];
+        time += timed(1, || {
+            run(part, room);
+            0
+        })
+        .0;
+        sum = sum_of(sum, room);
+    }
+    (time / commands.len() as f64, Some(sum))
+}
+
+/// Runs: the store is judged once a run, and the answers are written. The original writes its answers too.
+fn run(rounds: usize, mixes: &[Mix], every: &[Mix]) {
+    for size in [COMMANDS, 1_000] {
+        println!("ns a command, least (median) of {rounds} times {COMMANDS} commands, in runs of {size}");
+        row("N mix", ["ours", "Rust", "ours/Rust", "sum of the answers"]);
+        for mix in mixes.iter().chain(every) {
+            let n = mix.records;
+            let script = mix.script.iter().enumerate();
+            let commands: Vec<Asked> = script.map(|(i, &c)| asked(n, i, c)).collect();
+            let commands = &commands[..];
+            let mut room = vec![[0; 6]; size];
+            let ours: Side = (
+                "ours",
+                Box::new(move || {
+                    let mut store = Store::new(n);
+                    in_runs(size, commands, &mut room, |part, room| {
+                        let ended = store.run(part.as_flattened(), room.as_flattened_mut());
+                        assert_eq!(ended, (part.len(), NO_WORDS), "all are answered")
+                    })
+                }),
+            );
+            let mut room = vec![[0; 6]; size];
+            let rust: Side = (
+                "Rust",
+                Box::new(move || {
+                    let mut queue = original::Queue::new(n);
+                    in_runs(size, commands, &mut room, |part, room| {
+                        original::answers(&mut queue, part, room)
+                    })
+                }),
+            );
+            let ([ours, rust], sum) = in_turns(mix.name, rounds, [ours, rust]);
+            let sum = format!("{sum:016x}");
+            row(&named(mix), [&ns(&ours), &ns(&rust), &ratio(&ours, &rust), &sum]);
+        }
     }
 }
 

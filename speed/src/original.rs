@@ -5,7 +5,7 @@
 // Whole items of delay_queue.rs, and its methods insert_idx and remove_key.
 include!(concat!(env!("OUT_DIR"), "/delay_queue_parts.rs"));
 
-use crate::script::{mixed, Command, INSERT, POLL, REMOVE, RESET};
+use crate::script::{mixed, Answer, Asked, Command, INSERT, POLL, REMOVE, RESET};
 
 pub struct Queue {
     slab: SlabStorage<u64>,
@@ -69,6 +69,16 @@ impl Queue {
         self.wheel.poll_at()
     }
 
+    pub fn len(&self) -> usize {
+        self.slab.len()
+    }
+
+    pub fn clear(&mut self) {
+        self.slab.clear();
+        self.expired = Stack::default();
+        self.wheel = Wheel::new();
+    }
+
     pub fn elapsed(&self) -> u64 {
         self.wheel.elapsed()
     }
@@ -100,4 +110,39 @@ pub fn run(queue: &mut Queue, script: &[Command]) -> u64 {
         }
     }
     sum
+}
+
+/// The commands of a run, with their answers written as a run of ours writes them, as far as the original has them.
+#[inline(never)]
+pub fn answers(queue: &mut Queue, commands: &[Asked], answers: &mut [Answer]) {
+    for (&[kind, a, b, _], to) in commands.iter().zip(answers) {
+        *to = match kind {
+            2 => [1, queue.insert(a, b) as u64, 0, 0, 0, 0],
+            3 => {
+                queue.reset((a & 0xffff) as usize, b);
+                [0; 6]
+            }
+            4 => {
+                let (value, deadline) = queue.remove((a & 0xffff) as usize);
+                [2, value, deadline, 0, 0, 0]
+            }
+            1 => {
+                *queue = Queue::new(a as usize);
+                [0; 6]
+            }
+            6 => {
+                queue.clear();
+                [0; 6]
+            }
+            5 | 11 => match queue.poll(a) {
+                Some((number, value, deadline)) => [3, number as u64, value, deadline, 0, 0],
+                None => [5, 0, 0, 0, 0, 0],
+            },
+            13 => [8, queue.len() as u64, 0, 0, 0, 0],
+            _ => match queue.wake() {
+                Some(time) => [6, time, 0, 0, 0, 0],
+                None => [7, 0, 0, 0, 0, 0],
+            },
+        };
+    }
 }

@@ -17,13 +17,43 @@ pub type Told = [u64; 4];
 
 pub const FORMAT: u64 = 0;
 
+/// Why a run stopped, in the order of `Why` in crates/run.
+pub const NO_WORDS: u64 = 0;
+pub const NO_COMMAND: u64 = 1;
+pub const NO_ROOM: u64 = 2;
+
+/// The call as a command of a run: its kind, and its numbers with 0 behind them (crates/run/specs/Groups.antt).
+pub fn command([op, a, b, c]: Call) -> Call {
+    match op {
+        FORMAT => [1, a, b, 0],
+        1 => [2, a, b, c],
+        2 => [3, a, b, 0],
+        3 => [4, a, 0, 0],
+        4 => [5, b, 0, 0],
+        5 => [11, b, c, 0],
+        6 => [12, 0, 0, 0],
+        7 => [13, 0, 0, 0],
+        _ => [6, 0, 0, 0],
+    }
+}
+
+/// An answer of a run by its number in the order of `Answer`: in a run's list `yet` stands behind the others.
+pub fn called(mut answer: Answer) -> Answer {
+    answer[0] = match answer[0] {
+        10 => 6,
+        n if n > 5 => n + 1,
+        n => n,
+    };
+    answer
+}
+
 #[rustfmt::skip]
 extern "C" {
     fn harness_call(state: &mut State, heads: &mut Heads, values: *mut u64, v: usize, deadlines: *mut u64, d: usize, nexts: *mut u16, x: usize,
         prevs: *mut u16, p: usize, turns: *mut u64, t: usize, marks: *mut u16, m: usize, op: u64, a: u64, b: u64, c: u64, answer: &mut Answer);
-    fn harness_answers(state: &mut State, heads: &mut Heads, values: *mut u64, v: usize, deadlines: *mut u64, d: usize, nexts: *mut u16, x: usize,
-        prevs: *mut u16, p: usize, turns: *mut u64, t: usize, marks: *mut u16, m: usize, script: *const u64, words: usize,
-        answers: *mut u64, room: usize) -> bool;
+    fn harness_run(state: &mut State, heads: &mut Heads, values: *mut u64, v: usize, deadlines: *mut u64, d: usize, nexts: *mut u16, x: usize,
+        prevs: *mut u16, p: usize, turns: *mut u64, t: usize, marks: *mut u16, m: usize, commands: *const u64, words: usize,
+        answers: *mut u64, room: usize, told: &mut [u64; 2]);
     fn harness_judge(state: &State, heads: &Heads, values: *const u64, v: usize, deadlines: *const u64, d: usize, nexts: *const u16, x: usize,
         prevs: *const u16, p: usize, turns: *const u64, t: usize, marks: *const u16, m: usize) -> bool;
     fn harness_inner(state: &mut State, heads: &mut Heads, values: *mut u64, v: usize, deadlines: *mut u64, d: usize, nexts: *mut u16, x: usize,
@@ -85,6 +115,24 @@ impl Store {
         }
     }
 
+    /// Whether every word is the same.
+    pub fn same_words(&self, other: &Store) -> bool {
+        (self.state, self.heads) == (other.state, other.heads)
+            && (&self.values, &self.deadlines, &self.turns) == (&other.values, &other.deadlines, &other.turns)
+            && (&self.nexts, &self.prevs, &self.marks) == (&other.nexts, &other.prevs, &other.marks)
+    }
+
+    /// The words of another store of the same size.
+    pub fn clone_from_words(&mut self, other: &Store) {
+        (self.state, self.heads) = (other.state, other.heads);
+        self.values.clone_from(&other.values);
+        self.deadlines.clone_from(&other.deadlines);
+        self.nexts.clone_from(&other.nexts);
+        self.prevs.clone_from(&other.prevs);
+        self.turns.clone_from(&other.turns);
+        self.marks.clone_from(&other.marks);
+    }
+
     pub fn judge(&mut self) -> bool {
         lend!(harness_judge, self)
     }
@@ -96,11 +144,14 @@ impl Store {
         answer
     }
 
-    /// Calls that judge nothing, with their answers. Says whether the store was sound before the first.
-    pub fn answers(&mut self, calls: &[Call], answers: &mut [Answer]) -> bool {
-        let (script, words) = (calls.as_ptr().cast(), 4 * calls.len());
-        let (to, room) = (answers.as_mut_ptr().cast(), 6 * answers.len());
-        lend!(harness_answers, self, script, words, to, room)
+    /// A run of commands, which judges once: how many were answered, and why no more were. A command is four words, an answer six
+    /// (crates/run/specs/Groups.antt).
+    pub fn run(&mut self, commands: &[u64], answers: &mut [u64]) -> (usize, u64) {
+        let (from, words) = (commands.as_ptr(), commands.len());
+        let (to, room) = (answers.as_mut_ptr(), answers.len());
+        let mut told = [u64::MAX; 2];
+        lend!(harness_run, self, from, words, to, room, &mut told);
+        (told[0] as usize, told[1])
     }
 
     /// The whole script by the calls that judge nothing.

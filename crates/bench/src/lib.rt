@@ -6,9 +6,11 @@ use asking::read_line;
 use delay_queue::Heads;
 use wheel::Wheel;
 ghost use Rattle.contracts.specs.Lent.{old, new};
+ghost use Rattle.contracts.specs.Tells.{Tells};
 ghost use Rattle.records.specs.Store.{before, after};
+ghost use Rattle.records.specs.Words.{lent, before as given, after as left, holding, Sound};
 ghost use Rattle.bench.specs.Line.{LineClaim};
-ghost use Rattle.bench.specs.Parts.{Heard};
+ghost use Rattle.bench.specs.Parts.{Heard, LineKnown};
 
 // Where the answer ends in what is written, and the state and the heads after it.
 pub struct Answered {
@@ -91,6 +93,92 @@ pub fn answer_line(
                 at: end,
                 state,
                 heads: rows,
+            }
+        }
+    }
+}
+
+// Where the answer ends in what is written, elapsed and the poll in hand after it, and whether the store is sound then.
+pub struct Found {
+    pub at: usize,
+    pub elapsed: u64,
+    pub hand: u16,
+    pub until: u64,
+    pub sound: bool,
+}
+
+// The same on a store of which it is known whether it is sound, which is not judged again.
+pub fn answer_known(
+    limits: bool,
+    line: &[u8],
+    sound: bool,
+    elapsed: u64,
+    rows: &mut [u64; 6],
+    tops: &mut [u16; 4],
+    heads: &mut [[u16; 64]; 6],
+    values: &mut [u64],
+    deadlines: &mut [u64],
+    nexts: &mut [u16],
+    prevs: &mut [u16],
+    turns: &mut [u64],
+    marks: &mut [u16],
+    hand: u16,
+    until: u64,
+    out: &mut [u8],
+    at: usize,
+) -> Found
+    requires { ⌜
+        Tells (Sound (holding hand until
+        (lent elapsed rows tops heads values deadlines nexts prevs turns marks))) sound ⌝ }
+    ensures { λ r. ⌜
+        LineKnown
+        limits
+        (old line)
+        (holding hand until (given elapsed rows tops heads values deadlines nexts prevs turns marks))
+        (old out)
+        at
+        (holding (r .hand) (r .until) (left (r .elapsed) rows tops heads values deadlines nexts prevs turns marks))
+        (new out)
+        (r .at)
+        (r .sound) ⌝ }
+{
+    let asked = hear(limits, line);
+    match asked {
+        Line::Asks(call) => {
+            let said = run::known(
+                sound,
+                elapsed,
+                rows,
+                tops,
+                heads,
+                values,
+                deadlines,
+                nexts,
+                prevs,
+                turns,
+                marks,
+                hand,
+                until,
+                call,
+            );
+            let answer = said.answer;
+            let end = write_answer(out, at, answer);
+            Found {
+                at: end,
+                elapsed: said.elapsed,
+                hand: said.hand,
+                until: said.until,
+                sound: said.sound,
+            }
+        }
+        Line::Bad => {
+            let end = write_bad(out, at);
+            Found {
+                at: end,
+                elapsed,
+                hand,
+                until,
+                sound,
             }
         }
     }

@@ -1,12 +1,15 @@
 // The bench over what was read: the lines of a chunk are answered one after the other, as far as the output has room.
 use bench::Answered;
 use delay_queue::Heads;
+use stack::Stacks;
 use wheel::Wheel;
 ghost use Prim.Native.Nat.{_+_, _≤_, _<_};
 ghost use Rattle.contracts.specs.Lent.{old, new};
 ghost use Rattle.contracts.specs.Tells.{Tells};
 ghost use Rattle.records.specs.Store.{before, after};
-ghost use Rattle.feed.specs.Feed.{answerRoom, stand, Turn, FeedClaim, LastClaim};
+ghost use Rattle.records.specs.Words.{lent, before as given, after as left, holding, Sound};
+ghost use Rattle.feed.specs.Feed.{answerRoom, stand, FeedClaim, LastClaim};
+ghost use Rattle.feed.specs.Parts.{TurnKnown};
 
 // No answer has more bytes, so that one has room in these.
 pub const ANSWER_ROOM: usize = 114;
@@ -34,78 +37,195 @@ fn goes(next: usize, len: usize, at: usize, size: usize) -> bool
     ANSWER_ROOM <= size - at
 }
 
-// Takes one line out of the chunk and answers it, or keeps it where it does not end in the chunk.
+// Where to go on in the chunk, how many bytes of an unfinished line are kept, where the answers end, elapsed and the poll in
+// hand after them, and whether the store is sound then.
+struct Turned {
+    next: usize,
+    kept: usize,
+    at: usize,
+    elapsed: u64,
+    hand: u16,
+    until: u64,
+    sound: bool,
+}
+
+// Takes one line out of the chunk and answers it, or keeps it where it does not end in the chunk. The store is not judged.
 fn turn(
     limits: bool,
     got: &[u8],
     from: usize,
     line: &mut [u8],
     n: usize,
-    state: Wheel,
-    heads: Heads,
+    sound: bool,
+    elapsed: u64,
+    rows: &mut [u64; 6],
+    tops: &mut [u16; 4],
+    heads: &mut [[u16; 64]; 6],
     values: &mut [u64],
     deadlines: &mut [u64],
     nexts: &mut [u16],
     prevs: &mut [u16],
     turns: &mut [u64],
     marks: &mut [u16],
+    hand: u16,
+    until: u64,
     out: &mut [u8],
     at: usize,
-) -> Fed
+) -> Turned
+    requires { ⌜
+        Tells (Sound (holding hand until
+        (lent elapsed rows tops heads values deadlines nexts prevs turns marks))) sound ⌝ }
     ensures { λ r. ⌜
-        Turn
+        TurnKnown
         limits
         (old got)
-        (stand from (old line) n (before state (heads .rows) values deadlines nexts prevs turns marks) (old out) at)
+        (stand from (old line) n (holding hand until
+        (given elapsed rows tops heads values deadlines nexts prevs turns marks))
+        (old out) at)
         (stand
         (r .next)
         (new line)
         (r .kept)
-        (after (r .state) (r .heads .rows) values deadlines nexts prevs turns marks)
+        (holding (r .hand) (r .until) (left (r .elapsed) rows tops heads values deadlines nexts prevs turns marks))
         (new out)
-        (r .at)) ⌝ }
+        (r .at))
+        (r .sound) ⌝ }
 {
     let t = lines::take_line(got, from, line, n);
     let next = t.next;
     let k = t.kept;
     if t.ended {
-        let rows = delay_queue::rows_of(heads);
-        let done = bench::answer_line(
+        let done = bench::answer_known(
             limits,
             &line[..k],
-            state,
+            sound,
+            elapsed,
             rows,
+            tops,
+            heads,
             values,
             deadlines,
             nexts,
             prevs,
             turns,
             marks,
+            hand,
+            until,
             out,
             at,
         );
-        let end = done.at;
-        let after = done.state;
-        let left = done.heads;
-        return Fed {
+        return Turned {
             next,
             kept: 0,
-            at: end,
-            state: after,
-            heads: left,
+            at: done.at,
+            elapsed: done.elapsed,
+            hand: done.hand,
+            until: done.until,
+            sound: done.sound,
         };
     }
-    Fed {
+    Turned {
         next,
         kept: k,
         at,
-        state,
-        heads,
+        elapsed,
+        hand,
+        until,
+        sound,
     }
 }
 
 // Answers the lines of the chunk from `from` on, of whose first line n bytes are kept already, into out from its front
-// on: until the chunk is used up or out has no room left for an answer.
+// on: until the chunk is used up or out has no room left for an answer. The store is not judged.
+fn answer_parts(
+    limits: bool,
+    got: &[u8],
+    from: usize,
+    line: &mut [u8],
+    n: usize,
+    sound: bool,
+    elapsed: u64,
+    rows: &mut [u64; 6],
+    tops: &mut [u16; 4],
+    heads: &mut [[u16; 64]; 6],
+    values: &mut [u64],
+    deadlines: &mut [u64],
+    nexts: &mut [u16],
+    prevs: &mut [u16],
+    turns: &mut [u64],
+    marks: &mut [u16],
+    hand: u16,
+    until: u64,
+    out: &mut [u8],
+) -> Turned
+    requires { ⌜
+        Tells (Sound (holding hand until
+        (lent elapsed rows tops heads values deadlines nexts prevs turns marks))) sound ⌝ }
+    ensures { λ r. ⌜
+        FeedClaim
+        limits
+        (old got)
+        (stand from (old line) n (holding hand until
+        (given elapsed rows tops heads values deadlines nexts prevs turns marks))
+        (old out) 0)
+        (stand
+        (r .next)
+        (new line)
+        (r .kept)
+        (holding (r .hand) (r .until) (left (r .elapsed) rows tops heads values deadlines nexts prevs turns marks))
+        (new out)
+        (r .at)) ⌝ }
+{
+    let mut i = from;
+    let mut k = n;
+    let mut end: usize = 0;
+    let mut e = elapsed;
+    let mut h = hand;
+    let mut u = until;
+    let mut fine = sound;
+    while goes(i, got.len(), end, out.len()) {
+        let r = turn(
+            limits,
+            got,
+            i,
+            line,
+            k,
+            fine,
+            e,
+            rows,
+            tops,
+            heads,
+            values,
+            deadlines,
+            nexts,
+            prevs,
+            turns,
+            marks,
+            h,
+            u,
+            out,
+            end,
+        );
+        i = r.next;
+        k = r.kept;
+        end = r.at;
+        e = r.elapsed;
+        h = r.hand;
+        u = r.until;
+        fine = r.sound;
+    }
+    Turned {
+        next: i,
+        kept: k,
+        at: end,
+        elapsed: e,
+        hand: h,
+        until: u,
+        sound: fine,
+    }
+}
+
+// The same for a caller: the store is judged once, and then worked on without judging again.
 pub fn answer_lines(
     limits: bool,
     got: &[u8],
@@ -135,41 +255,52 @@ pub fn answer_lines(
         (new out)
         (r .at)) ⌝ }
 {
-    let mut i = from;
-    let mut k = n;
-    let mut end: usize = 0;
-    let mut after = state;
-    let mut left = heads;
-    while goes(i, got.len(), end, out.len()) {
-        let r = turn(
-            limits,
-            got,
-            i,
-            line,
-            k,
-            after,
-            left,
-            values,
-            deadlines,
-            nexts,
-            prevs,
-            turns,
-            marks,
-            out,
-            end,
-        );
-        i = r.next;
-        k = r.kept;
-        end = r.at;
-        after = r.state;
-        left = r.heads;
-    }
+    let mut slots = delay_queue::rows_of(heads);
+    let sound = judge::is_sound(state, slots, values, deadlines, nexts, prevs, turns, marks);
+    let mut rows = state.occupied;
+    let stacks = state.stacks;
+    let mut tops = [stacks.n, stacks.expired, stacks.free, stacks.parking];
+    let r = answer_parts(
+        limits,
+        got,
+        from,
+        line,
+        n,
+        sound,
+        state.elapsed,
+        &mut rows,
+        &mut tops,
+        &mut slots,
+        values,
+        deadlines,
+        nexts,
+        prevs,
+        turns,
+        marks,
+        state.hand,
+        state.until,
+        out,
+    );
+    let ends = Stacks {
+        n: tops[0],
+        expired: tops[1],
+        free: tops[2],
+        parking: tops[3],
+    };
+    let after = Wheel {
+        elapsed: r.elapsed,
+        occupied: rows,
+        stacks: ends,
+        hand: r.hand,
+        until: r.until,
+    };
+    let h = delay_queue::heads_of(slots);
     Fed {
-        next: i,
-        kept: k,
-        at: end,
+        next: r.next,
+        kept: r.kept,
+        at: r.at,
         state: after,
-        heads: left,
+        heads: h,
     }
 }
 

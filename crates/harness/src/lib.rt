@@ -1,17 +1,14 @@
-// What the benchmark (speed/) and the comparison at scale (oracle/scale) call: the queue with and without the judge, the judge alone, the
-// gauge, and recovery.
+// What the benchmark (speed/) and the comparison at scale (oracle/scale) call: the queue with and without the judge, runs, the judge
+// alone, the gauge, and recovery.
 use delay_queue::Call;
 use entries::Ending;
 use gauge::Light;
 use gauge::Reading;
 use queue::Answer;
-use queue::Out;
+use run::Why;
 use stack::Stacks;
 use wheel::Wheel;
-ghost use Prim.Native.Nat.{_+_, _≤_};
-ghost use lib.ListN.{length};
-ghost use Rattle.records.specs.Words.{lent, after, holding, Sound};
-ghost use Rattle.wheel.specs.Expiration.{CanLook};
+ghost use Rattle.records.specs.Words.{lent, after, Sound};
 
 // Calls by number, in the order of `Call`. A call is four words: its number, then a value, a key or N, then a deadline, a time or a first
 // turn, then a period or a limit on moves. A command of the benchmark is two: its number in the top four bits and the key below, then the
@@ -36,13 +33,6 @@ const CLEAR: u64 = 8;
 pub struct Ran {
     pub elapsed: u64,
     pub sum: u64,
-}
-
-// Elapsed after some calls, and the slot and the time of the poll in hand.
-struct Left {
-    elapsed: u64,
-    hand: u16,
-    until: u64,
 }
 
 fn mix(sum: u64, x: u64) -> u64 {
@@ -236,194 +226,6 @@ fn script_on(
     Ran { elapsed: e, sum }
 }
 
-// A call that is refused with 12 while a poll is in hand, on a sound store with none, which stays so. All numbers but three ask for the
-// next wake, format's too: nothing formats here.
-fn freely(
-    elapsed: u64,
-    rows: &mut [u64; 6],
-    tops: &mut [u16; 4],
-    heads: &mut [[u16; 64]; 6],
-    values: &mut [u64],
-    deadlines: &mut [u64],
-    nexts: &mut [u16],
-    prevs: &mut [u16],
-    turns: &mut [u64],
-    marks: &mut [u16],
-    op: u64,
-    a: u64,
-    b: u64,
-    c: u64,
-) -> Answer
-    requires { ⌜ Sound (lent elapsed rows tops heads values deadlines nexts prevs turns marks) ⌝ }
-    ensures { λ _. ⌜ Sound (after elapsed rows tops heads values deadlines nexts prevs turns marks) ⌝ }
-{
-    if op == INSERT {
-        return queue::insert(
-            elapsed,
-            rows,
-            tops,
-            heads,
-            values,
-            deadlines,
-            nexts,
-            prevs,
-            turns,
-            marks,
-            a,
-            b,
-            c,
-        );
-    }
-    if op == RESET {
-        return queue::reset(
-            elapsed,
-            rows,
-            tops,
-            heads,
-            values,
-            deadlines,
-            nexts,
-            prevs,
-            turns,
-            marks,
-            a,
-            b,
-        );
-    }
-    if op == REMOVE {
-        return queue::remove(
-            elapsed,
-            rows,
-            tops,
-            heads,
-            values,
-            deadlines,
-            nexts,
-            prevs,
-            turns,
-            marks,
-            a,
-        );
-    }
-    queue::next_wake(elapsed, rows, deadlines, tops[1], tops[3])
-}
-
-fn is_poll(op: u64) -> bool {
-    op == POLL || op == POLL_SOME
-}
-
-// A poll with no limit has one past all heights.
-fn limit_of(op: u64, c: u64) -> u64 {
-    if op == POLL_SOME {
-        return c;
-    }
-    u64::MAX
-}
-
-// One call on a sound store, which stays sound. The benchmark has `turn` of its own: there no answer is handed on, which would be measured
-// too.
-fn called(
-    elapsed: u64,
-    rows: &mut [u64; 6],
-    tops: &mut [u16; 4],
-    heads: &mut [[u16; 64]; 6],
-    values: &mut [u64],
-    deadlines: &mut [u64],
-    nexts: &mut [u16],
-    prevs: &mut [u16],
-    turns: &mut [u64],
-    marks: &mut [u16],
-    hand: u16,
-    until: u64,
-    op: u64,
-    a: u64,
-    b: u64,
-    c: u64,
-) -> Out
-    requires { ⌜ Sound (holding hand until (lent elapsed rows tops heads values deadlines nexts prevs turns marks)) ⌝ }
-    ensures { λ r. ⌜
-        Sound (holding (r .hand) (r .until)
-        (after (r .elapsed) rows tops heads values deadlines nexts prevs turns marks)) ⌝ }
-{
-    if is_poll(op) {
-        return queue::poll(
-            elapsed,
-            rows,
-            tops,
-            heads,
-            values,
-            deadlines,
-            nexts,
-            prevs,
-            turns,
-            marks,
-            hand,
-            until,
-            b,
-            limit_of(op, c),
-        );
-    }
-    if op == CLEAR {
-        let answer = queue::clear(
-            elapsed,
-            rows,
-            tops,
-            heads,
-            values,
-            deadlines,
-            nexts,
-            prevs,
-            turns,
-            marks,
-        );
-        return Out {
-            answer,
-            elapsed: 0,
-            hand: links::NOBODY,
-            until: 0,
-        };
-    }
-    if op == LENGTH {
-        let n = queue::length(tops[0], marks);
-        return Out {
-            answer: Answer::Length(n),
-            elapsed,
-            hand,
-            until,
-        };
-    }
-    if hand != links::NOBODY {
-        return Out {
-            answer: Answer::No(12),
-            elapsed,
-            hand,
-            until,
-        };
-    }
-    let answer = freely(
-        elapsed,
-        rows,
-        tops,
-        heads,
-        values,
-        deadlines,
-        nexts,
-        prevs,
-        turns,
-        marks,
-        op,
-        a,
-        b,
-        c,
-    );
-    Out {
-        answer,
-        elapsed,
-        hand: links::NOBODY,
-        until: 0,
-    }
-}
-
 // An answer's number, in the order of `Answer`, and its parts.
 fn words_of(answer: Answer) -> [u64; 6] {
     match answer {
@@ -452,89 +254,6 @@ fn words_of(answer: Answer) -> [u64; 6] {
         Answer::NoWake => [8, 0, 0, 0, 0, 0],
         Answer::Length(n) => [9, n, 0, 0, 0, 0],
         Answer::No(number) => [10, number, 0, 0, 0, 0],
-    }
-}
-
-fn write_words(to: &mut [u64], at: usize, words: [u64; 6])
-    requires { ⌜ at + 6 ≤ length (now to) ⌝ }
-{
-    to[at] = words[0];
-    to[at + 1] = words[1];
-    to[at + 2] = words[2];
-    to[at + 3] = words[3];
-    to[at + 4] = words[4];
-    to[at + 5] = words[5];
-}
-
-fn least(x: usize, y: usize) -> usize
-    ensures { λ r. ⌜ (r ≤ x) × (r ≤ y) ⌝ }
-{
-    if x < y {
-        return x;
-    }
-    y
-}
-
-// As many calls of four words on a sound store as have room for their answers, six words each. Elapsed
-// after them, and the poll in hand.
-fn answers_on(
-    elapsed: u64,
-    rows: &mut [u64; 6],
-    tops: &mut [u16; 4],
-    heads: &mut [[u16; 64]; 6],
-    values: &mut [u64],
-    deadlines: &mut [u64],
-    nexts: &mut [u16],
-    prevs: &mut [u16],
-    turns: &mut [u64],
-    marks: &mut [u16],
-    hand: u16,
-    until: u64,
-    script: &[u64],
-    answers: &mut [u64],
-) -> Left
-    requires { ⌜ Sound (holding hand until (lent elapsed rows tops heads values deadlines nexts prevs turns marks)) ⌝ }
-{
-    let mut e = elapsed;
-    let mut place = hand;
-    let mut time = until;
-    let commands = least(script.len() / 4, answers.len() / 6);
-    let mut i: usize = 0;
-    while i < commands {
-        let op = script[4 * i];
-        let a = script[4 * i + 1];
-        let b = script[4 * i + 2];
-        let c = script[4 * i + 3];
-        let at = 6 * i;
-        i += 1;
-        let out = called(
-            e,
-            rows,
-            tops,
-            heads,
-            values,
-            deadlines,
-            nexts,
-            prevs,
-            turns,
-            marks,
-            place,
-            time,
-            op,
-            a,
-            b,
-            c,
-        );
-        let answer = out.answer;
-        e = out.elapsed;
-        place = out.hand;
-        time = out.until;
-        write_words(answers, at, words_of(answer));
-    }
-    Left {
-        elapsed: e,
-        hand: place,
-        until: time,
     }
 }
 
@@ -669,60 +388,6 @@ pub extern "C" fn harness_inner(
     end.sum
 }
 
-// Calls that judge nothing, with their answers. The store is judged once, before the first: whether it is sound.
-#[no_mangle]
-pub extern "C" fn harness_answers(
-    state: &mut [u64; 13],
-    heads: &mut [[u16; 64]; 6],
-    values: &mut [u64],
-    deadlines: &mut [u64],
-    nexts: &mut [u16],
-    prevs: &mut [u16],
-    turns: &mut [u64],
-    marks: &mut [u16],
-    script: &[u64],
-    answers: &mut [u64],
-) -> bool {
-    let before = state_of(state);
-    if !judge::is_sound(
-        before,
-        *heads,
-        values,
-        deadlines,
-        nexts,
-        prevs,
-        turns,
-        marks,
-    ) {
-        return false;
-    }
-    let elapsed = before.elapsed;
-    let mut rows = before.occupied;
-    let stacks = before.stacks;
-    let mut tops = [stacks.n, stacks.expired, stacks.free, stacks.parking];
-    let left = answers_on(
-        elapsed,
-        &mut rows,
-        &mut tops,
-        heads,
-        values,
-        deadlines,
-        nexts,
-        prevs,
-        turns,
-        marks,
-        before.hand,
-        before.until,
-        script,
-        answers,
-    );
-    keep_state(
-        state,
-        wheel_of(left.elapsed, rows, tops, left.hand, left.until),
-    );
-    true
-}
-
 fn call_of(op: u64, a: u64, b: u64, c: u64) -> Call {
     if op == FORMAT {
         return Call::Format(a, b);
@@ -787,6 +452,53 @@ pub extern "C" fn harness_call(
     keep_state(state, after);
     *heads = delay_queue::rows_of(h);
     *answer = words_of(said);
+}
+
+// A run of commands, which judges the store once: how many were answered, and why no more were.
+#[no_mangle]
+pub extern "C" fn harness_run(
+    state: &mut [u64; 13],
+    heads: &mut [[u16; 64]; 6],
+    values: &mut [u64],
+    deadlines: &mut [u64],
+    nexts: &mut [u16],
+    prevs: &mut [u16],
+    turns: &mut [u64],
+    marks: &mut [u16],
+    commands: &[u64],
+    answers: &mut [u64],
+    told: &mut [u64; 2],
+) {
+    let before = state_of(state);
+    let ran = run::run(
+        before,
+        *heads,
+        values,
+        deadlines,
+        nexts,
+        prevs,
+        turns,
+        marks,
+        commands,
+        answers,
+    );
+    let done = ran.done;
+    let after = ran.state;
+    let h = ran.heads;
+    let why = ran.why;
+    keep_state(state, after);
+    *heads = delay_queue::rows_of(h);
+    let number = why_number(why);
+    *told = [done as u64, number];
+}
+
+// Why a run stopped, by its number in the order of `Why`.
+fn why_number(why: Why) -> u64 {
+    match why {
+        Why::NoWords => 0,
+        Why::NoCommand => 1,
+        Why::NoRoom => 2,
+    }
 }
 
 // The command's key, or the value that its place in the script gives.

@@ -2,4 +2,5 @@
 pub mod Replay
 pub mod Scan
 pub mod Apply
+pub mod Parts
 pub mod Cut

@@ -5,16 +5,20 @@ use delay_queue::Heads;
 use entries::Ending;
 use entries::Next;
 use entries::Step;
+use stack::Stacks;
 use wheel::Wheel;
 ghost use mathlib.Core.Path.{_≡_};
 ghost use mathlib.Core.Bool.{cond};
 ghost use Prim.Native.Nat.{_+_, _^_, _≤_, _<_};
 ghost use Rattle.contracts.specs.Lent.{old};
+ghost use Rattle.contracts.specs.Tells.{Tells};
 ghost use Rattle.records.specs.Slices.{Fits, before as slices};
 ghost use Rattle.records.specs.Store.{before, after};
+ghost use Rattle.records.specs.Words.{lent, before as given, after as left, holding, Sound};
 ghost use Rattle.recover.specs.Replay.{noHeads, noStore, found, size, ReplayClaim};
 ghost use Rattle.recover.specs.Scan.{Short, NumberOf, liveAfter, openAfter, callsOf, atStart, isCut, ScanClaim};
-ghost use Rattle.recover.specs.Apply.{Makes, Applies};
+ghost use Rattle.recover.specs.Apply.{Applies};
+ghost use Rattle.recover.specs.Parts.{MakesKnown};
 
 // The length kept, where reading stopped and why, and the state and the heads of the store.
 pub struct Recovered {
@@ -44,10 +48,20 @@ pub struct Applied {
     pub heads: Heads,
 }
 
-// The state and the heads of a store.
+// Elapsed and the poll in hand of a store, and whether it is sound.
 struct Held {
-    state: Wheel,
-    heads: Heads,
+    elapsed: u64,
+    hand: u16,
+    until: u64,
+    sound: bool,
+}
+
+// How many bytes were used, and elapsed and the poll in hand of the store behind them.
+struct Went {
+    used: usize,
+    elapsed: u64,
+    hand: u16,
+    until: u64,
 }
 
 // How many bytes a call has.
@@ -324,49 +338,144 @@ pub fn scan(
     }
 }
 
-// One step, asked of a store; opens and closes leave it.
+// One step, asked of a store of which it is known whether it is sound, as a run of one command; opens and closes leave it.
 fn one(
     step: Step,
-    state: Wheel,
-    heads: Heads,
+    sound: bool,
+    elapsed: u64,
+    rows: &mut [u64; 6],
+    tops: &mut [u16; 4],
+    heads: &mut [[u16; 64]; 6],
     values: &mut [u64],
     deadlines: &mut [u64],
     nexts: &mut [u16],
     prevs: &mut [u16],
     turns: &mut [u64],
     marks: &mut [u16],
+    hand: u16,
+    until: u64,
 ) -> Held
+    requires { ⌜
+        Tells (Sound (holding hand until
+        (lent elapsed rows tops heads values deadlines nexts prevs turns marks))) sound ⌝ }
     ensures { λ r. ⌜
-        Makes step (before state (heads .rows) values deadlines nexts prevs turns marks)
-        (after (r .state) (r .heads .rows) values deadlines nexts prevs turns marks) ⌝ }
+        MakesKnown step (holding hand until (given elapsed rows tops heads values deadlines nexts prevs turns marks))
+        (holding (r .hand) (r .until)
+        (left (r .elapsed) rows tops heads values deadlines nexts prevs turns marks)) (r .sound) ⌝ }
 {
     match step {
         Step::Asks(call) => {
-            let rows = delay_queue::rows_of(heads);
-            let r = any_call::ask(
-                state,
+            let command = run::command_of(call);
+            let mut answer = [0u64; 6];
+            let said = run::answer_all(
+                sound,
+                elapsed,
                 rows,
+                tops,
+                heads,
                 values,
                 deadlines,
                 nexts,
                 prevs,
                 turns,
                 marks,
-                call,
+                hand,
+                until,
+                &command,
+                &mut answer,
             );
-            let after = r.state;
-            let left = r.heads;
             Held {
-                state: after,
-                heads: left,
+                elapsed: said.elapsed,
+                hand: said.hand,
+                until: said.until,
+                sound: said.sound,
             }
         }
-        Step::Open => Held { state, heads },
-        Step::Close => Held { state, heads },
+        Step::Open => Held {
+            elapsed,
+            hand,
+            until,
+            sound,
+        },
+        Step::Close => Held {
+            elapsed,
+            hand,
+            until,
+            sound,
+        },
+    }
+}
+
+// The steps that the bytes begin with, one after the other, as many as are whole. The store is not judged.
+fn apply_parts(
+    bytes: &[u8],
+    sound: bool,
+    elapsed: u64,
+    rows: &mut [u64; 6],
+    tops: &mut [u16; 4],
+    heads: &mut [[u16; 64]; 6],
+    values: &mut [u64],
+    deadlines: &mut [u64],
+    nexts: &mut [u16],
+    prevs: &mut [u16],
+    turns: &mut [u64],
+    marks: &mut [u16],
+    hand: u16,
+    until: u64,
+) -> Went
+    requires { ⌜
+        Tells (Sound (holding hand until
+        (lent elapsed rows tops heads values deadlines nexts prevs turns marks))) sound ⌝ }
+    ensures { λ r. ⌜
+        Applies (old bytes) (holding hand until
+        (given elapsed rows tops heads values deadlines nexts prevs turns marks)) (r .used)
+        (holding (r .hand) (r .until) (left (r .elapsed) rows tops heads values deadlines nexts prevs turns marks)) ⌝ }
+{
+    let mut used: usize = 0;
+    let mut e = elapsed;
+    let mut h = hand;
+    let mut u = until;
+    let mut fine = sound;
+    loop {
+        let n = entries::read_step(bytes, used);
+        match n {
+            Next::Ends(_e) => {
+                return Went {
+                    used,
+                    elapsed: e,
+                    hand: h,
+                    until: u,
+                };
+            }
+            Next::One(step) => {
+                let r = one(
+                    step,
+                    fine,
+                    e,
+                    rows,
+                    tops,
+                    heads,
+                    values,
+                    deadlines,
+                    nexts,
+                    prevs,
+                    turns,
+                    marks,
+                    h,
+                    u,
+                );
+                e = r.elapsed;
+                h = r.hand;
+                u = r.until;
+                fine = r.sound;
+                used += size_of(step);
+            }
+        }
     }
 }
 
 // Asks the steps that the bytes begin with of a store, one after the other, as many as are whole; opens and closes leave it.
+// The store is judged once.
 pub fn apply(
     bytes: &[u8],
     state: Wheel,
@@ -382,36 +491,45 @@ pub fn apply(
         Applies (old bytes) (before state (heads .rows) values deadlines nexts prevs turns marks) (r .used)
         (after (r .state) (r .heads .rows) values deadlines nexts prevs turns marks) ⌝ }
 {
-    let mut used: usize = 0;
-    let mut now = state;
-    let mut left = heads;
-    loop {
-        let n = entries::read_step(bytes, used);
-        match n {
-            Next::Ends(_e) => {
-                return Applied {
-                    used,
-                    state: now,
-                    heads: left,
-                };
-            }
-            Next::One(step) => {
-                let r = one(
-                    step,
-                    now,
-                    left,
-                    values,
-                    deadlines,
-                    nexts,
-                    prevs,
-                    turns,
-                    marks,
-                );
-                now = r.state;
-                left = r.heads;
-                used += size_of(step);
-            }
-        }
+    let mut slots = delay_queue::rows_of(heads);
+    let sound = judge::is_sound(state, slots, values, deadlines, nexts, prevs, turns, marks);
+    let mut rows = state.occupied;
+    let stacks = state.stacks;
+    let mut tops = [stacks.n, stacks.expired, stacks.free, stacks.parking];
+    let r = apply_parts(
+        bytes,
+        sound,
+        state.elapsed,
+        &mut rows,
+        &mut tops,
+        &mut slots,
+        values,
+        deadlines,
+        nexts,
+        prevs,
+        turns,
+        marks,
+        state.hand,
+        state.until,
+    );
+    let ends = Stacks {
+        n: tops[0],
+        expired: tops[1],
+        free: tops[2],
+        parking: tops[3],
+    };
+    let behind = Wheel {
+        elapsed: r.elapsed,
+        occupied: rows,
+        stacks: ends,
+        hand: r.hand,
+        until: r.until,
+    };
+    let h = delay_queue::heads_of(slots);
+    Applied {
+        used: r.used,
+        state: behind,
+        heads: h,
     }
 }
 

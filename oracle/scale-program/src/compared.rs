@@ -11,7 +11,7 @@ use oracle::rules::{unpack, BENCH_ROOM, PARKING};
 use std::mem;
 use std::thread;
 
-/// So many calls go to ours at once where they judge nothing; and so many on stores that are larger than the bench's.
+/// So many commands go to ours in one run; and so many on stores that are larger than the bench's.
 const AT_ONCE: usize = 64;
 const AT_ONCE_LARGE: usize = 4096;
 
@@ -21,7 +21,7 @@ pub enum How {
     Judged,
     /// The same, and every check of the oracle's own is made.
     Checked,
-    /// Calls that judge nothing, lists compared after every [`AT_ONCE`] of them. Format is a call that users make.
+    /// Runs of [`AT_ONCE`] commands, each judged once; lists compared after each.
     Inner,
 }
 
@@ -129,11 +129,11 @@ impl Compared {
             return;
         }
         let got = &mut vec![[u64::MAX; 6]; self.waiting.len()][..];
-        if self.how == How::Inner
-            && self.waiting[0][0] != ours::FORMAT
-            && self.bench.store().is_some()
-        {
-            self.ours.answers(&self.waiting, got);
+        if self.how == How::Inner {
+            let commands: Vec<ours::Call> = self.waiting.iter().map(|&call| ours::command(call)).collect();
+            let ended = self.ours.run(commands.as_flattened(), got.as_flattened_mut());
+            assert_eq!(ended, (commands.len(), ours::NO_WORDS), "all are answered");
+            got.iter_mut().for_each(|answer| *answer = ours::called(*answer));
         } else {
             for (call, got) in self.waiting.iter().zip(&mut *got) {
                 *got = self.ours.call(*call);

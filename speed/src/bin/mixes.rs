@@ -1,21 +1,22 @@
-//! Writes the three mixes for each size of store: mixes FOLDER. The records that keys name are those of the original, run beside.
+//! Writes the mixes for each size of store: mixes FOLDER. The records that keys name are those of the original, run beside.
 #[allow(dead_code)] // the oracle draws in more ways
 #[path = "../../../oracle/src/rng.rs"]
 mod rng;
 
 use rng::Rng;
 use speed::original::Queue;
-use speed::script::{Command, Mix, COMMANDS, INSERT, MIXES, POLL, REMOVE, RESET, SIZES, WAKE};
+use speed::script::{Command, Mix, CLEAR, COMMANDS, EVERY_MIX, FORMAT, INSERT, LENGTH, MIXES, POLL, POLL_SOME, REMOVE, RESET, SIZES, WAKE};
 
 const DAY: u64 = 86_400_000;
 
 fn main() {
     let folder = std::env::args().nth(1).expect("a folder");
     for records in SIZES {
-        for name in MIXES {
+        for name in MIXES.into_iter().chain([EVERY_MIX]) {
             let (make, seed): (fn(&mut Maker), u64) = match name {
                 "reset" => (resets, 12),
                 "rush" => (rushes, 11),
+                EVERY_MIX => (every, 14),
                 _ => (steadies, 13),
             };
             let mut maker = Maker::new(records, seed);
@@ -94,6 +95,37 @@ fn steadies(m: &mut Maker) {
     }
 }
 
+/// Nearly all records pending, half of the deadlines within a minute; of 100 commands 30 polls with the clock up to 20 ms on, every fifth of
+/// them with a limit, 30 resets, 30 inserts or removes, 5 next wakes, 5 lengths. After every 100,000 a clear, a format and all inserts again.
+fn every(m: &mut Maker) {
+    let n = m.turns.len();
+    let mut clock = 0;
+    m.fill(clock, n * 1000 / 1024);
+    while m.wanted() {
+        if m.script.len() % 100_000 == 99_998 {
+            m.anew();
+            clock = 0;
+            m.fill(clock, n * 1000 / 1024);
+        }
+        let when = clock + m.wide();
+        match m.rng.below(100) {
+            0..=5 => {
+                clock += m.rng.below(21);
+                m.poll_by(POLL_SOME, clock);
+            }
+            6..=29 => {
+                clock += m.rng.below(21);
+                m.poll(clock);
+            }
+            30..=59 => m.reset(when),
+            60..=89 if m.live.len() < n * 960 / 1024 + m.rng.below(64) as usize * n / 1024 => m.insert(when),
+            60..=89 => m.remove(),
+            90..=94 => m.wake(),
+            _ => m.script.push([LENGTH << 60, 0]),
+        }
+    }
+}
+
 struct Maker {
     queue: Queue,
     script: Vec<Command>,
@@ -158,7 +190,11 @@ impl Maker {
     }
 
     fn poll(&mut self, now: u64) -> bool {
-        self.script.push([POLL << 60, now]);
+        self.poll_by(POLL, now)
+    }
+
+    fn poll_by(&mut self, call: u64, now: u64) -> bool {
+        self.script.push([call << 60, now]);
         let out = self.queue.poll(now);
         if let Some((record, ..)) = out {
             self.gone(record);
@@ -168,6 +204,16 @@ impl Maker {
 
     fn wake(&mut self) {
         self.script.push([WAKE << 60, 0]);
+    }
+
+    /// Clear, which leaves the records in another order than the original's slab, and so a format behind it.
+    fn anew(&mut self) {
+        self.script.push([CLEAR << 60, 0]);
+        self.script.push([FORMAT << 60, 0]);
+        let records = self.turns.len();
+        self.queue = Queue::new(records);
+        self.turns = vec![1; records];
+        self.live.clear();
     }
 
     fn any(&mut self) -> usize {

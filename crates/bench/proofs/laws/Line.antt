@@ -1,5 +1,5 @@
 -- A line answered is a call claimed, or `bad`.
-use mathlib.Core.Path.{_≡_, subst}
+use mathlib.Core.Path.{_≡_, refl, subst}
 use mathlib.Core.Bool.{Bool}
 use mathlib.Core.Logic.{by-cases}
 use mathlib.Core.List.{List}
@@ -37,6 +37,11 @@ pub line-bad : {limits : Bool} {l o o′ : List ℕ} {at end : ℕ} {r : Line} (
     → BadClaim o at end o′ → LineClaim limits l (words w hh vs ds ns ps ts ms) o at (words w hh′ vs ds ns ps ts ms) o′ end
 line-bad w vs ds ns ps ts ms H e q x =
     record { asks = λ c z. absurd (heard-bad H e c z); bad = λ f. (λ i. words w (q i) vs ds ns ps ts ms, x) }
+
+-- the same, where nothing is handed back
+pub line-not : {limits : Bool} {l o o′ : List ℕ} {at end : ℕ} {r : Line} {s : QueueWords} → Heard limits l r → r ≡ L.Bad → BadClaim o at end o′
+    → LineClaim limits l s o at s o′ end
+line-not H e x = record { asks = λ c z. absurd (heard-bad H e c z); bad = λ f. (refl, x) }
 
 -- the place that comes back lies within what was lent
 pub line-within : {limits : Bool} {l o o′ : List ℕ} {s s′ : QueueWords} {at end : ℕ} → LineClaim limits l s o at s′ o′ end → at ≤ length o

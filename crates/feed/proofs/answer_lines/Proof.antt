@@ -1,124 +1,91 @@
--- `answer_lines` meets its claim: what comes of where it stands comes of where it began (`Reaches`), a turn more does not change that
--- (`reaches-more`), and it stops where it does not go on.
+-- `answer_lines` meets its claim: judged once, and then `answer_parts`.
 use borrow.Author.Needs.{needs}
-use mathlib.Core.Path.{_≡_, refl, _∙_}
-use Prim.Native.Nat.{_-_}
-use native.Mathlib.Omega.{arith}
-use lib.ListN.{length}
-use Rattle.records.specs.Words.{words}
-use Rattle.feed.specs.Feed.{stand, stops}
-use Rattle.feed.proofs.laws.Turns.{Reaches, reaches-none, reaches-more, turn-forth}
+use Rattle.feed.proofs.laws.Turns.{feed-rows}
 use Rattle.feed.proofs.answer_lines.Statement.{statement}
 use Rattle.feed.proofs.answer_lines.Tie as tie
 
-abbrev Inv-loop : tie.InvT-loop
-Inv-loop limits got from line₀ n values₀ deadlines₀ nexts₀ prevs₀ turns₀ marks₀ out₀ i₀ k₀ end₀ after₀ left₀ line values deadlines nexts prevs turns
-    marks out i k end after left =
-    Reaches limits got (stand from line₀ n (words after₀ (left₀ .rows) values₀ deadlines₀ nexts₀ prevs₀ turns₀ marks₀) out₀ 0)
-    (stand i line k (words after (left .rows) values deadlines nexts prevs turns marks) out end)
-    × (length line ≡ length line₀)
-    × (length values ≡ length values₀)
-    × (length deadlines ≡ length deadlines₀)
-    × (length nexts ≡ length nexts₀)
-    × (length prevs ≡ length prevs₀)
-    × (length turns ≡ length turns₀)
-    × (length marks ≡ length marks₀)
-    × (length out ≡ length out₀)
-
-abbrev μ-loop : tie.MeasureT-loop
-μ-loop limits got from line₀ n values₀ deadlines₀ nexts₀ prevs₀ turns₀ marks₀ out₀ i₀ k₀ end₀ after₀ left₀ line values deadlines nexts prevs turns
-    marks out i k end after left =
-    length got - i
-
-abbrev to-turn : tie.After-left Inv-loop μ-loop → tie.After-turn Inv-loop μ-loop
-to-turn c =
+abbrev to-parts : tie.After-heads-of → tie.After-answer-parts
+to-parts c =
     let a = c .before .before .before .before in
     let b = a .before .before .before .before in
     let d = b .before .before .before .before in
     let e = d .before .before .before .before in
-    e .before .before
+    e .before
 
-abbrev to-then : tie.After-turn Inv-loop μ-loop → tie.Then1 Inv-loop μ-loop
-to-then c =
+abbrev to-rows-of : tie.After-answer-parts → tie.After-rows-of
+to-rows-of c =
     let a = c .before .before .before .before in
     let b = a .before .before .before .before in
-    b .before
+    let d = b .before .before .before .before in
+    let e = d .before .before .before .before in
+    let f = e .before .before .before .before in
+    f .before
 
-loop-holds : tie.Need-loop-holds Inv-loop μ-loop
-loop-holds c = (reaches-none, refl, refl, refl, refl, refl, refl, refl, refl)
+rows-of-requires : tie.Need-rows-of-requires
+rows-of-requires c κs = search needs
 
-goes-requires : tie.Need-goes-requires Inv-loop μ-loop
-goes-requires c κs = search needs
+is-sound-requires : tie.Need-is-sound-requires
+is-sound-requires c κs = search needs
 
-turn-requires : tie.Need-turn-requires Inv-loop μ-loop
-turn-requires c κs = search needs
+answer-parts-requires : tie.Need-answer-parts-requires
+answer-parts-requires c κs = search needs
 
-loop-less : tie.Need-loop-less Inv-loop μ-loop
-loop-less c =
-    let at-turn = to-turn c in
-    let at-then = to-then at-turn in
-    let g = at-then .before .goes .ensures .yes (at-then .if1 .taken) in
-    omega (arith, g .0, turn-forth (g .0) (at-turn .turn .ensures))
+array-read-t58 : tie.Need-array-read-t58
+array-read-t58 c = search needs
 
-loop-again : tie.Need-loop-again Inv-loop μ-loop
-loop-again c =
-    let at-turn = to-turn c in
-    let at-then = to-then at-turn in
-    let I = at-then .before .before .loop .inv in
-    let g = at-then .before .goes .ensures .yes (at-then .if1 .taken) in
-    let lengths = at-turn .turn .kept .1 in
-    let six = lengths .1 .1 .1 .1 .1 .1 in (
-      reaches-more (I .0) g (at-turn .turn .ensures),
-      lengths .1 .1 .0 ∙ I .1,
-      six .0 ∙ I .2,
-      six .1 .0 ∙ I .3,
-      six .1 .1 .0 ∙ I .4,
-      six .1 .1 .1 .0 ∙ I .5,
-      six .1 .1 .1 .1 .0 ∙ I .6,
-      six .1 .1 .1 .1 .1 .0 ∙ I .7,
-      six .1 .1 .1 .1 .1 .1 .0 ∙ I .8,
-    )
+array-read-t61 : tie.Need-array-read-t61
+array-read-t61 c = search needs
 
-same-length : tie.Need-same-length Inv-loop μ-loop
-same-length c = c .before .before .loop .inv .1
+array-read-t64 : tie.Need-array-read-t64
+array-read-t64 c = search needs
 
-same-length-2 : tie.Need-same-length-2 Inv-loop μ-loop
-same-length-2 c = c .before .before .loop .inv .2
+array-read-t67 : tie.Need-array-read-t67
+array-read-t67 c = search needs
 
-same-length-3 : tie.Need-same-length-3 Inv-loop μ-loop
-same-length-3 c = c .before .before .loop .inv .3
+heads-of-requires : tie.Need-heads-of-requires
+heads-of-requires c κs = search needs
 
-same-length-4 : tie.Need-same-length-4 Inv-loop μ-loop
-same-length-4 c = c .before .before .loop .inv .4
+same-length : tie.Need-same-length
+same-length c = search needs
 
-same-length-5 : tie.Need-same-length-5 Inv-loop μ-loop
-same-length-5 c = c .before .before .loop .inv .5
+same-length-2 : tie.Need-same-length-2
+same-length-2 c = search needs
 
-same-length-6 : tie.Need-same-length-6 Inv-loop μ-loop
-same-length-6 c = c .before .before .loop .inv .6
+same-length-3 : tie.Need-same-length-3
+same-length-3 c = search needs
 
-same-length-7 : tie.Need-same-length-7 Inv-loop μ-loop
-same-length-7 c = c .before .before .loop .inv .7
+same-length-4 : tie.Need-same-length-4
+same-length-4 c = search needs
 
-same-length-8 : tie.Need-same-length-8 Inv-loop μ-loop
-same-length-8 c = c .before .before .loop .inv .8
+same-length-5 : tie.Need-same-length-5
+same-length-5 c = search needs
 
-returns : tie.Need-returns Inv-loop μ-loop
+same-length-6 : tie.Need-same-length-6
+same-length-6 c = search needs
+
+same-length-7 : tie.Need-same-length-7
+same-length-7 c = search needs
+
+same-length-8 : tie.Need-same-length-8
+same-length-8 c = search needs
+
+returns : tie.Need-returns
 returns c =
-    let at-goes = c .before in
-    at-goes .before .loop .inv .0 .then _ (stops (at-goes .goes .ensures .no (c .if1 .left)))
+    let at-parts = to-parts c in
+    rw (c .heads-of .ensures) (feed-rows _ _ _ _ _ _ _ (to-rows-of at-parts .rows-of .ensures) (at-parts .answer-parts .ensures))
 
 pub answer-lines-spec : {M : Type 1} → statement M
 answer-lines-spec =
     tie.close
     (tie.spec
-    Inv-loop
-    μ-loop
-    loop-holds
-    goes-requires
-    turn-requires
-    loop-less
-    loop-again
+    rows-of-requires
+    is-sound-requires
+    answer-parts-requires
+    array-read-t58
+    array-read-t61
+    array-read-t64
+    array-read-t67
+    heads-of-requires
     same-length
     same-length-2
     same-length-3

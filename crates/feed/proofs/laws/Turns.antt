@@ -22,6 +22,11 @@ pub line-rows : {limits : Bool} {l o o′ : List ℕ} {at end : ℕ} {s′ : Que
 line-rows {limits} {l} {o} {o′} {at} {end} {s′} w vs ds ns ps ts ms e C =
     subst (λ (h : List (List ℕ)). LineClaim limits l (words w h vs ds ns ps ts ms) o at s′ o′ end) e C
 
+pub feed-rows : {limits : Bool} {got line o : List ℕ} {i n at : ℕ} {c : Stand} (w : Wheel) {hh hh′ : List (List ℕ)} (vs ds ns ps ts ms : List ℕ) → hh ≡ hh′
+    → FeedClaim limits got (stand i line n (words w hh vs ds ns ps ts ms) o at) c → FeedClaim limits got (stand i line n (words w hh′ vs ds ns ps ts ms) o at) c
+feed-rows {limits} {got} {line} {o} {i} {n} {at} {c} w vs ds ns ps ts ms e C =
+    subst (λ (h : List (List ℕ)). FeedClaim limits got (stand i line n (words w h vs ds ns ps ts ms) o at) c) e C
+
 module _ {limits : Bool} {got : List ℕ} {from : ℕ} {line : List ℕ} {n : ℕ} {w : QueueWords} {o : List ℕ} {at : ℕ} where
   module _ {i k : ℕ} {ended : Bool} {l : List ℕ} (T : TakeClaim got from line n i k ended l) where
     -- a line has ended, and is answered

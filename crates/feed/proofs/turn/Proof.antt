@@ -2,45 +2,48 @@
 use borrow.Author.Needs.{needs}
 use native.Mathlib.Omega.{arith}
 use lib.ListN.{length-take}
-use Rattle.feed.proofs.laws.Turns.{line-rows, turn-line, turn-end}
+use Rattle.feed.proofs.laws.Turns.{turn-line, turn-end}
 use Rattle.feed.proofs.turn.Statement.{statement}
 use Rattle.feed.proofs.turn.Tie as tie
 
-abbrev to-answer-line : tie.After-left → tie.After-answer-line
-to-answer-line c =
+abbrev to-start : tie.After-take-line → tie.Start
+to-start c =
+    let a = c .before .before .before .before in
+    let b = a .before .before .before .before in
+    b .before .before .before
+
+abbrev to-take-line : tie.Then1 → tie.After-take-line
+to-take-line c = c .before .before .before
+
+abbrev to-then : tie.After-answer-known-arg11 → tie.Then1
+to-then c =
+    let a = c .before .before .before .before in
+    let b = a .before .before .before .before in
+    b .before .before .before
+
+abbrev to-answer : tie.After-slice-known16 → tie.After-answer-known
+to-answer c =
     let a = c .before .before .before .before in
     let b = a .before .before .before .before in
     let d = b .before .before .before .before in
-    d .before .before .before .before
-
-abbrev to-rows-of : tie.After-answer-line → tie.After-rows-of
-to-rows-of c =
-    let a = c .before .before .before .before in
-    let b = a .before .before .before .before in
-    b .before
-
-abbrev to-take-line : tie.After-rows-of → tie.After-take-line
-to-take-line c = c .before .before .before .before
+    d .before .before
 
 take-line-requires : tie.Need-take-line-requires
 take-line-requires c κs = search needs
 
-rows-of-requires : tie.Need-rows-of-requires
-rows-of-requires c κs = search needs
+slice-reshare-prefix-answer-known : tie.Need-slice-reshare-prefix-answer-known
+slice-reshare-prefix-answer-known c = search needs
 
-slice-reshare-prefix-answer-line : tie.Need-slice-reshare-prefix-answer-line
-slice-reshare-prefix-answer-line c = search needs
-
-slice-aggregate-answer-line : tie.Need-slice-aggregate-answer-line
-slice-aggregate-answer-line c =
+slice-aggregate-answer-known : tie.Need-slice-aggregate-answer-known
+slice-aggregate-answer-known c =
     let T = to-take-line (c .before) .take-line in
     simp length-take (omega (arith, T .ensures .fits, T .ensures .size))
 
-answer-line-requires : tie.Need-answer-line-requires
-answer-line-requires c κs = search needs
+answer-known-requires : tie.Need-answer-known-requires
+answer-known-requires c κs = to-start (to-take-line (to-then c)) .pre
 
 same-length : tie.Need-same-length
-same-length c = to-take-line (to-rows-of (to-answer-line c)) .take-line .ensures .size
+same-length c = to-take-line (to-then (to-answer c .before)) .take-line .ensures .size
 
 same-length-2 : tie.Need-same-length-2
 same-length-2 c = search needs
@@ -65,26 +68,27 @@ same-length-8 c = search needs
 
 returns : tie.Need-returns
 returns c =
-    let at-answer-line = to-answer-line c in
-    let at-rows-of = to-rows-of at-answer-line in
-    turn-line (to-take-line at-rows-of .take-line .ensures) (at-rows-of .before .if1 .taken)
-    (line-rows _ _ _ _ _ _ _ (at-rows-of .rows-of .ensures) (at-answer-line .answer-line .ensures))
+    let at-answer = to-answer c in
+    let at-then = to-then (at-answer .before) in
+    let K = at-answer .answer-known .ensures in
+    record { turn = turn-line (to-take-line at-then .take-line .ensures) (at-then .if1 .taken) (K .line); tells = K .tells }
 
 same-length-9 : tie.Need-same-length-9
 same-length-9 c = search needs
 
 returns-2 : tie.Need-returns-2
-returns-2 c = turn-end (c .before .before .before .take-line .ensures) (c .if1 .left)
+returns-2 c =
+    let at-take-line = c .before .before .before in
+    record { turn = turn-end (at-take-line .take-line .ensures) (c .if1 .left); tells = to-start at-take-line .pre }
 
 pub turn-spec : {M : Type 1} → statement M
 turn-spec =
     tie.close
     (tie.spec
     take-line-requires
-    rows-of-requires
-    slice-reshare-prefix-answer-line
-    slice-aggregate-answer-line
-    answer-line-requires
+    slice-reshare-prefix-answer-known
+    slice-aggregate-answer-known
+    answer-known-requires
     same-length
     same-length-2
     same-length-3

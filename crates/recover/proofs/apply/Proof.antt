@@ -1,141 +1,87 @@
--- `apply` meets its claim: a turn asks one step (`apply-turn`), and it ends where there is none (`apply-ends`).
+-- `apply` meets its claim: judged once, and then `apply_parts`.
 use borrow.Author.Needs.{needs}
-use mathlib.Core.Path.{_≡_, refl, sym, _∙_}
-use Prim.Native.Nat.{_-_}
-use native.Mathlib.Omega.{arith}
-use lib.ListN.{length}
-use Rattle.records.specs.Words.{words}
-use Rattle.recover.proofs.laws.Apply.{Applying, apply-start, apply-turn, apply-ends, step-forth}
+use Rattle.recover.proofs.laws.Parts.{applies-rows}
 use Rattle.recover.proofs.apply.Statement.{statement}
 use Rattle.recover.proofs.apply.Tie as tie
 
-abbrev Inv-loop : tie.InvT-loop
-Inv-loop bytes values₀ deadlines₀ nexts₀ prevs₀ turns₀ marks₀ used₀ now₀ left₀ values deadlines nexts prevs turns marks used now left =
-    Applying bytes (words now₀ (left₀ .rows) values₀ deadlines₀ nexts₀ prevs₀ turns₀ marks₀)
-    (words now (left .rows) values deadlines nexts prevs turns marks) used
-    × (length values ≡ length values₀)
-    × (length deadlines ≡ length deadlines₀)
-    × (length nexts ≡ length nexts₀)
-    × (length prevs ≡ length prevs₀)
-    × (length turns ≡ length turns₀)
-    × (length marks ≡ length marks₀)
-
-abbrev μ-loop : tie.MeasureT-loop
-μ-loop bytes values₀ deadlines₀ nexts₀ prevs₀ turns₀ marks₀ used₀ now₀ left₀ values deadlines nexts prevs turns marks used now left =
-    length bytes - used
-
-abbrev to-one : tie.After-size-of Inv-loop μ-loop → tie.After-one Inv-loop μ-loop
-to-one c =
+abbrev to-parts : tie.After-heads-of → tie.After-apply-parts
+to-parts c =
     let a = c .before .before .before .before in
     let b = a .before .before .before .before in
     let d = b .before .before .before .before in
-    d .before .before .before
+    d .before
 
-abbrev to-step : tie.After-one Inv-loop μ-loop → tie.After-n2 Inv-loop μ-loop
-to-step c =
-    let a = c .before .before .before .before in
-    a .before .before .before .before
-
-abbrev to-read : tie.After-n2 Inv-loop μ-loop → tie.After-read-step Inv-loop μ-loop
-to-read c = c .before .before
-
-abbrev to-ended : tie.After-known-told Inv-loop μ-loop → tie.After-read-step Inv-loop μ-loop
-to-ended c = c .before .before .before
-
-abbrev to-start : tie.After-read-step Inv-loop μ-loop → tie.Start Inv-loop μ-loop
-to-start c =
+abbrev to-rows-of : tie.After-apply-parts → tie.After-rows-of
+to-rows-of c =
     let a = c .before .before .before .before in
     let b = a .before .before .before .before in
-    b .before
+    let d = b .before .before .before .before in
+    let e = d .before .before .before .before in
+    e .before .before .before
 
-loop-holds : tie.Need-loop-holds Inv-loop μ-loop
-loop-holds c = (apply-start _ _, refl, refl, refl, refl, refl, refl)
+rows-of-requires : tie.Need-rows-of-requires
+rows-of-requires c κs = search needs
 
-read-step-requires : tie.Need-read-step-requires Inv-loop μ-loop
-read-step-requires c κs = search needs
+is-sound-requires : tie.Need-is-sound-requires
+is-sound-requires c κs = search needs
 
-enum-known-n : tie.Need-enum-known-n Inv-loop μ-loop
-enum-known-n c = search needs
+apply-parts-requires : tie.Need-apply-parts-requires
+apply-parts-requires c κs = search needs
 
-same-length : tie.Need-same-length Inv-loop μ-loop
-same-length c = to-ended c .before .loop .inv .1
+array-read-t49 : tie.Need-array-read-t49
+array-read-t49 c = search needs
 
-same-length-2 : tie.Need-same-length-2 Inv-loop μ-loop
-same-length-2 c = to-ended c .before .loop .inv .2
+array-read-t52 : tie.Need-array-read-t52
+array-read-t52 c = search needs
 
-same-length-3 : tie.Need-same-length-3 Inv-loop μ-loop
-same-length-3 c = to-ended c .before .loop .inv .3
+array-read-t55 : tie.Need-array-read-t55
+array-read-t55 c = search needs
 
-same-length-4 : tie.Need-same-length-4 Inv-loop μ-loop
-same-length-4 c = to-ended c .before .loop .inv .4
+array-read-t58 : tie.Need-array-read-t58
+array-read-t58 c = search needs
 
-same-length-5 : tie.Need-same-length-5 Inv-loop μ-loop
-same-length-5 c = to-ended c .before .loop .inv .5
+heads-of-requires : tie.Need-heads-of-requires
+heads-of-requires c κs = search needs
 
-same-length-6 : tie.Need-same-length-6 Inv-loop μ-loop
-same-length-6 c = to-ended c .before .loop .inv .6
+same-length : tie.Need-same-length
+same-length c = search needs
 
-returns : tie.Need-returns Inv-loop μ-loop
-returns c = let r = to-ended c in apply-ends (r .before .loop .inv .0) (sym (r .read-step .ensures) ∙ c .before .n .given .1)
+same-length-2 : tie.Need-same-length-2
+same-length-2 c = search needs
 
-enum-known-n-2 : tie.Need-enum-known-n-2 Inv-loop μ-loop
-enum-known-n-2 c = search needs
+same-length-3 : tie.Need-same-length-3
+same-length-3 c = search needs
 
-one-requires : tie.Need-one-requires Inv-loop μ-loop
-one-requires c κs = search needs
+same-length-4 : tie.Need-same-length-4
+same-length-4 c = search needs
 
-size-of-requires : tie.Need-size-of-requires Inv-loop μ-loop
-size-of-requires c κs = search needs
+same-length-5 : tie.Need-same-length-5
+same-length-5 c = search needs
 
-add-used : tie.Need-add-used Inv-loop μ-loop
-add-used c =
-    let n = to-step (to-one c) in
-    let r = to-read n in
-    let f = step-forth _ (r .before .loop .used) (sym (r .read-step .ensures) ∙ n .n2 .given .1) (c .size-of .ensures) in
-    omega (arith, f .1, to-start r .good .0 .0)
+same-length-6 : tie.Need-same-length-6
+same-length-6 c = search needs
 
-loop-less : tie.Need-loop-less Inv-loop μ-loop
-loop-less c =
-    let n = to-step (to-one c) in
-    let r = to-read n in
-    let f = step-forth _ (r .before .loop .used) (sym (r .read-step .ensures) ∙ n .n2 .given .1) (c .size-of .ensures) in
-    omega (arith, f .0, f .1)
-
-loop-again : tie.Need-loop-again Inv-loop μ-loop
-loop-again c =
-    let o = to-one c in
-    let n = to-step o in
-    let r = to-read n in
-    let I = r .before .loop .inv in
-    let k = o .one .kept .1 .1 .1 in (
-      apply-turn (I .0) (sym (r .read-step .ensures) ∙ n .n2 .given .1) (o .one .ensures) (c .size-of .ensures),
-      k .0 ∙ I .1,
-      k .1 .0 ∙ I .2,
-      k .1 .1 .0 ∙ I .3,
-      k .1 .1 .1 .0 ∙ I .4,
-      k .1 .1 .1 .1 .0 ∙ I .5,
-      k .1 .1 .1 .1 .1 .0 ∙ I .6,
-    )
+returns : tie.Need-returns
+returns c =
+    let at-parts = to-parts c in
+    rw (c .heads-of .ensures) (applies-rows _ _ _ _ _ _ _ (to-rows-of at-parts .rows-of .ensures) (at-parts .apply-parts .ensures))
 
 pub apply-spec : {M : Type 1} → statement M
 apply-spec =
     tie.close
     (tie.spec
-    Inv-loop
-    μ-loop
-    loop-holds
-    read-step-requires
-    enum-known-n
+    rows-of-requires
+    is-sound-requires
+    apply-parts-requires
+    array-read-t49
+    array-read-t52
+    array-read-t55
+    array-read-t58
+    heads-of-requires
     same-length
     same-length-2
     same-length-3
     same-length-4
     same-length-5
     same-length-6
-    returns
-    enum-known-n-2
-    one-requires
-    size-of-requires
-    add-used
-    loop-less
-    loop-again)
+    returns)

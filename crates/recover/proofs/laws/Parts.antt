@@ -16,6 +16,10 @@ use Rattle.delay_queue.specs.declared.Call.the-variants as C
 use Rattle.delay_queue.specs.Claims.{CallClaim}
 use Rattle.delay_queue.specs.NoStore.{NoStoreClaim}
 use Rattle.promises.proofs.laws.NoStore.{no-store-once}
+use Rattle.run.specs.declared.Why.{Why}
+use Rattle.run.specs.Groups.{commandWords}
+use Rattle.run.specs.Run.{RunClaim}
+use Rattle.run.proofs.laws.Once.{one-run}
 use Rattle.entries.specs.declared.Step.{Step}
 use Rattle.entries.specs.declared.Step.the-variants as S
 use Rattle.entries.specs.declared.Ending.{Ending}
@@ -93,18 +97,26 @@ turn-so b {n} {turn} e f h = live-as b e (simp (lt-ltb 0 turn (omega arith), lt-
 
 -- ---- one step asked
 
--- the heads, handed on as their rows
-pub rows-asked : (w : Wheel) {hh hh′ : List (List ℕ)} (vs ds ns ps ts ms : List ℕ) (c : Call) (a : Answer) {s′ : QueueWords} {x : Step} → x ≡ S.Asks c
-    → hh′ ≡ hh → CallClaim c (words w hh′ vs ds ns ps ts ms) a s′ → Makes x (words w hh vs ds ns ps ts ms) s′
-rows-asked w {hh} vs ds ns ps ts ms c a {s′} e q A =
-    let B : CallClaim c (words w hh vs ds ns ps ts ms) a s′ = subst (λ (h : List (List ℕ)). CallClaim c (words w h vs ds ns ps ts ms) a s′) q A in
-    subst (λ (y : Step). Makes y (words w hh vs ds ns ps ts ms) s′) (sym e) (asked a B)
+pub asked-makes : {s s′ : QueueWords} {x : Step} {c : Call} (a : Answer) → x ≡ S.Asks c → CallClaim c s a s′ → Makes x s s′
+asked-makes {s} {s′} a e A = subst (λ (y : Step). Makes y s s′) (sym e) (asked a A)
+
+-- as a run of one command
+pub run-makes : {s s′ : QueueWords} {x : Step} {c : Call} {cs out o : List ℕ} {n : ℕ} {why : Why} → x ≡ S.Asks c → cs ≡ commandWords c
+    → RunClaim s cs out n why s′ o → 6 ≤ length out → Makes x s s′
+run-makes {s} {s′} {c = c} {out = out} {o} {n} {why} e q A h =
+    let r = one-run c (subst (λ (l : List ℕ). RunClaim s l out n why s′ o) q A) h in
+    asked-makes (r .0) e (r .1)
 
 pub opened-makes : {s : QueueWords} {x : Step} → x ≡ S.Open → Makes x s s
 opened-makes {s} e = subst (λ (y : Step). Makes y s s) (sym e) opened
 
 pub closed-makes : {s : QueueWords} {x : Step} → x ≡ S.Close → Makes x s s
 closed-makes {s} e = subst (λ (y : Step). Makes y s s) (sym e) closed
+
+-- the heads, handed on as their rows
+pub applies-rows : {l : List ℕ} {n : ℕ} {s′ : QueueWords} (w : Wheel) {hh hh′ : List (List ℕ)} (vs ds ns ps ts ms : List ℕ) → hh′ ≡ hh
+    → Applies l (words w hh′ vs ds ns ps ts ms) n s′ → Applies l (words w hh vs ds ns ps ts ms) n s′
+applies-rows {l} {n} {s′} w vs ds ns ps ts ms e A = subst (λ (h : List (List ℕ)). Applies l (words w h vs ds ns ps ts ms) n s′) e A
 
 -- ---- no store
 

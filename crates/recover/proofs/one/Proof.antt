@@ -1,29 +1,42 @@
--- `one`: a call is asked, an open and a close leave the store.
+-- `one`: a call is a run of one command (`run-makes`), an open and a close leave the store.
 use borrow.Author.Needs.{needs}
-use Rattle.recover.proofs.laws.Parts.{rows-asked, opened-makes, closed-makes}
+use native.Mathlib.Omega.{arith}
+use Rattle.recover.proofs.laws.Parts.{run-makes, opened-makes, closed-makes}
 use Rattle.recover.proofs.one.Statement.{statement}
 use Rattle.recover.proofs.one.Tie as tie
 
-abbrev to-ask : tie.After-left → tie.After-ask
-to-ask c =
+abbrev to-run : tie.After-answer2 → tie.After-answer-all
+to-run c =
     let a = c .before .before .before .before in
     let b = a .before .before .before .before in
     let d = b .before .before .before .before in
-    d .before .before
+    d .before
 
-abbrev to-rows-of : tie.After-ask → tie.After-rows-of
-to-rows-of c =
+abbrev to-command : tie.After-answer-all → tie.After-command-of
+to-command c =
     let a = c .before .before .before .before in
-    a .before .before .before
+    let b = a .before .before .before .before in
+    b .before .before .before .before
+
+abbrev to-start : tie.After-slice-known6 → tie.Start
+to-start c =
+    let a = c .before .before .before .before in
+    a .before .before
 
 enum-known-step : tie.Need-enum-known-step
 enum-known-step c = search needs
 
-rows-of-requires : tie.Need-rows-of-requires
-rows-of-requires c κs = search needs
+command-of-requires : tie.Need-command-of-requires
+command-of-requires c κs = search needs
 
-ask-requires : tie.Need-ask-requires
-ask-requires c κs = search needs
+slice-aggregate-answer-all : tie.Need-slice-aggregate-answer-all
+slice-aggregate-answer-all c = search needs
+
+slice-aggregate-answer-all-2 : tie.Need-slice-aggregate-answer-all-2
+slice-aggregate-answer-all-2 c = search needs
+
+answer-all-requires : tie.Need-answer-all-requires
+answer-all-requires c κs = search needs
 
 enum-told : tie.Need-enum-told
 enum-told c = search needs
@@ -51,23 +64,29 @@ same-length-6 c = search needs
 
 returns : tie.Need-returns
 returns c =
-    let a = to-ask c in
-    let r = to-rows-of a in
-    rows-asked _ _ _ _ _ _ _ _ _ (r .before .before .step .given .1) (r .rows-of .ensures) (a .ask .ensures)
+    let at-run = to-run c in
+    let at-command = to-command at-run in
+    let K = at-run .answer-all .ensures in
+    record {
+      makes = run-makes (at-command .before .before .step .given .1) (at-command .command-of .ensures) (K .run) (omega arith);
+      tells = K .tells;
+    }
 
 returns-2 : tie.Need-returns-2
-returns-2 c = opened-makes (c .enum-told .given .1)
+returns-2 c = record { makes = opened-makes (c .enum-told .given .1); tells = to-start (c .before .before) .pre }
 
 returns-3 : tie.Need-returns-3
-returns-3 c = closed-makes (c .enum-told2 .given .1)
+returns-3 c = record { makes = closed-makes (c .enum-told2 .given .1); tells = to-start (c .before .before) .pre }
 
 pub one-spec : {M : Type 1} → statement M
 one-spec =
     tie.close
     (tie.spec
     enum-known-step
-    rows-of-requires
-    ask-requires
+    command-of-requires
+    slice-aggregate-answer-all
+    slice-aggregate-answer-all-2
+    answer-all-requires
     enum-told
     enum-told-2
     same-length

@@ -1,0 +1,5 @@
+pub mod Ends
+pub mod Groups
+pub mod Known
+pub mod Once
+pub mod Run
