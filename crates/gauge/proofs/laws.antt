@@ -4,3 +4,4 @@ pub mod Reading
 pub mod Latenesses
 pub mod Examples
 pub mod Handed
+pub mod OnTime

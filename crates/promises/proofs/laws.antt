@@ -37,6 +37,7 @@ pub mod Refused
 pub mod Repeats
 pub mod Runs
 pub mod Shown
+pub mod Sleep
 pub mod OneCall
 pub mod Twelve
 pub mod TakesOut

@@ -26,6 +26,7 @@ pub mod Refused
 pub mod Repeats
 pub mod Runs
 pub mod Shown
+pub mod Sleep
 pub mod OneCall
 pub mod Twelve
 pub mod Waiting

@@ -10,6 +10,7 @@ mod journal;
 #[path = "../../../speed/src/ours.rs"]
 mod ours;
 mod recovery;
+mod sleep;
 mod states;
 mod tally;
 mod wrong;
@@ -35,7 +36,8 @@ use wrong::{Wrong, WORDS};
 const USAGE: &str = "usage: scale [--keep FOLDER] \
     [ judged FROM TO LINES | inner FROM TO LINES | checked FROM TO LINES \
     | large judged|inner|checked FROM TO LINES | short DEPTH | ends DEPTH | wrong [WORD] | gauge FROM TO \
-    | journal FROM TO EVERY TIMES | journal wrong [WORD] | recovery ENTRIES | states TIMERS ]";
+    | journal FROM TO EVERY TIMES | journal wrong [WORD] | recovery ENTRIES | states TIMERS \
+    | sleep FROM TO | sleep wrong ]";
 /// Where a script with a difference is kept below the oracle's folder, unless --keep names another.
 const KEEP: &str = "target/differences";
 /// So many short sequences are one piece of work.
@@ -87,6 +89,11 @@ fn run(words: &[&str]) -> Result<bool, String> {
             let timers = number(timers)? as usize;
             return if (1..=MOST_TIMERS).contains(&timers) { Ok(states::compare(timers)) } else { Err(USAGE.into()) };
         }
+        ["sleep", from, to] => {
+            let (from, to) = (number(from)?, number(to)?);
+            return if from <= to { Ok(sleep::compare(from, to)) } else { Err(USAGE.into()) };
+        }
+        ["sleep", "wrong"] => return Ok(sleep::all_wrong()),
         ["wrong"] => return all_wrong(),
         ["wrong", word] => {
             let wrong = Wrong::new(number(word)? as usize).ok_or(USAGE)?;

@@ -26,7 +26,7 @@ sixteen : floatOf 16 ≡ fin false 1 (pos 4)
 unfolding floatOf ofInt round
 sixteen = refl
 
-zero : floatOf 0 ≡ nought
+pub zero : floatOf 0 ≡ nought
 unfolding floatOf ofInt round
 zero = refl
 

@@ -197,7 +197,8 @@ freed-count : (r : ℕ) (u : View) → pending (freed r u) ≡ pending u
 unfolding pending
 freed-count r u = total-ext (λ p x. 1) free (freed r u .lists) (u .lists) (freed-beside r u .lists)
 
-placed-pending : (r when : ℕ) (u : View) (y : ℕ) → (IsPending (placed r when u) y → (y ≡ r) ⊎ IsPending u y) × (IsPending u y → IsPending (placed r when u) y)
+pub placed-pending : (r when : ℕ) (u : View) (y : ℕ)
+    → (IsPending (placed r when u) y → (y ≡ r) ⊎ IsPending u y) × (IsPending u y → IsPending (placed r when u) y)
 unfolding placed
 placed-pending r when u y =
     let p = target (u .elapsed) (max when (u .elapsed)) in (
@@ -221,7 +222,7 @@ target-timed e w =
     (λ b. rw (eq-eqb (block w) (block e) b) (omega (arith, slot-lt w (levelOf e w), level-is e w .within)))
     (λ b. rw (ne-eqb (block w) (block e) b) (omega arith))))
 
-placed-count : (r when : ℕ) (u : View) → pending (placed r when u) ≡ pending u + 1
+pub placed-count : (r when : ℕ) (u : View) → pending (placed r when u) ≡ pending u + 1
 unfolding placed pending
 placed-count r when u =
     let w = max when (u .elapsed) in
