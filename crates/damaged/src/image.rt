@@ -62,7 +62,7 @@ fn blank(x: u64) -> Image
 }
 
 // The contracts give the lengths alone, so that no proof meets the words. A record of such words is a retired one: its turn is the
-// last, its links and its mark are nobody.
+// last, its links are nobody, and its mark says so.
 fn pairs() -> [u64; 2050]
     ensures { λ r. ⌜ length r ≡ 2050 ⌝ }
 {
@@ -75,10 +75,18 @@ fn words() -> [u64; 1025]
     [records::LAST_TURN; 1025]
 }
 
-fn numbers() -> [u16; 1025]
+fn numbers(x: u16) -> [u16; 1025]
     ensures { λ r. ⌜ length r ≡ 1025 ⌝ }
 {
-    [links::NOBODY; 1025]
+    [x; 1025]
+}
+
+// What the words of a slice of numbers are made of, by where it begins in the row.
+fn unused(from: usize) -> u16 {
+    if from == MARKS {
+        return stack::RETIRED;
+    }
+    links::NOBODY
 }
 
 // 0 where all words but the first are as `pairs` and `words` made them.
@@ -95,12 +103,12 @@ fn words_rest(words: &[u64], first: usize) -> u64
     0
 }
 
-fn numbers_rest(numbers: &[u16; 1025]) -> u64
+fn numbers_rest(numbers: &[u16; 1025], x: u16) -> u64
     ensures { λ r. ⌜ r ≤ 1 ⌝ }
 {
     let mut i: usize = 12;
     while i < 1025 {
-        if numbers[i] != links::NOBODY {
+        if numbers[i] != x {
             return 1;
         }
         i += 1;
@@ -148,7 +156,7 @@ fn numbers_in(image: &Image, from: usize) -> [u16; 1025]
     requires { ⌜ from ≤ 469 ⌝ }
     ensures { λ r. ⌜ length r ≡ 1025 ⌝ }
 {
-    let mut numbers = numbers();
+    let mut numbers = numbers(unused(from));
     let mut i: usize = 0;
     while i < 12 {
         numbers[i] = narrow(image[from + i]);
@@ -228,7 +236,7 @@ fn note_numbers(image: &mut Image, from: usize, numbers: &[u16; 1025])
         image[from + i] = wide(numbers[i]);
         i += 1;
     }
-    image[REST] = image[REST] | numbers_rest(numbers);
+    image[REST] = image[REST] | numbers_rest(numbers, unused(from));
 }
 
 fn note_state(image: &mut Image, state: Wheel) {
@@ -369,7 +377,16 @@ pub fn store(x: u64) -> Image {
     image
 }
 
-// The same once the expired one is handed out.
+// The same, with words of retired records behind the nine.
+pub fn filled() -> Image {
+    let mut image = store(records::LAST_TURN);
+    image[MARKS + 9] = wide(stack::RETIRED);
+    image[MARKS + 10] = wide(stack::RETIRED);
+    image[MARKS + 11] = wide(stack::RETIRED);
+    image
+}
+
+// The store of nine once the expired one is handed out.
 pub fn polled(x: u64) -> Image {
     let mut image = store(x);
     ask(&mut image, whole(), Call::Poll(100));
@@ -510,6 +527,20 @@ pub fn cut() -> Image {
     image[NEXTS + 1] = wide(links::NOBODY);
     image[PREVS + 1] = wide(links::NOBODY);
     image[MARKS + 1] = wide(links::NOBODY);
+    image
+}
+
+// One timer at 70, at the last turn, cut out of its list by half a reset.
+pub fn half() -> Image {
+    let mut image = blank(77);
+    image[REST] = 0;
+    ask(&mut image, whole(), Call::Format(1, records::LAST_TURN));
+    ask(&mut image, whole(), Call::Insert(7, 70, 0));
+    image[NEXTS] = wide(links::NOBODY);
+    image[PREVS] = wide(links::NOBODY);
+    image[MARKS] = wide(links::NOBODY);
+    image[HEADS + 65] = wide(links::NOBODY);
+    image[OCCUPIED + 1] = 0;
     image
 }
 

@@ -27,6 +27,8 @@ const NOBODY: u64 = links::NOBODY as u64;
 
 const LAST_TURN: u64 = records::LAST_TURN;
 
+const RETIRED: u64 = stack::RETIRED as u64;
+
 // Slices one word too short.
 fn short(image: &Image) {
     show_lent(image, VALUES, 17);
@@ -105,12 +107,14 @@ fn marks(image: &Image) {
     // the slot of the same number at another level; an expired one as free
     show(image, MARKS + 5, 257);
     show(image, MARKS + 6, stack::FREE as u64);
-    // a free one: expired, nobody
+    // a free one: expired, nobody, retired
     show(image, MARKS + 8, stack::EXPIRED as u64);
     show(image, MARKS + 8, NOBODY);
-    // a retired one: free, no place at all
+    show(image, MARKS + 8, RETIRED);
+    // a retired one: free, no place at all, nobody
     show(image, MARKS, stack::FREE as u64);
-    show(image, MARKS, stack::FREE as u64 + 1);
+    show(image, MARKS, RETIRED + 1);
+    show(image, MARKS, NOBODY);
     show_each(image, MARKS, 9);
 }
 
@@ -233,12 +237,17 @@ fn quiet(image: &Image) {
     show(image, ELAPSED, (1 << 36) + 100);
 }
 
-// A timer that a reset has unlinked and not placed: it is in no list, and not at the last turn. At the last turn it is retired.
+// A timer that a reset has unlinked and not placed: it is in no list, and its mark is nobody, at whatever turn. Only one with the mark
+// of the retired is retired.
 fn lost(image: &Image) {
     image::say(b"three timers at 70, the middle one cut out of its list:\n");
     image::show_whole(image);
     show(image, TURNS + 1, LAST_TURN - 1);
     show(image, TURNS + 1, LAST_TURN);
+    image::say(b"one timer at 70, at the last turn, cut out of its list:\n");
+    let half = image::half();
+    image::show_whole(&half);
+    show(&half, MARKS, RETIRED);
 }
 
 // A poll in hand, whose next move is the head of slot 3 of level 1.
@@ -388,7 +397,7 @@ fn main() {
     sound(&image);
     enough(&image);
     quiet(&image::polled(77));
-    retired(&image::store(LAST_TURN));
+    retired(&image::filled());
     single(&image::begun(1, 77));
     lost(&image::cut());
     held(&image::held(77));

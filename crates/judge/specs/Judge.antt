@@ -6,7 +6,7 @@ use Prim.Native.Nat.{ℕ, suc, _%_, _^_, _≤_, _<_}
 use Rattle.times.specs.Times.{width}
 use Rattle.links.specs.Lists.{nobody}
 use Rattle.links.specs.Links.{at}
-use Rattle.stack.specs.Places.{slots, parking, expired, levelAt}
+use Rattle.stack.specs.Places.{slots, parking, expired, places, retired, levelAt}
 use Rattle.wheel.specs.Limited.{start}
 use Rattle.wheel.specs.Midway.{Belongs, Parked}
 use Rattle.records.specs.Records.{lastTurn}
@@ -21,7 +21,7 @@ pub record RecordAgrees (low h c w t m : ℕ) : Type 0 where
   pub wheel : m < slots → Belongs low h c m w
   pub parked : m ≡ parking → Parked h c w
   pub stack : m ≡ expired → w ≡ c
-  pub retired : m ≡ nobody → t ≡ lastTurn
+  pub retired : places ≤ m → (m ≡ retired) × (t ≡ lastTurn)
 
 abbrev pub RecordsAgree : ℕ → ℕ → ℕ → ℕ → List ℕ → List ℕ → List ℕ → Type 0
 RecordsAgree low h c n ds ts ms = (i : ℕ) → i < n → RecordAgrees low h c (at ds i) (at ts i) (at ms i)

@@ -79,8 +79,8 @@ fn is_parked(hand: u16, clock: u64, when: u64) -> bool
     times::next_block(clock, when)
 }
 
-// Whether the turn is in range, and the last one where the mark tells no place, and the deadline obeys the rule of the
-// place.
+// Whether the mark tells a place, the turn is in range, and the last one of a retired record, and the deadline obeys the rule of
+// the place.
 fn record_agrees(low: usize, hand: u16, clock: u64, when: u64, turn: u64, mark: u16) -> bool
     requires { ⌜ low < 6 ⌝ }
     ensures { λ r. ⌜ Tells (RecordAgrees low hand clock when turn mark) r ⌝ }
@@ -100,10 +100,10 @@ fn record_agrees(low: usize, hand: u16, clock: u64, when: u64, turn: u64, mark: 
     if mark == stack::EXPIRED {
         return when == clock;
     }
-    if mark == links::NOBODY {
+    if mark == stack::RETIRED {
         return turn == records::LAST_TURN;
     }
-    true
+    mark == stack::FREE
 }
 
 // Whether this holds of all n records.

@@ -15,9 +15,9 @@ pub record Net : Type 0 where
   pub pv : ℕ → ℕ
   pub mk : ℕ → ℕ
 
--- i is in no list: retired, or on its way from one list to another
-pub record Loose (s : Net) (i : ℕ) : Type 0 where
-  pub mark : s .mk i ≡ nobody
+-- i is in no list, for good or on its way from one to another: its mark is none of the P places, and it has no link
+pub record Loose (P : ℕ) (s : Net) (i : ℕ) : Type 0 where
+  pub mark : P ≤ s .mk i
   pub next : s .nx i ≡ nobody
   pub prev : s .pv i ≡ nobody
 
@@ -35,7 +35,7 @@ pub record Fam (P n : ℕ) (s : Net) (L : ℕ → List ℕ) : Type 0 where
   pub heads : (p : ℕ) → s .hd p ≡ firstD nobody (L p)
   pub segs : (p : ℕ) → Seg (s .nx) (s .pv) (lastD nobody (L p)) (L p) nobody
   pub mems : (p i : ℕ) → Mem i (L p) → Member P n s p i
-  pub cover : (i : ℕ) → i < n → Mem i (L (s .mk i)) ⊎ Loose s i
+  pub cover : (i : ℕ) → i < n → Mem i (L (s .mk i)) ⊎ Loose P s i
 
 -- ---- what a list's head h tells
 

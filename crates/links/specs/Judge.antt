@@ -2,7 +2,7 @@
 -- end must be the number of the loose records.
 use mathlib.Core.Bool.{Bool, false, cond, _&&_}
 use Prim.Native.Nat.{ℕ, zero, suc}
-use lib.Dec.{eqb, ltb}
+use lib.Dec.{eqb, ltb, leb}
 use Rattle.links.specs.declared.Walk.{Walk}
 use Rattle.links.specs.declared.Walk.the-variants.{Wrong, Left}
 use Rattle.links.specs.Lists.{nobody}
@@ -42,22 +42,22 @@ unfoldable pub scanAll : Net → ℕ → ℕ → ℕ → ℕ → Walk
 scanAll s n zero p left = Left left
 scanAll s n (suc k) p left = andThen (scanList (s .nx) (s .pv) (s .mk) n p left (s .hd p)) (λ m. scanAll s n k (suc p) m)
 
--- no mark and no link
-abbrev pub bare : ℕ → ℕ → ℕ → Bool
-bare next prev mark = eqb mark nobody && (eqb next nobody && eqb prev nobody)
+-- the mark is none of P places, and there is no link
+abbrev pub bare : ℕ → ℕ → ℕ → ℕ → Bool
+bare P next prev mark = leb P mark && (eqb next nobody && eqb prev nobody)
 
-abbrev pub isLoose : (ℕ → ℕ) → (ℕ → ℕ) → (ℕ → ℕ) → ℕ → Bool
-isLoose nx pv mk i = bare (nx i) (pv i) (mk i)
+abbrev pub isLoose : ℕ → (ℕ → ℕ) → (ℕ → ℕ) → (ℕ → ℕ) → ℕ → Bool
+isLoose P nx pv mk i = bare P (nx i) (pv i) (mk i)
 
-unfoldable pub looseIn : (ℕ → ℕ) → (ℕ → ℕ) → (ℕ → ℕ) → ℕ → ℕ
-looseIn nx pv mk n = cnt (isLoose nx pv mk) n
+unfoldable pub looseIn : ℕ → (ℕ → ℕ) → (ℕ → ℕ) → (ℕ → ℕ) → ℕ → ℕ
+looseIn P nx pv mk n = cnt (isLoose P nx pv mk) n
 
 -- the same two of the links: the list of p from its head h on, and how many of n records are loose
 abbrev pub walkOf : Links → ℕ → ℕ → ℕ → ℕ → Walk
 walkOf s n p room h = scanList (at (s .nexts)) (at (s .prevs)) (at (s .marks)) n p room h
 
-abbrev pub looseOf : Links → ℕ → ℕ
-looseOf s n = looseIn (at (s .nexts)) (at (s .prevs)) (at (s .marks)) n
+abbrev pub looseOf : ℕ → Links → ℕ → ℕ
+looseOf P s n = looseIn P (at (s .nexts)) (at (s .prevs)) (at (s .marks)) n
 
 -- just so much is left
 abbrev pub leaves : Walk → ℕ → Bool

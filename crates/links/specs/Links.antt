@@ -66,6 +66,10 @@ cutOut s i h =
 unfoldable pub headAfter : Links → ℕ → ℕ → ℕ
 headAfter s i h = headLeft (at (s .nexts)) i h
 
+-- i, which is in no list, gets the mark m
+abbrev pub marked : Links → ℕ → ℕ → Links
+marked s i m = links (s .nexts) (s .prevs) (set (s .marks) i m)
+
 -- n records are there
 pub record Room (n : ℕ) (s : Links) : Type 0 where
   pub nexts : n ≤ length (s .nexts)

@@ -164,11 +164,11 @@ pub fn walk_list(
     Walk::Left(left)
 }
 
-// No mark, no link.
-fn is_loose(next: u16, prev: u16, mark: u16) -> bool
-    ensures { λ r. ⌜ r ≡ bare next prev mark ⌝ }
+// The mark is none of the places, and there is no link.
+fn is_loose(places: u16, next: u16, prev: u16, mark: u16) -> bool
+    ensures { λ r. ⌜ r ≡ bare places next prev mark ⌝ }
 {
-    if mark != NOBODY {
+    if mark < places {
         return false;
     }
     if next != NOBODY {
@@ -178,15 +178,15 @@ fn is_loose(next: u16, prev: u16, mark: u16) -> bool
 }
 
 // How many of n records are loose.
-pub fn count_loose(nexts: &[u16], prevs: &[u16], marks: &[u16], n: u16) -> u16
+pub fn count_loose(nexts: &[u16], prevs: &[u16], marks: &[u16], n: u16, places: u16) -> u16
     requires { ⌜ Room n (lent nexts prevs marks) ⌝ }
-    ensures { λ r. ⌜ r ≡ looseOf (before nexts prevs marks) n ⌝ }
+    ensures { λ r. ⌜ r ≡ looseOf places (before nexts prevs marks) n ⌝ }
 {
     let mut count = 0u16;
     let mut i = 0u16;
     while i < n {
         let k = i as usize;
-        if is_loose(nexts[k], prevs[k], marks[k]) {
+        if is_loose(places, nexts[k], prevs[k], marks[k]) {
             count += 1;
         }
         i += 1;

@@ -114,9 +114,9 @@ fn free(out: &mut [u8], pen: Pen, nexts: &[u16], n: u16, head: u16) -> Pen {
     pen::byte(out, q, b'\n')
 }
 
-// Record i more, if it is retired: it has no place.
+// Record i more, if its mark says that it is retired.
 fn add_retired(out: &mut [u8], pen: Pen, run: Run, marks: &[u16], i: u16) -> Held {
-    if half_at(marks, i, 0) == links::NOBODY {
+    if half_at(marks, i, 0) == stack::RETIRED {
         return add(out, pen, run, i);
     }
     Held { pen, run }

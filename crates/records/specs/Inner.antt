@@ -1,5 +1,5 @@
--- What the functions that place and free one record ask and leave. A record on its way is in no list, as a retired one is: the store is sound but
--- for it.
+-- What the functions that place and free one record ask and leave. A record on its way is in no list, and not retired: the store is sound
+-- but for it.
 use mathlib.Core.Path.{_≡_}
 use mathlib.Core.Logic.{_≢_}
 use mathlib.Core.List.{List}
@@ -8,8 +8,8 @@ use lib.ListN.{length, set}
 use Rattle.times.specs.Times.{block}
 use Rattle.links.specs.Lists.{nobody, change}
 use Rattle.links.specs.Links.{at}
-use Rattle.stack.specs.Places.{free, put}
-use Rattle.wheel.specs.Words.{WheelWords, WheelWhole, Becomes, LooseIn, lists as listsIn}
+use Rattle.stack.specs.Places.{free, retired, put}
+use Rattle.wheel.specs.Words.{WheelWords, WheelWhole, Becomes, LooseIn, lists as listsIn, markOf as markIn}
 use Rattle.records.specs.View.{View}
 use Rattle.records.specs.Records.{lastTurn, Near, target}
 use Rattle.records.specs.Words.{QueueWords, count, view, StandingBut, SoundBut, PastKept}
@@ -59,7 +59,7 @@ pub record CanPlace (t : WheelWords) (ds : List ℕ) (i when : ℕ) : Type 0 whe
 -- ---- freed
 
 pub record LeavesTo (t : WheelWords) (ts : List ℕ) (i : ℕ) (t′ : WheelWords) (ts′ : List ℕ) : Type 0 where
-  pub retired : at ts i ≡ lastTurn → (t′ ≡ t) × (ts′ ≡ ts)
+  pub retired : at ts i ≡ lastTurn → Becomes t (listsIn t) t′ × (markIn t′ i ≡ retired) × (ts′ ≡ ts)
   pub given : at ts i ≢ lastTurn → Becomes t (change (listsIn t) free (put free i (listsIn t free))) t′ × (ts′ ≡ set ts i (at ts i + 1))
 
 pub record CanFree (t : WheelWords) (ts : List ℕ) (i : ℕ) : Type 0 where

@@ -2,10 +2,11 @@
 use mathlib.Core.Path.{_≡_}
 use mathlib.Core.Logic.{_≢_}
 use mathlib.Core.List.{List}
-use Prim.Native.Nat.{ℕ, _*_, _^_, _<_}
+use Prim.Native.Nat.{ℕ, _*_, _^_, _≤_, _<_}
 use Rattle.contracts.specs.Lent.{Lent, Turned, old, new}
 use Rattle.links.specs.Lists.{nobody}
 use Rattle.links.specs.Links.{links, at}
+use Rattle.stack.specs.Places.{places, retired}
 use Rattle.stack.specs.Words.{stackWords}
 use Rattle.links.specs.Whole.{Kept, LinksKept}
 use Rattle.wheel.specs.Wheel.{Rule}
@@ -73,13 +74,13 @@ abbrev pub slices : QueueWords → Slices
 slices s = record { values = s .values; deadlines = s .deadlines; links = s .wheel .stack .links; turns = s .turns }
 
 -- "A store is sound when every record is in exactly one place (free, retired, expired stack or one slot), links agree both ways, occupied bits name
--- exactly the non-empty slots, marks tell the true place, .. and N and turns are in range": all of it but the deadlines. One in no list is retired, and
--- so "At turn 2^48-1": but for `item`, which is on its way from one list to another
+-- exactly the non-empty slots, marks tell the true place, .. and N and turns are in range": all of it but the deadlines. One in no list is retired:
+-- its mark says so, and it is "At turn 2^48-1": but for `item`, which is on its way from one list to another
 pub record StandingBut (item : ℕ) (s : QueueWords) : Type 0 where
   pub fits : Fits (slices s) (count s)
   pub whole : WheelWhole (s .wheel)
   pub turns : (i : ℕ) → i < count s → (0 < at (s .turns) i) × (at (s .turns) i < 2 ^ 48)
-  pub retired : (i : ℕ) → i < count s → i ≢ item → markOf s i ≡ nobody → at (s .turns) i ≡ lastTurn
+  pub retired : (i : ℕ) → i < count s → i ≢ item → places ≤ markOf s i → (markOf s i ≡ retired) × (at (s .turns) i ≡ lastTurn)
 
 -- ".. all pending deadlines obey the rules below": 01's rule between calls, which holds while no poll is in hand
 pub record SoundBut (item : ℕ) (s : QueueWords) : Type 0 where

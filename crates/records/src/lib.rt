@@ -148,6 +148,7 @@ pub fn leave(
 {
     let turn = turns[item as usize];
     if turn == LAST_TURN {
+        marks[item as usize] = stack::RETIRED;
         return;
     }
     turns[item as usize] = turn + 1;

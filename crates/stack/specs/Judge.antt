@@ -30,4 +30,4 @@ pub record WalksLevel (t : StackWords) (k left : ℕ) (w : Walk) (x : ℕ) : Typ
 
 -- what the judge says once the slots are passed
 unfoldable pub rest : StackWords → ℕ → Bool
-rest t left = leaves (from t slots left) (looseOf (t .links) (count t))
+rest t left = leaves (from t slots left) (looseOf places (t .links) (count t))

@@ -1,5 +1,5 @@
 -- The places, as numbers: "every record is in exactly one place (free, retired, expired stack or one slot)", or 02 [12]'s "one parking list". Retired
--- is no list and has no number.
+-- is a place and no list.
 use mathlib.Core.Bool.{cond}
 use mathlib.Core.List.{List, [], _∷_, _++_}
 use Prim.Native.Nat.{ℕ, _+_, _*_, _/_, _%_}
@@ -31,8 +31,13 @@ expired = 385
 abbrev pub free : ℕ
 free = 386
 
+-- so many places have a list
 abbrev pub places : ℕ
 places = 387
+
+-- "marks tell the true place": a retired record has this one, so that none that is in no list for another reason is taken for retired
+abbrev pub retired : ℕ
+retired = 387
 
 -- the greatest height, that of a parked timer, and the most that the heights of all records come to
 abbrev pub topHeight : ℕ

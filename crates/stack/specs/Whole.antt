@@ -4,9 +4,9 @@ use mathlib.Core.List.{List}
 use Prim.Native.Nat.{ℕ}
 use Rattle.links.specs.Lists.{change}
 use Rattle.links.specs.Whole as links
-use Rattle.stack.specs.Places.{places}
+use Rattle.stack.specs.Places.{places, retired}
 use Rattle.stack.specs.Heads.{Shape}
-use Rattle.stack.specs.Words.{StackWords, count, headAt}
+use Rattle.stack.specs.Words.{StackWords, count, headAt, markOf}
 
 -- six rows of 64 heads, and every record is in exactly one list, or loose
 pub record Whole (t : StackWords) : Type 0 where
@@ -17,10 +17,11 @@ pub record Whole (t : StackWords) : Type 0 where
 unfoldable pub lists : StackWords → ℕ → List ℕ
 lists t = links.listsOf (count t) (headAt t) (t .links)
 
--- as many records as before; the words past them, and the lengths, as they were
+-- as many records as before; the words past them, and the lengths, as they were; who was retired is
 pub record StackKept (s t : StackWords) : Type 0 where
   pub size : count t ≡ count s
   pub links : links.LinksKept (count s) (s .links) (t .links)
+  pub retired : (i : ℕ) → markOf s i ≡ retired → markOf t i ≡ retired
 
 -- t is whole, its lists are those of s but for p's, which is l, and words past the records are as they were
 pub record Changes (s : StackWords) (p : ℕ) (l : List ℕ) (t : StackWords) : Type 0 where

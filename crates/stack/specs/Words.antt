@@ -7,9 +7,9 @@ use Prim.Native.Nat.{ℕ, _<_}
 use lib.Dec.{eqb}
 use Rattle.links.specs.Lists.{nobody}
 use Rattle.contracts.specs.Lent.{Lent, Turned, old, new}
-use Rattle.links.specs.Links.{Links, links, at, joined, added, headWith, cutOut, headAfter, CanJoin, CanCut}
+use Rattle.links.specs.Links.{Links, links, at, joined, added, headWith, cutOut, headAfter, marked, CanJoin, CanCut}
 use Rattle.stack.specs.declared.Stacks.{Stacks}
-use Rattle.stack.specs.Places.{slotPlace, free, places}
+use Rattle.stack.specs.Places.{slotPlace, free, places, retired}
 use Rattle.stack.specs.Heads.{headOf, rowsWith, stacksBy, stacksWith, slotHead}
 
 pub record StackWords : Type 0 where
@@ -80,6 +80,10 @@ remove t i = withHead t (markOf t i) (headAfter (t .links) i (headAt t (markOf t
 -- the head of the list of p leaves it, if there is one
 unfoldable pub pop : StackWords → ℕ → StackWords
 pop t p = cond (eqb (headAt t p) nobody) t (remove t (headAt t p))
+
+-- i, which is in no list, is retired
+abbrev pub retire : StackWords → ℕ → StackWords
+retire t i = stackWords (t .stacks) (t .heads) (marked (t .links) i retired)
 
 -- p is a place, and i can come into its list
 abbrev pub CanPush : StackWords → ℕ → ℕ → Type 0

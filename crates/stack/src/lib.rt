@@ -13,7 +13,8 @@ ghost use Rattle.stack.specs.Judge.{WalksLevel, rest};
 ghost use Rattle.stack.specs.Format.{formattedOf};
 
 // A place is a number: slot s of level k is 64 k + s, and the three lists that are no slot follow, so that place / 64 is the height of
-// every timer but an expired one. A record's mark is its place, or nobody.
+// every timer but an expired one. A record's mark is its place, or nobody while it is on its way from one to another.
+// Retired is the last place, and has no list.
 // No other crate knows the numbers: it asks the functions below.
 pub const SLOTS: u16 = 384;
 
@@ -24,6 +25,8 @@ pub const EXPIRED: u16 = 385;
 pub const FREE: u16 = 386;
 
 const PLACES: u16 = 387;
+
+pub const RETIRED: u16 = 387;
 
 // How many records there are, and the heads of the lists that are no slot, as the caller keeps them. Here they are lent as the four
 // words of `tops`. The heads of the slots are six rows of 64.
@@ -284,7 +287,7 @@ pub fn walk_rest(
         left = l;
         place += 1;
     }
-    left == links::count_loose(nexts, prevs, marks, n)
+    left == links::count_loose(nexts, prevs, marks, n, PLACES)
 }
 
 // Every list is empty but the free one, which holds 0, 1, .., n - 1.

@@ -8,6 +8,9 @@ use std::mem;
 
 const NOBODY: u64 = 65535;
 
+/// The mark of a retired record.
+const RETIRED: u16 = 387;
+
 /// Both sides' pending timers, kept from one comparison to the next.
 #[derive(Default)]
 pub struct Contents {
@@ -97,6 +100,10 @@ pub fn parts(ours: &ours::Store) -> Result<Parts, String> {
             return Err(format!("{record} is in two places"));
         }
     }
+    let retired: Vec<usize> = (0..size).filter(|&i| !placed[i]).collect();
+    if let Some(record) = retired.iter().find(|&&i| ours.marks[i] != RETIRED) {
+        return Err(format!("the mark of {record}"));
+    }
     let hand = match [ours.state[10], ours.state[11]] {
         [NOBODY, 0] => None,
         [NOBODY, now] => return Err(format!("nobody in hand at {now}")),
@@ -107,7 +114,7 @@ pub fn parts(ours: &ours::Store) -> Result<Parts, String> {
         elapsed: ours.state[0],
         hand,
         free,
-        retired: (0..size).filter(|&i| !placed[i]).collect(),
+        retired,
         pending: entries.iter().map(|entry| [entry.place, entry.record]).collect(),
         records: (0..size).map(record).collect(),
     })

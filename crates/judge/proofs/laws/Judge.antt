@@ -15,7 +15,7 @@ use Rattle.times.specs.Times.{width, slotOf, startAt, levelOf, block, blockEnd}
 use Rattle.times.proofs.laws.Blocks.{end-later}
 use Rattle.links.specs.Lists.{Mem, nobody, firstD}
 use Rattle.links.specs.Links.{at}
-use Rattle.stack.specs.Places.{slotPlace, slots, parking, expired, levelAt, slotAt}
+use Rattle.stack.specs.Places.{slotPlace, slots, parking, expired, free, places, retired, levelAt, slotAt}
 use Rattle.stack.specs.Words.{headAt}
 use Rattle.stack.specs.Whole as stack
 use Rattle.stack.proofs.laws.Whole as stack-laws
@@ -63,8 +63,12 @@ pub parked-aside : {h c w : ℕ} → h ≢ parking → Tells (Parked h c w) (eqb
 parked-aside {h} {c} {w} n =
     tells-by (tells-eq (block w) (block c + 1)) (λ q. record { aside = λ _. q; inside = λ z. absurd (n z) }) (λ P. P .aside n)
 
+past-free : {m : ℕ} → slots ≤ m → m ≢ parking → m ≢ expired → m ≢ free → places ≤ m
+past-free i p d z = omega arith
+
 module _ {low h c w t m : ℕ} (some : t ≢ 0) (last : t ≤ lastTurn) where
-  agrees : (m < slots → Belongs low h c m w) → (m ≡ parking → Parked h c w) → (m ≡ expired → w ≡ c) → (m ≡ nobody → t ≡ lastTurn)
+  agrees : (m < slots → Belongs low h c m w) → (m ≡ parking → Parked h c w) → (m ≡ expired → w ≡ c)
+      → (places ≤ m → (m ≡ retired) × (t ≡ lastTurn))
       → RecordAgrees low h c w t m
   agrees f p g k = record { some = omega arith; last = omega arith; wheel = f; parked = p; stack = g; retired = k }
 
@@ -81,13 +85,16 @@ module _ {low h c w t m : ℕ} (some : t ≢ 0) (last : t ≤ lastTurn) where
       tells-by (tells-eq w c)
       (λ o. agrees (λ g. absurd (omega arith)) (λ q. absurd (omega arith)) (λ q. o) (λ q. absurd (omega arith))) (λ R. R .stack i)
 
-  pub record-retired : m ≡ nobody → Tells (RecordAgrees low h c w t m) (eqb t lastTurn)
+  pub record-retired : m ≡ retired → Tells (RecordAgrees low h c w t m) (eqb t lastTurn)
   record-retired i =
       tells-by (tells-eq t lastTurn)
-      (λ o. agrees (λ g. absurd (omega arith)) (λ q. absurd (omega arith)) (λ q. absurd (omega arith)) (λ q. o)) (λ R. R .retired i)
+      (λ o. agrees (λ g. absurd (omega arith)) (λ q. absurd (omega arith)) (λ q. absurd (omega arith)) (λ q. (i, o))) (λ R. R .retired (omega arith) .1)
 
-  pub record-aside : slots ≤ m → m ≢ parking → m ≢ expired → m ≢ nobody → RecordAgrees low h c w t m
-  record-aside i p d n = agrees (λ g. absurd (omega arith)) (λ q. absurd (p q)) (λ q. absurd (d q)) (λ q. absurd (n q))
+  pub record-aside : slots ≤ m → m ≢ parking → m ≢ expired → m ≢ retired → Tells (RecordAgrees low h c w t m) (eqb m free)
+  record-aside i p d n =
+      tells-by (tells-eq m free)
+      (λ o. agrees (λ g. absurd (omega arith)) (λ q. absurd (p q)) (λ q. absurd (d q)) (λ q. absurd (omega arith)))
+      (λ R. by-cases (ℕ-discrete m free) (λ z. z) (λ z. absurd (n (R .retired (past-free i p d z) .0))))
 
 pub record-next : {low h c n : ℕ} (ds ts ms : List ℕ) → RecordsAgree low h c n ds ts ms → RecordAgrees low h c (at ds n) (at ts n) (at ms n)
     → RecordsAgree low h c (n + 1) ds ts ms

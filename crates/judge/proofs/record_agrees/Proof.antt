@@ -2,7 +2,7 @@
 use borrow.Author.Needs.{needs}
 use native.Mathlib.Omega.{arith}
 use Rattle.stack.proofs.laws.Asked.{below, past}
-use Rattle.contracts.proofs.laws.Tells.{tells-yes, tells-no}
+use Rattle.contracts.proofs.laws.Tells.{tells-no}
 use Rattle.judge.proofs.laws.Judge.{record-slot, record-parked, record-stack, record-retired, record-aside}
 use Rattle.judge.proofs.record_agrees.Statement.{statement}
 use Rattle.judge.proofs.record_agrees.Tie as tie
@@ -46,9 +46,8 @@ returns-7 : tie.Need-returns-7
 returns-7 c =
     let p = c .before .before in
     let s = p .before .before in
-    tells-yes
-    (record-aside (s .before .before .if1 .left) (s .before .if2 .left) (past (s .is-slot .ensures) (p .before .if3 .left))
-    (p .if4 .left) (c .before .if5 .left) (c .if6 .left))
+    record-aside (s .before .before .if1 .left) (s .before .if2 .left) (past (s .is-slot .ensures) (p .before .if3 .left))
+    (p .if4 .left) (c .before .if5 .left) (c .if6 .left)
 
 pub record-agrees-spec : {M : Type 1} → statement M
 record-agrees-spec =

@@ -11,10 +11,10 @@ use Rattle.links.proofs.count_loose.Statement.{statement}
 use Rattle.links.proofs.count_loose.Tie as tie
 
 abbrev Inv-loop : tie.InvT-loop
-Inv-loop nexts prevs marks n count₀ i₀ count i = (i ≤ n) × (count ≤ i) × (count ≡ looseIn (at nexts) (at prevs) (at marks) i)
+Inv-loop nexts prevs marks n places count₀ i₀ count i = (i ≤ n) × (count ≤ i) × (count ≡ looseIn places (at nexts) (at prevs) (at marks) i)
 
 abbrev μ-loop : tie.MeasureT-loop
-μ-loop nexts prevs marks n count₀ i₀ count i = n - i
+μ-loop nexts prevs marks n places count₀ i₀ count i = n - i
 
 abbrev to-at-loop : tie.After-is-loose Inv-loop μ-loop → tie.At-loop Inv-loop μ-loop
 to-at-loop c =
@@ -25,7 +25,7 @@ abbrev to-start : tie.At-loop Inv-loop μ-loop → tie.Start Inv-loop μ-loop
 to-start c = c .before .before .before .before
 
 loop-holds : tie.Need-loop-holds Inv-loop μ-loop
-loop-holds c = (omega arith, omega arith, sym (loose-zero _ _ _))
+loop-holds c = (omega arith, omega arith, sym (loose-zero _ _ _ _))
 
 cast-k : tie.Need-cast-k Inv-loop μ-loop
 cast-k c = search needs
@@ -68,15 +68,15 @@ loop-again c =
       omega arith,
       omega arith,
       w .1 ∙ ap (λ (x : ℕ). x + 1) (turn .loop .inv .2)
-          ∙ sym (loose-more _ _ _ _ (sym (c .before .is-loose .ensures) ∙ w .0 .taken)),
+          ∙ sym (loose-more _ _ _ _ _ (sym (c .before .is-loose .ensures) ∙ w .0 .taken)),
     ))
-    (λ w. (omega arith, omega arith, w .1 ∙ turn .loop .inv .2 ∙ sym (loose-same _ _ _ _ (sym (c .before .is-loose .ensures) ∙ w .0 .left))))
+    (λ w. (omega arith, omega arith, w .1 ∙ turn .loop .inv .2 ∙ sym (loose-same _ _ _ _ _ (sym (c .before .is-loose .ensures) ∙ w .0 .left))))
     (c .if1 .came)
 
 returns : tie.Need-returns Inv-loop μ-loop
 returns c =
     let e : c .before .loop .i ≡ to-start (c .before) .args .n = omega arith in
-    c .before .loop .inv .2 ∙ ap (looseIn _ _ _) e
+    c .before .loop .inv .2 ∙ ap (looseIn _ _ _ _) e
 
 pub count-loose-spec : {M : Type 1} → statement M
 count-loose-spec =

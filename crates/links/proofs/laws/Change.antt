@@ -21,7 +21,7 @@ pub record Changed (P n : ℕ) (s : Net) (L : ℕ → List ℕ) (p i : ℕ) (l :
   pub only : (q : ℕ) → q ≢ p → Mem i (L q) → ⊥
   pub mems : (j : ℕ) → Mem j l → Member P n t p j
   pub stay : (j : ℕ) → j ≢ i → Mem j (L p) → Mem j l
-  pub self : Mem i (change L p l (t .mk i)) ⊎ Loose t i
+  pub self : Mem i (change L p l (t .mk i)) ⊎ Loose P t i
 
 module _ {P n : ℕ} {s : Net} {L : ℕ → List ℕ} (F : Fam P n s L) {p i : ℕ} {l : List ℕ} {t : Net} (C : Changed P n s L p i l t) where
   heads′ : (q : ℕ) → Dec (q ≡ p) → t .hd q ≡ firstD nobody (change L p l q)
@@ -50,12 +50,12 @@ module _ {P n : ℕ} {s : Net} {L : ℕ → List ℕ} (F : Fam P n s L) {p i : �
   still-in q j d (yes e) m = rw (e, change-same) (C .stay j d (rw e at m))
   still-in q j d (no k) m = rw (change-other L p l q k) m
 
-  still-loose : (j : ℕ) → j < n → j ≢ i → Loose s j → Loose t j
+  still-loose : (j : ℕ) → j < n → j ≢ i → Loose P s j → Loose P t j
   still-loose j hj d o =
       let k = C .kept j (omega (arith, F .small)) d (fam-loose F j (o .mark) p) in
-      record { mark = C .mark j d ∙ o .mark; next = k .0 ∙ o .next; prev = k .1 ∙ o .prev }
+      record { mark = rw (C .mark j d) (o .mark); next = k .0 ∙ o .next; prev = k .1 ∙ o .prev }
 
-  cover′ : (j : ℕ) → j < n → Dec (j ≡ i) → Mem j (change L p l (t .mk j)) ⊎ Loose t j
+  cover′ : (j : ℕ) → j < n → Dec (j ≡ i) → Mem j (change L p l (t .mk j)) ⊎ Loose P t j
   cover′ j hj (yes e) = rw e (C .self)
   cover′ j hj (no d) =
       ⊎-elim

@@ -2,7 +2,7 @@
 use mathlib.Core.Path.{_≡_, refl, sym, ap, _∙_}
 use mathlib.Core.Logic.{_≢_, _⊎_, inl, inr, ⊎-elim}
 use mathlib.Core.List.{List, [], _∷_}
-use Prim.Native.Nat.{ℕ, _<_}
+use Prim.Native.Nat.{ℕ, _≤_, _<_}
 use native.Mathlib.Omega.{arith}
 use borrow.Author.Tests.{eq-eqb, ne-eqb}
 use Rattle.links.specs.Lists.{nobody, Mem, firstD, lastD}
@@ -35,20 +35,20 @@ module _ {P n : ℕ} {s : Net} {L : ℕ → List ℕ} (F : Fam P n s L) where
   pub fam-apart : (p q : ℕ) → q ≢ p → (i : ℕ) → Mem i (L q) → Mem i (L p) → ⊥
   fam-apart p q d i m k = d (sym (F .mems q i m .mark) ∙ F .mems p i k .mark)
 
-  pub fam-loose : (i : ℕ) → s .mk i ≡ nobody → (p : ℕ) → Mem i (L p) → ⊥
-  fam-loose i e p m = let M = F .mems p i m in omega (arith, M .place, M .mark, F .few)
+  pub fam-loose : (i : ℕ) → P ≤ s .mk i → (p : ℕ) → Mem i (L p) → ⊥
+  fam-loose i e p m = let M = F .mems p i m in omega (arith, M .place, M .mark, e)
 
-  -- who has no mark has no link
-  pub fam-bare : (i : ℕ) → i < n → s .mk i ≡ nobody → Loose s i
+  -- whose mark is no place has no link
+  pub fam-bare : (i : ℕ) → i < n → P ≤ s .mk i → Loose P s i
   fam-bare i hi e = ⊎-elim (λ m. absurd (fam-loose i e (s .mk i) m)) (λ o. o) (F .cover i hi)
 
   -- a marked record is in the list of its mark
   pub fam-marked : (i : ℕ) → i < n → s .mk i < P → Mem i (L (s .mk i))
   fam-marked i hi h = by (F .cover i hi)
     where
-      by : Mem i (L (s .mk i)) ⊎ Loose s i → Mem i (L (s .mk i))
+      by : Mem i (L (s .mk i)) ⊎ Loose P s i → Mem i (L (s .mk i))
       by (inl m) = m
-      by (inr l) = absurd (omega (arith, l .mark, F .few))
+      by (inr l) = absurd (omega (arith, l .mark, h))
 
   -- a list by its head
   pub fam-empty : (p : ℕ) → s .hd p ≡ nobody → L p ≡ []

@@ -1,8 +1,9 @@
--- The family fixes the words: two stores with the same lists, and the same words past n records, are equal (`whole-fixed`).
+-- The family fixes the words: two stores with the same lists, the same marks of records in no list and the same words past n records are equal
+-- (`whole-fixed`).
 use mathlib.Core.Path.{_≡_, sym, _∙_}
 use mathlib.Core.Logic.{_⊎_, inl, inr, by-cases}
 use mathlib.Core.List.{List}
-use Prim.Native.Nat.{ℕ, _<_}
+use Prim.Native.Nat.{ℕ, _≤_, _<_}
 use native.Mathlib.Omega.{arith}
 use native.Mathlib.Decide.{decLt}
 use lib.Seq.{ext-getD}
@@ -21,7 +22,8 @@ pub record Same (n : ℕ) (s t : Net) : Type 0 where
   pub prev : (i : ℕ) → i < n → t .pv i ≡ s .pv i
   pub mark : (i : ℕ) → i < n → t .mk i ≡ s .mk i
 
-module _ {P n : ℕ} {s t : Net} {L : ℕ → List ℕ} (F : Fam P n s L) (G : Fam P n t L) where
+module _ {P n : ℕ} {s t : Net} {L : ℕ → List ℕ} (F : Fam P n s L) (G : Fam P n t L)
+    (loose : (i : ℕ) → i < n → P ≤ s .mk i → P ≤ t .mk i → t .mk i ≡ s .mk i) where
   record One (i : ℕ) : Type 0 where
     next : t .nx i ≡ s .nx i
     prev : t .pv i ≡ s .pv i
@@ -30,12 +32,12 @@ module _ {P n : ℕ} {s t : Net} {L : ℕ → List ℕ} (F : Fam P n s L) (G : F
   one : (i : ℕ) → i < n → One i
   one i hi = by (F .cover i hi) (G .cover i hi)
     where
-      by : Mem i (L (s .mk i)) ⊎ Loose s i → Mem i (L (t .mk i)) ⊎ Loose t i → One i
+      by : Mem i (L (s .mk i)) ⊎ Loose P s i → Mem i (L (t .mk i)) ⊎ Loose P t i → One i
       by (inl m) k =
           let q = seg-same (s .nx) (s .pv) (t .nx) (t .pv) (lastD nobody (L (s .mk i))) (L (s .mk i)) nobody (F .segs (s .mk i)) (G .segs (s .mk i)) i m in
           record { next = q .0; prev = q .1; mark = G .mems (s .mk i) i m .mark }
       by (inr o) (inl m) = absurd (fam-loose F i (o .mark) (t .mk i) m)
-      by (inr o) (inr k) = record { next = k .next ∙ sym (o .next); prev = k .prev ∙ sym (o .prev); mark = k .mark ∙ sym (o .mark) }
+      by (inr o) (inr k) = record { next = k .next ∙ sym (o .next); prev = k .prev ∙ sym (o .prev); mark = loose i hi (o .mark) (k .mark) }
 
   pub fam-fixed : Same n s t
   fam-fixed =
@@ -51,10 +53,10 @@ pub words-same : (n : ℕ) (l m : List ℕ) → Kept n l m → ((i : ℕ) → i 
 words-same n l m K e = ext-getD 0 m l (K .size) (λ i h. by-cases (decLt i n) (λ k. e i k) (λ k. K .past i (omega (arith, k))))
 
 pub whole-fixed : {P n : ℕ} {hd hd′ : ℕ → ℕ} {s t : Links} → Whole P n hd s → Whole P n hd′ t → listsOf n hd′ t ≡ listsOf n hd s
-    → LinksKept n s t
+    → LinksKept n s t → ((i : ℕ) → i < n → P ≤ at (s .marks) i → P ≤ at (t .marks) i → at (t .marks) i ≡ at (s .marks) i)
     → ((p : ℕ) → hd′ p ≡ hd p) × (t ≡ s)
-whole-fixed {P} {n} {hd} {hd′} {s} {t} W Y e K =
-    let S = fam-fixed (W .fam) (rw e at (Y .fam)) in (
+whole-fixed {P} {n} {hd} {hd′} {s} {t} W Y e K loose =
+    let S = fam-fixed (W .fam) (rw e at (Y .fam)) loose in (
       S .heads,
       links-eq
           (words-same n (s .nexts) (t .nexts) (K .nexts) (S .next))

@@ -36,7 +36,7 @@ module _ {P n : ℕ} {s : Net} {L : ℕ → List ℕ} (F : Fam P n s L) (p i : �
   i-some = omega (arith, F .small)
 
   not-new : (q y : ℕ) → Mem y (L q) → y ≢ i
-  not-new q y m k = fam-loose F y (ap (s .mk) k ∙ loose) q m
+  not-new q y m k = fam-loose F y (omega (arith, ap (s .mk) k, loose, F .few)) q m
 
   i-out : Mem i (L p) → ⊥
   i-out m = not-new p i m refl
@@ -138,7 +138,7 @@ fam-add {P} {n} {s} {L} F p i {t} W hp hi lo =
     keeps-nx y k = W .next-last .other y (λ z. k (z ∙ tail))
 
     own-next : t .nx i ≡ nobody
-    own-next = keeps-nx i (last-not i nobody (L p) (i-some F p i B hp hi lo) (i-out F p i B hp hi lo)) ∙ fam-bare F i hi lo .next
+    own-next = keeps-nx i (last-not i nobody (L p) (i-some F p i B hp hi lo) (i-out F p i B hp hi lo)) ∙ fam-bare F i hi (omega (arith, lo, F .few)) .next
 
     mem : (j : ℕ) → Mem j (L p) ⊎ Mem j (i ∷ []) → Member P n t p j
     mem j (inl m) = old-mem F p i B hp hi lo j m

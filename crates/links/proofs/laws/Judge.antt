@@ -10,8 +10,8 @@ use native.Mathlib.Nat.{suc-add, zero-add}
 use native.Mathlib.Decide.{ℕ-discrete, decLt}
 use native.Mathlib.Numerals.{add-one}
 use lib.ListN.{length, length-append}
-use lib.Dec.{eqb, ltb}
-use borrow.Author.Tests.{eq-eqb, ne-eqb, eqb-true, lt-ltb, le-ltb, ltb-true}
+use lib.Dec.{eqb, ltb, leb}
+use borrow.Author.Tests.{eq-eqb, ne-eqb, eqb-true, lt-ltb, le-ltb, ltb-true, le-leb, lt-leb, leb-true}
 use Rattle.links.specs.declared.Walk.{Walk}
 use Rattle.links.specs.declared.Walk.the-variants.{Wrong, Left}
 use Rattle.links.specs.Lists.{nobody, Mem, firstD, lastD}
@@ -40,7 +40,7 @@ pub record Listed (s : Net) (n tail p prev h : ℕ) (l : List ℕ) : Type 0 wher
 
 -- P places, n records
 unfoldable pub judge : Net → ℕ → ℕ → Bool
-judge s P n = leaves (scanAll s n P 0 n) (looseIn (s .nx) (s .pv) (s .mk) n)
+judge s P n = leaves (scanAll s n P 0 n) (looseIn P (s .nx) (s .pv) (s .mk) n)
 
 -- ---- Booleans and walks
 
@@ -123,19 +123,19 @@ scan-start nx pv mk n p left h d = rw (ne-eqb h nobody d)
 
 -- ---- laws of the count, in the code's words
 
-module _ (nx pv mk : ℕ → ℕ) where
-  pub loose-zero : looseIn nx pv mk 0 ≡ 0
+module _ (P : ℕ) (nx pv mk : ℕ → ℕ) where
+  pub loose-zero : looseIn P nx pv mk 0 ≡ 0
   unfolding looseIn
   loose-zero = refl
 
-  count-step : (i b : ℕ) → bit (isLoose nx pv mk i) ≡ b → looseIn nx pv mk (i + 1) ≡ looseIn nx pv mk i + b
+  count-step : (i b : ℕ) → bit (isLoose P nx pv mk i) ≡ b → looseIn P nx pv mk (i + 1) ≡ looseIn P nx pv mk i + b
   unfolding looseIn
   count-step i b e = rw (add-one, e)
 
-  pub loose-more : (i : ℕ) → isLoose nx pv mk i ≡ true → looseIn nx pv mk (i + 1) ≡ looseIn nx pv mk i + 1
+  pub loose-more : (i : ℕ) → isLoose P nx pv mk i ≡ true → looseIn P nx pv mk (i + 1) ≡ looseIn P nx pv mk i + 1
   loose-more i e = count-step i 1 (ap bit e)
 
-  pub loose-same : (i : ℕ) → isLoose nx pv mk i ≡ false → looseIn nx pv mk (i + 1) ≡ looseIn nx pv mk i
+  pub loose-same : (i : ℕ) → isLoose P nx pv mk i ≡ false → looseIn P nx pv mk (i + 1) ≡ looseIn P nx pv mk i
   loose-same i e = omega (arith, count-step i 0 (ap bit e))
 
 -- ---- laws of the walk over the places, in the code's words
@@ -293,28 +293,28 @@ module _ (s : Net) (n : ℕ) (hn : n ≤ nobody) where
       rw (e, scan-complete s n (tailOf s p) hn (L p) p (tailOf s p) (s .hd p) (length (cat L k (suc p)) + r) (K p)) (all-complete L k (suc p) r K)
 
   -- a record that is not loose by the test, and one that is
-  abbrev held : ℕ → Bool
-  held i = not (isLoose (s .nx) (s .pv) (s .mk) i)
+  abbrev held : ℕ → ℕ → Bool
+  held P i = not (isLoose P (s .nx) (s .pv) (s .mk) i)
 
-  loose-is : (i : ℕ) → isLoose (s .nx) (s .pv) (s .mk) i ≡ true → Loose s i
-  loose-is i e =
-      let a = and-three (eqb (s .mk i) nobody) (eqb (s .nx i) nobody) (eqb (s .pv i) nobody) e in
+  loose-is : (P i : ℕ) → isLoose P (s .nx) (s .pv) (s .mk) i ≡ true → Loose P s i
+  loose-is P i e =
+      let a = and-three (leb P (s .mk i)) (eqb (s .nx i) nobody) (eqb (s .pv i) nobody) e in
       record {
-        mark = eqb-true (s .mk i) nobody (a .0);
+        mark = leb-true P (s .mk i) (a .0);
         next = eqb-true (s .nx i) nobody (a .1);
         prev = eqb-true (s .pv i) nobody (a .2);
       }
 
-  marked-held : (i : ℕ) → s .mk i ≢ nobody → held i ≡ true
-  marked-held i d = rw (ne-eqb (s .mk i) nobody d)
+  marked-held : (P i : ℕ) → s .mk i < P → held P i ≡ true
+  marked-held P i h = rw (lt-leb P (s .mk i) h)
 
-  loose-held : (i : ℕ) → Loose s i → held i ≡ false
-  loose-held i o = cc
+  loose-held : (P i : ℕ) → Loose P s i → held P i ≡ false
+  loose-held P i o = rw (le-leb P (s .mk i) (o .mark), eq-eqb (s .nx i) nobody (o .next), eq-eqb (s .pv i) nobody (o .prev))
 
   -- the records that are held and the loose ones are all records
-  held-rest : cnt held n + looseIn (s .nx) (s .pv) (s .mk) n ≡ n
+  held-rest : (P : ℕ) → cnt (held P) n + looseIn P (s .nx) (s .pv) (s .mk) n ≡ n
   unfolding looseIn
-  held-rest = omega (arith, cnt-not (isLoose (s .nx) (s .pv) (s .mk)) n)
+  held-rest P = omega (arith, cnt-not (isLoose P (s .nx) (s .pv) (s .mk)) n)
 
   past-list : (p : ℕ) → s .hd p ≡ nobody → lists s n p ≡ []
   unfolding lists
@@ -323,14 +323,14 @@ module _ (s : Net) (n : ℕ) (hn : n ≤ nobody) where
   -- a number that is no place has no head
   module _ (P : ℕ) (few : P ≤ nobody) (past : (p : ℕ) → P ≤ p → s .hd p ≡ nobody) where
     module _ (pass : judge s P n ≡ true) where
-      scanned : scanAll s n P 0 n ≡ Left (looseIn (s .nx) (s .pv) (s .mk) n)
+      scanned : scanAll s n P 0 n ≡ Left (looseIn P (s .nx) (s .pv) (s .mk) n)
       unfolding judge
-      scanned = leaves-is (scanAll s n P 0 n) (looseIn (s .nx) (s .pv) (s .mk) n) pass
+      scanned = leaves-is (scanAll s n P 0 n) (looseIn P (s .nx) (s .pv) (s .mk) n) pass
 
       listed : (q : ℕ) → Lies s n q (lists s n q)
       listed q =
           by-cases (decLt q P)
-          (λ h. all-sound P 0 n (looseIn (s .nx) (s .pv) (s .mk) n) scanned .0 q (omega arith) (omega arith))
+          (λ h. all-sound P 0 n (looseIn P (s .nx) (s .pv) (s .mk) n) scanned .0 q (omega arith) (omega arith))
           (λ h. let e = past q (omega arith) in rw (past-list q e) (listed-none s n (tailOf s q) q (tailOf s q) (s .hd q) e refl))
 
       is-place : (q i : ℕ) → Mem i (lists s n q) → q < P
@@ -349,15 +349,15 @@ module _ (s : Net) (n : ℕ) (hn : n ≤ nobody) where
       no-repeats = cat-nodup (lists s n) (s .mk) P 0 (λ q. listed-nodup (listed q)) (λ q i m. listed q .mems i m .1)
 
       -- as many are in the lists as are held, so whoever is held is in one
-      full : (i : ℕ) → i < n → held i ≡ true → elem i everyone ≡ true
+      full : (i : ℕ) → i < n → held P i ≡ true → elem i everyone ≡ true
       full =
-          cnt-all (λ i. elem i everyone) held n
-          (λ i h m. marked-held i (omega (arith, from i (elem-mem i everyone m) .2)))
+          cnt-all (λ i. elem i everyone) (held P) n
+          (λ i h m. marked-held P i (from i (elem-mem i everyone m) .2))
           (omega (
             arith,
-            all-sound P 0 n (looseIn (s .nx) (s .pv) (s .mk) n) scanned .1,
+            all-sound P 0 n (looseIn P (s .nx) (s .pv) (s .mk) n) scanned .1,
             cnt-elem everyone n no-repeats (λ i m. from i m .0),
-            held-rest,
+            held-rest P,
           ))
 
       pub judge-sound : Fam P n s (lists s n)
@@ -369,23 +369,23 @@ module _ (s : Net) (n : ℕ) (hn : n ≤ nobody) where
             segs = λ q. rw (lies-last s n q (lists s n q) (listed q)) at (listed q .seg);
             mems = λ q i m. let k = listed q .mems i m in record { place = is-place q i m; below = k .0; mark = k .1 };
             cover = λ i hi.
-                by-cases (Bool-discrete (isLoose (s .nx) (s .pv) (s .mk) i) true)
-                (λ e. inr (loose-is i e))
+                by-cases (Bool-discrete (isLoose P (s .nx) (s .pv) (s .mk) i) true)
+                (λ e. inr (loose-is P i e))
                 (λ d. inl (from i (elem-mem i everyone (full i hi (ap not (not-is _ d)))) .1));
           }
 
   module _ {P : ℕ} {L : ℕ → List ℕ} (F : Fam P n s L) where
-    same-test : (i : ℕ) → i < n → elem i (cat L P 0) ≡ held i
+    same-test : (i : ℕ) → i < n → elem i (cat L P 0) ≡ held P i
     same-test i h = by (F .cover i h)
       where
-        by : Mem i (L (s .mk i)) ⊎ Loose s i → elem i (cat L P 0) ≡ held i
+        by : Mem i (L (s .mk i)) ⊎ Loose P s i → elem i (cat L P 0) ≡ held P i
         by (inl m) =
             let q = F .mems (s .mk i) i m .place in
             mem-elem i (cat L P 0) (cat-mem L P 0 (s .mk i) i (omega arith) (omega arith) m)
-            ∙ sym (marked-held i (omega arith))
+            ∙ sym (marked-held P i q)
         by (inr o) =
             not-is (elem i (cat L P 0)) (λ e. let r = mem-cat L P 0 i (elem-mem i (cat L P 0) e) in fam-loose F i (o .mark) (r .0) (r .3))
-            ∙ sym (loose-held i o)
+            ∙ sym (loose-held P i o)
 
     -- the lists in a row repeat nothing, and hold records only
     all-nodup : Nodup (cat L P 0)
@@ -413,9 +413,9 @@ module _ (s : Net) (n : ℕ) (hn : n ≤ nobody) where
     unfolding judge
     judge-complete =
         let c : List ℕ = cat L P 0 in
-        let k : ℕ = looseIn (s .nx) (s .pv) (s .mk) n in
+        let k : ℕ = looseIn P (s .nx) (s .pv) (s .mk) n in
         let total : length c + k ≡ n
-        = omega (arith, cnt-elem c n all-nodup all-below, cnt-ext (λ i. elem i c) held n same-test, held-rest) in
+        = omega (arith, cnt-elem c n all-nodup all-below, cnt-ext (λ i. elem i c) (held P) n same-test, held-rest P) in
         let w : scanAll s n P 0 n ≡ Left k
         = ap (scanAll s n P 0) (sym total)
         ∙ all-complete L P 0 k fam-lies in

@@ -199,7 +199,7 @@ module _ {P n : ℕ} {s : Net} {L : ℕ → List ℕ} (F : Fam P n s L) (i : ℕ
         only = λ q d m. fam-apart F (s .mk i) q d i m (in-right i (inl refl));
         mems = λ j m. new-mem j (mem-app j a b m);
         stay = λ j d m. shrunk j d (mem-app j a (i ∷ b) (rw split at m));
-        self = inr (record { mark = D .mark .same; next = D .next-own .same; prev = D .prev-own .same });
+        self = inr (record { mark = rw (D .mark .same) (F .few); next = D .next-own .same; prev = D .prev-own .same });
       })
 
 -- i goes from the list of its mark, and every other list stays

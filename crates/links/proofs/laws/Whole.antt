@@ -1,7 +1,7 @@
 -- Words that hold a family of lists (`Whole`), and what `joined`, `added` and `cutOut` make of them: one list changes, every other stays, the family is
 -- whole.
 use mathlib.Core.Path.{_≡_, refl, _∙_}
-use mathlib.Core.Logic.{_≢_, _⊎_, inl, inr, by-cases}
+use mathlib.Core.Logic.{_≢_, _⊎_, inl, inr, ⊎-elim, by-cases}
 use mathlib.Core.List.{List, [], _∷_, _++_}
 use mathlib.Core.Bool.{true}
 use Prim.Native.Nat.{ℕ, _≤_, _<_}
@@ -14,13 +14,13 @@ use Rattle.links.specs.Lists.{nobody, Mem, lastD, without, change}
 use Rattle.links.proofs.laws.Lists.{mem-first}
 use Rattle.links.proofs.laws.Segments.{seg-next}
 use Rattle.links.specs.Family.{Fam, tailOr, linkBefore, linkAfter}
-use Rattle.links.proofs.laws.Family.{Upd, Put, fam-marked, fam-before}
+use Rattle.links.proofs.laws.Family.{Upd, Put, fam-loose, fam-bare, fam-marked, fam-before}
 use Rattle.links.proofs.laws.Insert.{Between, fam-push, fam-add}
 use Rattle.links.proofs.laws.Remove.{fam-unlink}
 use Rattle.links.specs.Walk.{lists}
 use Rattle.links.proofs.laws.Walk.{fam-lists}
 use Rattle.links.proofs.laws.Judge.{judge, judge-sound, judge-complete}
-use Rattle.links.specs.Links.{Links, at, net, setN, between, joined, added, headWith, cutOut, headAfter, Room, Inside, CanJoin, CanCut}
+use Rattle.links.specs.Links.{Links, at, net, setN, between, joined, added, headWith, cutOut, headAfter, marked, Room, Inside, CanJoin, CanCut}
 use Rattle.links.specs.Whole.{listsOf, Whole, Kept, LinksKept}
 
 -- t with the heads hd′ is whole, its lists are those of s but for p's, which is l, and words past n records are as they were
@@ -248,6 +248,56 @@ module _ {P n : ℕ} {hd : ℕ → ℕ} {s : Links} (W : Whole P n hd s) where
           mark = upd-set (s .marks) i nobody (C .mark);
         })
         hi hp)
+
+-- ---- a record in no list gets another mark that is no place
+
+pub mark-law : {P n : ℕ} {hd : ℕ → ℕ} {s : Links} → Whole P n hd s → (i m : ℕ) → i < n → P ≤ at (s .marks) i → P ≤ m
+    → Whole P n hd (marked s i m) × (listsOf n hd (marked s i m) ≡ listsOf n hd s) × LinksKept n s (marked s i m)
+unfolding lists
+mark-law {P} {n} {hd} {s} W i m hi lo hm =
+    let F = W .fam in
+    let U = upd-set (s .marks) i m (omega arith) in
+    let K : LinksKept n s (marked s i m)
+    = record { nexts = kept-refl n (s .nexts); prevs = kept-refl n (s .prevs); marks = kept-set n (s .marks) i m hi } in
+    let other : (j p : ℕ) → Mem j (listsOf n hd s p) → j ≢ i = λ j p k (e : j ≡ i). fam-loose F j (rw e lo) p k in (
+      record {
+        room = room-kept (W .room) K;
+        fam = record {
+          few = F .few;
+          small = F .small;
+          heads = F .heads;
+          segs = F .segs;
+          mems = λ p j k.
+              let M = F .mems p j k in record { place = M .place; below = M .below; mark = U .other j (other j p k) ∙ M .mark };
+          cover = λ j h. by-cases (ℕ-discrete j i)
+              (λ (e : j ≡ i).
+              let o = fam-bare F i hi lo in
+              rw e (inr (record { mark = rw (U .same) hm; next = o .next; prev = o .prev })))
+              (λ d.
+              ⊎-elim
+              (λ k. inl (rw (U .other j d) k))
+              (λ o. inr (record { mark = rw (U .other j d) (o .mark); next = o .next; prev = o .prev }))
+              (F .cover j h));
+        };
+      },
+      refl,
+      K,
+    )
+
+-- ---- the marks of each
+
+module _ (s : Links) (p i h : ℕ) where
+  pub joined-marks : joined s p i h .marks ≡ set (s .marks) i p
+  unfolding joined
+  joined-marks = refl
+
+  pub added-marks : added s p i h .marks ≡ set (s .marks) i p
+  unfolding added
+  added-marks = refl
+
+pub cut-marks : (s : Links) (i h : ℕ) → cutOut s i h .marks ≡ set (s .marks) i nobody
+unfolding cutOut
+cut-marks s i h = refl
 
 -- ---- the mark of one that was cut out
 

@@ -62,7 +62,7 @@ fam-agree {P} {n} {s} {t} {L} K F =
       cover = λ i h.
           ⊎-elim
           (λ m. inl (subst (λ q. Mem i (L q)) (sym (K .mark i h)) m))
-          (λ o. inr (record { mark = K .mark i h ∙ o .mark; next = K .next i h ∙ o .next; prev = K .prev i h ∙ o .prev }))
+          (λ o. inr (record { mark = rw (K .mark i h) (o .mark); next = K .next i h ∙ o .next; prev = K .prev i h ∙ o .prev }))
           (F .cover i h);
     }
 
@@ -181,7 +181,8 @@ module _ {s t : QueueWords} (A : Alike s t) where
               rows = rw over-lists (W .rows);
             };
             turns = λ i h. rw (turns .same i h) (T .turns i h);
-            retired = λ i h d m. turns .same i h ∙ T .retired i h d (sym (marks .same i h) ∙ m);
+            retired = λ i h d m.
+                let r = T .retired i h d (omega (arith, m, marks .same i h)) in (marks .same i h ∙ r .0, turns .same i h ∙ r .1);
           };
           rule = rw over-lists (obeys-agree (λ p x m. deadlines .same x (stack-laws.member-below (W .stack) p x m)) (S .rule));
           no-now = S .no-now;

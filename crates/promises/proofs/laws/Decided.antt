@@ -11,7 +11,7 @@ use Rattle.times.specs.Times.{width, slotOf, levelOf, block}
 use Rattle.row.specs.Row.{rowOf}
 use Rattle.links.specs.Lists.{nobody}
 use Rattle.links.specs.Links.{at}
-use Rattle.stack.specs.Places.{slotPlace, slots, parking, expired, levelAt}
+use Rattle.stack.specs.Places.{slotPlace, slots, parking, expired, places, retired, levelAt}
 use Rattle.stack.specs.Words.{headAt}
 use Rattle.stack.specs.Heads.{Shape}
 use Rattle.stack.proofs.laws.Words.{judged}
@@ -117,7 +117,7 @@ agrees-dec low h c w t m =
     (Dec·and (Dec·and (decLt 0 t) (decLt t (2 ^ 48)))
     (Dec·and (implies-dec (decLt m slots) (belongs-dec low h c m w))
     (Dec·and (implies-dec (ℕ-discrete m parking) (parked-dec h c w))
-    (Dec·and (implies-dec (ℕ-discrete m expired) (ℕ-discrete w c)) (implies-dec (ℕ-discrete m nobody) (ℕ-discrete t lastTurn))))))
+    (Dec·and (implies-dec (ℕ-discrete m expired) (ℕ-discrete w c)) (implies-dec (decLe places m) (Dec·and (ℕ-discrete m retired) (ℕ-discrete t lastTurn)))))))
     (λ x.
     record {
       some = x .0 .0;

@@ -133,7 +133,7 @@ leave-met {t} {i} C =
 free-met : {t : WheelWords} {ts : List ℕ} {i : ℕ} → CanFree t ts i → (u : WheelWords) × (ts′ : List ℕ) × LeavesTo t ts i u ts′
 free-met {t} {ts} {i} C =
     by-cases (ℕ-discrete (at ts i) lastTurn)
-    (λ z. (t, ts, freed-last C z))
+    (λ z. (_, ts, freed-last C z))
     (λ z. (_, _, freed-given C z (push-aside (free-push C) refl)))
 
 -- ---- insert, reset, remove

@@ -4,7 +4,7 @@ use mathlib.Core.Path.{_≡_, refl, sym, ap, _∙_, subst, fun-ext}
 use mathlib.Core.Logic.{_↔_, inl, by-cases}
 use mathlib.Core.List.{List, [], _∷_, _++_, append-nil}
 use mathlib.Core.Option.{Option, none, some}
-use Prim.Native.Nat.{ℕ, zero, suc, _-_, _<_}
+use Prim.Native.Nat.{ℕ, zero, suc, _-_, _≤_, _<_}
 use native.Mathlib.Omega.{arith}
 use native.Mathlib.Decide.{ℕ-discrete}
 use Rattle.row.specs.Row.{rowOf}
@@ -13,11 +13,10 @@ use Rattle.times.proofs.laws.Quotients.{slot-lt}
 use Rattle.links.specs.Lists.{nobody, Mem, without, change}
 use Rattle.links.proofs.laws.Lists.{Nodup, nodup-apart, mem-right, without-split, change-same, change-other}
 use Rattle.links.specs.Links.{at}
-use Rattle.links.specs.Whole as links
 use Rattle.links.proofs.laws.Whole as links-laws
 use Rattle.stack.specs.Places.{slotPlace, slots, expired, free, places, put, levelAt}
 use Rattle.stack.proofs.laws.Places.{put-tail}
-use Rattle.stack.proofs.laws.Heads.{upd-head, count-with, shape-with}
+use Rattle.stack.proofs.laws.Heads.{upd-head}
 use Rattle.stack.specs.Words.{StackWords, count as countIn, headAt, markOf as markIn, toHead, remove}
 use Rattle.stack.specs.Whole as stack
 use Rattle.stack.specs.Whole.{Whole, lists, StackKept, Changes}
@@ -47,27 +46,18 @@ use Rattle.promises.proofs.laws.Masked.{arrive-from}
 to-head : {t : StackWords} → Whole t → (p i : ℕ) → p < places → i < countIn t → markIn t i ≡ nobody → Changes t p (i ∷ lists t p) (toHead t p i)
 unfolding lists
 to-head {t} W p i hp hi lo =
-    let u = toHead t p i in
-    let e : countIn u ≡ countIn t = count-with (t .stacks) p i in
-    let C = links-laws.join-law (W .held) p i hp hi lo (upd-head (t .heads) (W .shape) (t .stacks) p i hp) in
-    record {
-      whole = record {
-        shape = shape-with (t .heads) (W .shape) p i;
-        held = subst (λ n. links.Whole places n (headAt u) (u .links)) (sym e) (C .whole);
-      };
-      lists = ap (λ n. links.listsOf n (headAt u) (u .links)) e ∙ C .lists;
-      kept = record { size = e; links = C .kept };
-    }
+    stack-laws.changed W p i (stack-laws.still W i p (links-laws.joined-marks (t .links) p i (headAt t p)) (omega (arith, lo)))
+    (links-laws.join-law (W .held) p i hp hi lo (upd-head (t .heads) (W .shape) (t .stacks) p i hp))
 
 -- ---- the words before a poll
 
--- words with the lists L, that t has come from: as many records, the words past them, and who is in no list
+-- words with the lists L, that t has come from: as many records, the words past them, who is retired, and who is in no list
 record Undone (t : StackWords) (L : Lists) : Type 0 where
   words : StackWords
   whole : Whole words
   is : lists words ≡ L
   kept : StackKept t words
-  loose : (i : ℕ) → i < countIn t → markIn words i ≡ nobody → markIn t i ≡ nobody
+  loose : (i : ℕ) → i < countIn t → places ≤ markIn words i → places ≤ markIn t i
 
 -- one move back: x was the head of p, and is the last of its slot one level down
 move-back : {t : StackWords} {p x : ℕ} (w : ℕ) {l : List ℕ} {L : Lists} → p < expired → L p ≡ x ∷ l
@@ -169,7 +159,8 @@ module _ {s : QueueWords} (S : Sound s) (D : MidPoll s) where
           fits = omega (arith, n, undone .kept .links .nexts .size, undone .kept .links .prevs .size, undone .kept .links .marks .size, T .fits);
           whole = record { stack = undone .whole; rows = rw (undone .is) (rows-for (comes .lists)) };
           turns = λ i h. T .turns i (rw (← n) h);
-          retired = λ i h d z. T .retired i (rw (← n) h) d (undone .loose i (rw (← n) h) z);
+          retired = λ i h d z.
+              let r = T .retired i (rw (← n) h) d (undone .loose i (rw (← n) h) z) in (undone .kept .retired i (r .0), r .1);
         };
         rule = record { free = λ _. rw (undone .is) (comes .rule); inside = λ d. absurd (d refl) };
         no-now = λ _. refl;

@@ -1,6 +1,6 @@
 -- One record at a time: taken from the free list, given a value and a period, placed, unlinked, freed. Each takes a sound store to a sound store, and its view to what
 -- document 01 makes of it; unlinked and freed also where the store only stands. A record on its way is in no
--- list, as a retired one is: the store stands, and is sound, but for it.
+-- list, and not retired: the store stands, and is sound, but for it.
 use mathlib.Core.Path.{_≡_, refl, sym, ap, _∙_, subst}
 use mathlib.Core.Logic.{_≢_, inl, inr, ⊎-elim, by-cases}
 use mathlib.Core.List.{List, [], _∷_}
@@ -18,20 +18,21 @@ use Rattle.links.proofs.laws.Lists.{change-same, change-other}
 use Rattle.links.specs.Links.{at}
 use Rattle.links.specs.Whole.{Kept}
 use Rattle.links.proofs.laws.Whole.{kept-refl, kept-trans, kept-set}
-use Rattle.stack.specs.Places.{slots, parking, expired, free, put}
+use Rattle.stack.specs.Places.{slots, parking, expired, free, places, retired, put}
+use Rattle.stack.specs.Words.{StackWords, markOf as markAt, retire}
 use Rattle.stack.specs.Whole as stack
 use Rattle.stack.proofs.laws.Whole as stack-laws
 use Rattle.wheel.specs.Wheel.{Lists, placeFor, OnWheel, Rule, arrive}
 use Rattle.wheel.proofs.laws.Sums.{mem-kept, put-mem, mem-joined}
 use Rattle.wheel.proofs.laws.Between.{rule-less}
-use Rattle.wheel.specs.Words.{WheelWords, WheelWhole, Becomes, CanPush, CanLeave, Leaves, lists as listsIn, markOf as markIn}
+use Rattle.wheel.specs.Words.{WheelWords, wheelWords, WheelWhole, Becomes, CanPush, CanLeave, Leaves, lists as listsIn, markOf as markIn}
 use Rattle.wheel.specs.Turns.{CanInsert}
 use Rattle.records.specs.View.{View, viewOf, withElapsed, withLists, withValue, withPeriod, withHand, upd}
 use Rattle.records.proofs.laws.View.{view-eq}
 use Rattle.records.specs.Slices.{valueAt, periodAt}
 use Rattle.records.specs.Records.{lastTurn, At, Near, taken, left, target, placed, freed}
 use Rattle.records.specs.Words.{QueueWords, queueWords, holding, count, elapsed, markOf, view, StandingBut, Standing, SoundBut, AtRest, Sound}
-use Rattle.records.proofs.laws.Words.{past-refl, upd-same, upd-other, at-set, given, given-value, given-period}
+use Rattle.records.proofs.laws.Words.{upd-same, upd-other, at-set, given, given-value, given-period}
 use Rattle.records.specs.Inner.{StandsBut, Stands, GoesBut, Goes, LooseAt, HasSlot, PlacesTo, CanPlace, LeavesTo, CanFree}
 
 pub with-rule : {item : ℕ} {s s′ : QueueWords} {v : View} → StandsBut item s v s′ → Rule (v .deadline) (v .elapsed) (v .lists)
@@ -52,23 +53,26 @@ rests S z = record { standing = S .standing; rule = S .rule .free z }
 pub sounds : {s : QueueWords} → SoundBut nobody s → AtRest s → s .until ≡ 0 → Sound s
 sounds S z u = record { standing = S .standing; rule = record { free = λ _. S .rule; inside = λ d. absurd (d z) }; no-now = λ _. u }
 
-unmarked-out : {t : WheelWords} → WheelWhole t → (i : ℕ) → markIn t i ≡ nobody → (p : ℕ) → Mem i (listsIn t p) → ⊥
-unmarked-out W i z p m = omega (arith, stack-laws.member-mark (W .stack) p i m, stack-laws.member-place (W .stack) p i m)
+-- whose mark is no list's is in none
+pub unmarked-out : {t : WheelWords} → WheelWhole t → (i : ℕ) → places ≤ markIn t i → (p : ℕ) → Mem i (listsIn t p) → ⊥
+unmarked-out W i z p m = omega (arith, z, stack-laws.member-mark (W .stack) p i m, stack-laws.member-place (W .stack) p i m)
 
 pub loose-out : {j : ℕ} {s : QueueWords} → StandingBut j s → {i : ℕ} → LooseAt s i → (p : ℕ) → Mem i (view s .lists p) → ⊥
-loose-out S {i} o = unmarked-out (S .whole) i (o .loose)
+loose-out S {i} o = unmarked-out (S .whole) i (omega (arith, o .loose))
 
 -- ---- who is retired, by the lists
 
--- who is in no list of L has the last turn, but for item
-abbrev RetiredBut : ℕ → ℕ → Lists → (ℕ → ℕ) → Type 0
-RetiredBut item n L k = (i : ℕ) → i < n → i ≢ item → ((p : ℕ) → Mem i (L p) → ⊥) → k i ≡ lastTurn
+-- who is in no list of L has the mark of a retired one and the last turn, but for item; m are the marks, k the turns
+abbrev RetiredBut : ℕ → ℕ → Lists → (ℕ → ℕ) → (ℕ → ℕ) → Type 0
+RetiredBut item n L m k = (i : ℕ) → i < n → i ≢ item → ((p : ℕ) → Mem i (L p) → ⊥) → (m i ≡ retired) × (k i ≡ lastTurn)
 
-retired-but : {j : ℕ} {s : QueueWords} → StandingBut j s → RetiredBut j (count s) (view s .lists) (view s .turn)
-retired-but S i h d out = S .retired i h d (stack-laws.unlisted-mark (S .whole .stack) i h out)
+-- t keeps who is retired
+retired-but : {j : ℕ} {s : QueueWords} → StandingBut j s → {t : StackWords} → stack.StackKept (s .wheel .stack) t
+    → RetiredBut j (count s) (view s .lists) (markAt t) (view s .turn)
+retired-but S K i h d out = let r = S .retired i h d (stack-laws.unlisted-mark (S .whole .stack) i h out) in (K .retired i (r .0), r .1)
 
 -- no record has nobody's number: all that are in no list are retired
-pub sound-retired : {s : QueueWords} → Sound s → (i : ℕ) → i < count s → markOf s i ≡ nobody → at (s .turns) i ≡ lastTurn
+pub sound-retired : {s : QueueWords} → Sound s → (i : ℕ) → i < count s → places ≤ markOf s i → (markOf s i ≡ retired) × (at (s .turns) i ≡ lastTurn)
 sound-retired S i h m = S .standing .retired i h (omega arith) m
 
 -- who is in a list of L is in one of M, but for item
@@ -89,7 +93,7 @@ stands : {j : ℕ} {s : QueueWords} → StandingBut j s → {e : ℕ} {L : Lists
     → t .elapsed ≡ e → listsIn t ≡ L → {vs ds ts : List ℕ} → Kept (2 * count s) (s .values) vs
     → Kept (count s) (s .deadlines) ds → Kept (count s) (s .turns) ts → {v p d k : ℕ → ℕ}
     → valueAt vs ≡ v → periodAt vs ≡ p → at ds ≡ d → at ts ≡ k
-    → ((i : ℕ) → i < count s → (0 < k i) × (k i < 2 ^ 48)) → {item : ℕ} → RetiredBut item (count s) L k
+    → ((i : ℕ) → i < count s → (0 < k i) × (k i < 2 ^ 48)) → {item : ℕ} → RetiredBut item (count s) L (markIn t) k
     → StandsBut item s (viewOf (count s) e L v p d k (s .hand) (s .until)) (queueWords t vs ds ts (s .hand) (s .until))
 stands S W K ee el vals dues terms ev ep ed et turns retired =
     record {
@@ -101,7 +105,7 @@ stands S W K ee el vals dues terms ev ep ed et turns retired =
         };
         whole = W;
         turns = λ i h. rw (ap (λ f. f i) et) (turns i (omega arith));
-        retired = λ i h d z. rw (ap (λ f. f i) et) (retired i (omega arith) d (rw el at (unmarked-out W i z)));
+        retired = λ i h d z. let r = retired i (omega arith) d (rw el at (unmarked-out W i z)) in (r .0, rw (ap (λ f. f i) et) (r .1));
       };
       view = view-eq (K .size) ee el ev ep ed et;
       size = K .size;
@@ -117,7 +121,7 @@ module _ {s : QueueWords} (S : Standing s) {t : WheelWords} where
       → listsIn t ≡ L → StayBut item (view s .lists) L → StandsBut item s (withElapsed e (withLists L (view s))) (shifted s t)
   stands-wheel W K ee el stay =
       stands S W K ee el (kept-refl _ _) (kept-refl _ _) (kept-refl _ _) refl refl refl refl (S .turns)
-      (λ i h d out. retired-but S i h (omega arith) (λ p m. let r = stay p i m d in out (r .0) (r .1)))
+      (λ i h d out. retired-but S K i h (omega arith) (λ p m. let r = stay p i m d in out (r .0) (r .1)))
 
   -- its lists alone
   pub stands-lists : {item : ℕ} {L : Lists} → Becomes (s .wheel) L t → StayBut item (view s .lists) L
@@ -168,7 +172,7 @@ goes-given {s = s} S i x y h =
     (stands T (T .whole) (stack-laws.kept-refl (s .wheel .stack)) refl refl
     (kept-trans (kept-set n (s .values) (2 * i) x (omega arith)) (kept-set n (set (s .values) (2 * i) x) (2 * i + 1) y (omega arith)))
     (kept-refl _ _) (kept-refl _ _) (given-value (s .values) i x y room) (given-period (s .values) i x y room) refl refl
-    (T .turns) (retired-but T))
+    (T .turns) (retired-but T (stack-laws.kept-refl (s .wheel .stack))))
     (S .rule)
 
 -- ---- unlinked from the list of p
@@ -315,13 +319,14 @@ rule-placed {d} {e} {L} R x w out late near =
     }
 
 -- i comes into a list: who is in none now was in none before it, and is not i
-come-retired : {i : ℕ} {s : QueueWords} → StandingBut i s → (p : ℕ)
+come-retired : {i : ℕ} {s : QueueWords} → StandingBut i s → {t : StackWords} → stack.StackKept (s .wheel .stack) t → (p : ℕ)
     → (x : ℕ) → x < count s → ((q : ℕ) → Mem x (change (view s .lists) p (put p i (view s .lists p)) q) → ⊥)
-    → (x ≢ i) × (view s .turn x ≡ lastTurn)
-come-retired {i} {s} S p x h out =
+    → (x ≢ i) × (markAt t x ≡ retired) × (view s .turn x ≡ lastTurn)
+come-retired {i} {s} S K p x h out =
     let L = view s .lists in
     let d : x ≢ i = λ e. out p (rw change-same (put-mem p i x (L p) (inl e))) in
-    (d, retired-but S x h d (λ q m. out q (mem-kept L p _ q x (λ k. put-mem p i x (L p) (inr k)) m)))
+    let r = retired-but S K x h d (λ q m. out q (mem-kept L p _ q x (λ k. put-mem p i x (L p) (inr k)) m)) in
+    (d, r .0, r .1)
 
 pub goes-placed : {s : QueueWords} {i : ℕ} (S : SoundBut i s) → LooseAt s i → (when : ℕ) → Near (elapsed s) when → {t : WheelWords} {ds : List ℕ}
     → PlacesTo (s .wheel) (s .deadlines) i when t ds → Goes s (placed i when (view s)) (queueWords t (s .values) ds (s .turns) (s .hand) (s .until))
@@ -338,20 +343,11 @@ goes-placed {s} {i} S o when near P =
     with-rule
     (stands T (B .whole) (B .kept) (B .elapsed) (B .lists) (kept-refl _ _)
     (rw (P .deadlines) (kept-set (count s) (s .deadlines) i w (o .below))) (kept-refl _ _)
-    refl refl (ap at (P .deadlines) ∙ at-set (s .deadlines) i w (omega arith)) refl (T .turns) (λ x h d out. come-retired T p x h out .1))
+    refl refl (ap at (P .deadlines) ∙ at-set (s .deadlines) i w (omega arith)) refl (T .turns)
+    (λ x h d out. let r = come-retired T (B .kept) p x h out in (r .1, r .2)))
     R
 
 -- ---- freed
-
--- at the last turn it stays where it is: no other is on its way
-none-but : {s : QueueWords} {i : ℕ} → StandingBut i s → at (s .turns) i ≡ lastTurn → Standing s
-none-but {s} {i} S z =
-    record {
-      fits = S .fits;
-      whole = S .whole;
-      turns = S .turns;
-      retired = λ j h d m. by-cases (ℕ-discrete j i) (λ (e : j ≡ i). rw e z) (λ n. S .retired j h n m);
-    }
 
 pub stands-freed : {s : QueueWords} {i : ℕ} (S : StandingBut i s) → LooseAt s i → {t : WheelWords} {ts : List ℕ}
     → LeavesTo (s .wheel) (s .turns) i t ts
@@ -361,9 +357,10 @@ stands-freed {s} {i} S o {t} {ts} P =
     by-cases (ℕ-discrete (at (s .turns) i) lastTurn)
     (λ z.
     let r = P .retired z in
-    let e : queueWords t (s .values) (s .deadlines) ts (s .hand) (s .until) ≡ s
-    = λ j. queueWords (r .0 j) (s .values) (s .deadlines) (r .1 j) (s .hand) (s .until) in
-    rw (eq-eqb (at (s .turns) i) lastTurn z) (rw e (record { standing = none-but S z; view = refl; size = refl; kept = past-refl (count s) s })))
+    rw (eq-eqb (at (s .turns) i) lastTurn z)
+    (stands S (r .0 .whole) (r .0 .kept) (r .0 .elapsed) (r .0 .lists) (kept-refl _ _) (kept-refl _ _) (rw (r .2) (kept-refl _ _))
+    refl refl refl (ap at (r .2)) (S .turns)
+    (λ j g d out. by-cases (ℕ-discrete j i) (λ (q : j ≡ i). rw q (r .1, z)) (λ q. retired-but S (r .0 .kept) j g q out))))
     (λ z.
     let r = P .given z in
     let x : ℕ = at (s .turns) i + 1 in
@@ -375,7 +372,7 @@ stands-freed {s} {i} S o {t} {ts} P =
     by-cases (ℕ-discrete j i)
     (λ (q : j ≡ i). rw (q, upd-same) (omega (arith, S .turns i (o .below))))
     (λ q. rw (upd-other (at (s .turns)) i x j q) (S .turns j g)))
-    (λ j g d out. let r = come-retired S free j g out in upd-other (at (s .turns)) i x j (r .0) ∙ r .1)))
+    (λ j g d out. let o = come-retired S (r .0 .kept) free j g out in (o .1, upd-other (at (s .turns)) i x j (o .0) ∙ o .2))))
 
 -- who is freed leaves the lists of timers as they are
 rule-freed : (v : View) → Rule (v .deadline) (v .elapsed) (v .lists) → (i : ℕ) → let u = freed i v in
@@ -395,8 +392,17 @@ module _ {t : WheelWords} {ts : List ℕ} {i : ℕ} (C : CanFree t ts i) where
   pub free-push : CanPush t free i
   free-push = record { whole = C .whole; aside = omega arith; place = omega arith; item = C .item }
 
-  pub freed-last : at ts i ≡ lastTurn → LeavesTo t ts i t ts
-  freed-last z = record { retired = λ e. (refl, refl); given = λ d. absurd (d z) }
+  pub freed-last : at ts i ≡ lastTurn → LeavesTo t ts i (wheelWords (t .elapsed) (t .occupied) (retire (t .stack) i)) ts
+  freed-last z =
+      let R = stack-laws.retire-law (C .whole .stack) i (C .item .below) (C .item .loose) in
+      record {
+        retired = λ e. (
+          record { whole = record { stack = R .0; rows = rw (R .1) (C .whole .rows) }; lists = R .1; elapsed = refl; kept = R .2 },
+          R .3,
+          refl,
+        );
+        given = λ d. absurd (d z);
+      }
 
   pub freed-given : at ts i ≢ lastTurn → {t′ : WheelWords} → Becomes t (change (listsIn t) free (put free i (listsIn t free))) t′
       → LeavesTo t ts i t′ (set ts i (at ts i + 1))

@@ -2,12 +2,13 @@
 use mathlib.Core.Path.{_≡_, refl, sym, ap, _∙_, subst, fun-ext}
 use mathlib.Core.Logic.{_≢_, by-cases}
 use mathlib.Core.List.{List}
-use Prim.Native.Nat.{ℕ, _+_, _*_, _/_, _%_, _<_}
+use Prim.Native.Nat.{ℕ, _+_, _*_, _/_, _%_, _≤_, _<_}
 use native.Mathlib.Decide.{ℕ-discrete}
 use native.Mathlib.Omega.{arith}
 use lib.ListN.{length, set, length-set}
 use lib.Seq.{ext-getD, getD-set-same, getD-set-other}
 use borrow.Author.Tests.{eq-eqb, ne-eqb}
+use Rattle.links.specs.Lists.{nobody}
 use Rattle.links.specs.Links.{links, at}
 use Rattle.links.proofs.laws.Whole.{kept-refl, kept-trans, links-refl, links-trans}
 use Rattle.stack.proofs.laws.Whole as stack-laws
@@ -92,8 +93,11 @@ pairs-same l m n e f =
 pub view-fixed : {s s′ : QueueWords} → Sound s → Sound s′ → view s′ ≡ view s → PastKept (count s) s s′ → s′ ≡ s
 view-fixed {s} {s′} S S′ e K =
     let l : listsIn (s′ .wheel) ≡ listsIn (s .wheel) = ap (λ v. v .lists) e in
-    let t : s′ .wheel .stack ≡ s .wheel .stack = stack-laws.lists-fixed (S .standing .whole .stack) (S′ .standing .whole .stack) l
-    (record { size = ap (λ v. v .n) e; links = K .links }) in
+    let n : count s′ ≡ count s = ap (λ v. v .n) e in
+    let few : count s ≤ nobody = stack-laws.small (S .standing .whole .stack) in
+    let t : s′ .wheel .stack ≡ s .wheel .stack = stack-laws.lists-fixed (S .standing .whole .stack) (S′ .standing .whole .stack) l n (K .links)
+    (λ i h a b.
+    S′ .standing .retired i (rw n h) (omega (arith, h, few)) b .0 ∙ sym (S .standing .retired i h (omega (arith, h, few)) a .0)) in
     let o : s′ .wheel .occupied ≡ s .wheel .occupied = rows-fixed (S .standing .whole .rows) (rw l at (S′ .standing .whole .rows)) in
     let c : elapsed s′ ≡ elapsed s = ap (λ v. v .elapsed) e in
     let a = pairs-same (s .values) (s′ .values) (K .values .size) (ap (λ v. v .value) e) (ap (λ v. v .period) e) in

@@ -25,6 +25,15 @@ mul-turn c = search needs
 slice-read-turn : tie.Need-slice-read-turn
 slice-read-turn c = search needs
 
+mul-marks : tie.Need-mul-marks
+mul-marks c = search needs
+
+slice-write-marks : tie.Need-slice-write-marks
+slice-write-marks c = search needs
+
+same-length : tie.Need-same-length
+same-length c = search needs
+
 returns : tie.Need-returns
 returns c = freed-last (to-start (c .before) .pre) (c .if1 .taken)
 
@@ -40,9 +49,6 @@ slice-write-turns c = search needs
 push-requires : tie.Need-push-requires
 push-requires c κs = free-push (to-start (to-else1 c .before) .pre)
 
-same-length : tie.Need-same-length
-same-length c = search needs
-
 same-length-2 : tie.Need-same-length-2
 same-length-2 c = search needs
 
@@ -51,6 +57,9 @@ same-length-3 c = search needs
 
 same-length-4 : tie.Need-same-length-4
 same-length-4 c = search needs
+
+same-length-5 : tie.Need-same-length-5
+same-length-5 c = search needs
 
 returns-2 : tie.Need-returns-2
 returns-2 c =
@@ -64,13 +73,16 @@ leave-spec =
     (tie.spec
     mul-turn
     slice-read-turn
+    mul-marks
+    slice-write-marks
+    same-length
     returns
     add-turns
     mul-turns
     slice-write-turns
     push-requires
-    same-length
     same-length-2
     same-length-3
     same-length-4
+    same-length-5
     returns-2)

@@ -115,7 +115,7 @@ module _ (t : StackWords) (left₀ : ℕ) where
   unfolding rest
   rest-wrong p left g e = rw (g, e)
 
-  pub rest-end : (p left c : ℕ) → from t slots left₀ ≡ from t p left → places ≤ p → c ≡ looseOf (t .links) (count t)
+  pub rest-end : (p left c : ℕ) → from t slots left₀ ≡ from t p left → places ≤ p → c ≡ looseOf places (t .links) (count t)
       → eqb left c ≡ rest t left₀
   unfolding rest
   rest-end p left c g h e = rw (g, judge-end t p left h, e)
@@ -124,8 +124,8 @@ module _ (t : StackWords) (left₀ : ℕ) where
 
 pub rest-judged : (t : StackWords) (left : ℕ) → from t 0 (count t) ≡ from t slots left → rest t left ≡ judged t
 unfolding rest judged from judge
-rest-judged t left g = ap (λ w. leaves w (looseOf (t .links) (count t))) (sym g)
+rest-judged t left g = ap (λ w. leaves w (looseOf places (t .links) (count t))) (sym g)
 
 pub level-judged : (t : StackWords) → from t 0 (count t) ≡ Wrong → judged t ≡ false
 unfolding judged from judge
-level-judged t e = ap (λ w. leaves w (looseOf (t .links) (count t))) e
+level-judged t e = ap (λ w. leaves w (looseOf places (t .links) (count t))) e

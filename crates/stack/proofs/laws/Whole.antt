@@ -14,15 +14,16 @@ use Rattle.links.proofs.laws.Family.{fam-some, fam-nodup, fam-marked, fam-empty
 use Rattle.links.specs.Family.{tailOr}
 use Rattle.links.specs.Links.{Links, at, net, Room}
 use Rattle.links.proofs.laws.Judge.{cat, fam-length}
-use lib.ListN.{length}
+use lib.ListN.{length, set}
+use lib.Seq.{getD-set-same, getD-set-other}
 use Rattle.links.specs.Whole as links
 use Rattle.links.proofs.laws.Whole as links-laws
 use Rattle.links.proofs.laws.Fixed.{whole-fixed}
-use Rattle.stack.specs.Places.{slotPlace, free, places, put}
+use Rattle.stack.specs.Places.{slotPlace, free, places, retired, put}
 use Rattle.stack.proofs.laws.Places.{put-free, put-tail}
 use Rattle.stack.specs.Heads.{Shape, slotHead}
 use Rattle.stack.proofs.laws.Heads.{slot-head, upd-head, count-with, shape-with, head-past, stacks-fixed, rows-fixed}
-use Rattle.stack.specs.Words.{StackWords, count, headAt, markOf, withHead, push, remove, pop, CanPush, CanRemove, CanPop, CanPushSlot, CanPopSlot}
+use Rattle.stack.specs.Words.{StackWords, count, headAt, markOf, withHead, push, remove, pop, retire, CanPush, CanRemove, CanPop, CanPushSlot, CanPopSlot}
 use Rattle.stack.proofs.laws.Words.{words-eq, judged}
 use Rattle.stack.specs.Whole.{Whole, lists, StackKept, Changes}
 
@@ -74,8 +75,8 @@ module _ {t : StackWords} (W : Whole t) where
   unfolding lists
   marked-member i hi h = fam-marked (W .held .fam) i hi h
 
-  -- one in no list is marked nobody
-  pub unlisted-mark : (i : ℕ) → i < count t → ((p : ℕ) → Mem i (lists t p) → ⊥) → markOf t i ≡ nobody
+  -- the mark of one in no list is no list's
+  pub unlisted-mark : (i : ℕ) → i < count t → ((p : ℕ) → Mem i (lists t p) → ⊥) → places ≤ markOf t i
   unfolding lists
   unlisted-mark i hi out = ⊎-elim (λ m. absurd (out (markOf t i) m)) (λ l. l .mark) (W .held .fam .cover i hi)
 
@@ -131,16 +132,21 @@ module _ {t : StackWords} (W : Whole t) where
 
   -- ---- how the functions change the lists
 
-  -- from the links' laws to this layer's: one head is v, and there are as many records as before
-  changed : {l : List ℕ} {q : ℕ} {ls : Links} (p v : ℕ) → count (withHead t p v ls) ≡ count t
+  -- who is retired stays so, when i, who is not, gets the mark v
+  pub still : (i v : ℕ) {ms : List ℕ} → ms ≡ set (t .links .marks) i v → markOf t i ≢ retired → (j : ℕ) → markOf t j ≡ retired → at ms j ≡ retired
+  still i v e d j r = rw e (getD-set-other (t .links .marks) i j v 0 (λ (z : j ≡ i). d (rw z at r)) ∙ r)
+
+  -- from the links' laws to this layer's: one head is v, there are as many records as before, and who was retired is
+  pub changed : {l : List ℕ} {q : ℕ} {ls : Links} (p v : ℕ) → ((j : ℕ) → markOf t j ≡ retired → at (ls .marks) j ≡ retired)
       → links-laws.Changes places (count t) (headAt t) (t .links) q l (headAt (withHead t p v ls)) ls → Changes t q l (withHead t p v ls)
   unfolding lists
-  changed {l} {q} {ls} p v e C =
+  changed {l} {q} {ls} p v r C =
       let hd = headAt (withHead t p v ls) in
+      let e : count (withHead t p v ls) ≡ count t = count-with (t .stacks) p v in
       record {
         whole = record { shape = shape-with (t .heads) (W .shape) p v; held = subst (λ n. links.Whole places n hd ls) (sym e) (C .whole) };
         lists = ap (λ n. links.listsOf n hd ls) e ∙ C .lists;
-        kept = record { size = e; links = C .kept };
+        kept = record { size = e; links = C .kept; retired = r };
       }
 
   -- the loose record i comes into the list of p
@@ -151,17 +157,17 @@ module _ {t : StackWords} (W : Whole t) where
       (λ (e : p ≡ free).
       let C = links-laws.join-law (W .held) p i hp hi lo (upd-head (t .heads) (W .shape) (t .stacks) p i hp) in
       let z : put p i (lists t p) ≡ i ∷ lists t p = rw e (put-free i (lists t free)) in
-      rw (z, eq-eqb p free e) (changed p i (count-with (t .stacks) p i) C))
+      rw (z, eq-eqb p free e) (changed p i (still i p (links-laws.joined-marks (t .links) p i (headAt t p)) (omega (arith, lo))) C))
       (λ d.
       let C = links-laws.add-law (W .held) p i hp hi lo (upd-head (t .heads) (W .shape) (t .stacks) p _ hp) in
-      rw (put-tail p i (lists t p) d, ne-eqb p free d) (changed p _ (count-with (t .stacks) p _) C))
+      rw (put-tail p i (lists t p) d, ne-eqb p free d) (changed p _ (still i p (links-laws.added-marks (t .links) p i (headAt t p)) (omega (arith, lo))) C))
 
   -- i leaves the list of its mark
   pub remove-law : (i : ℕ) → i < count t → markOf t i < places → Changes t (markOf t i) (without i (lists t (markOf t i))) (remove t i)
   unfolding remove lists
   remove-law i hi hp =
       let C = links-laws.cut-law (W .held) i hi hp (upd-head (t .heads) (W .shape) (t .stacks) (markOf t i) _ hp) in
-      changed (markOf t i) _ (count-with (t .stacks) (markOf t i) _) C
+      changed (markOf t i) _ (still i nobody (links-laws.cut-marks (t .links) i (headAt t (markOf t i))) (omega (arith, hp))) C
 
   -- the first of the list of p leaves it
   pub pop-law : (p x : ℕ) (l : List ℕ) → lists t p ≡ x ∷ l → (headAt t p ≡ x) × Changes t p l (pop t p)
@@ -179,6 +185,18 @@ module _ {t : StackWords} (W : Whole t) where
   pop-empty p e =
       let h : headAt t p ≡ nobody = head-first p ∙ ap (firstD nobody) e in
       (h, rw (eq-eqb (headAt t p) nobody h))
+
+  -- i, which is on its way, is retired
+  pub retire-law : (i : ℕ) → i < count t → markOf t i ≡ nobody
+      → Whole (retire t i) × (lists (retire t i) ≡ lists t) × StackKept t (retire t i) × (markOf (retire t i) i ≡ retired)
+  unfolding lists
+  retire-law i hi lo =
+      let M = links-laws.mark-law (W .held) i retired hi (omega (arith, lo)) (omega arith) in (
+        record { shape = W .shape; held = M .0 },
+        M .1,
+        record { size = refl; links = M .2; retired = still i retired refl (omega (arith, lo)) },
+        getD-set-same (t .links .marks) i retired 0 (omega (arith, room .marks)),
+      )
 
   -- ---- the marks after a removal
 
@@ -205,18 +223,24 @@ unfolding judged
 judged-whole {t} small H Z e =
     record { shape = H; held = links-laws.judge-whole (omega arith) small (head-past (t .stacks) (t .heads)) Z e }
 
--- the lists, and the words past the records, fix the words
-pub lists-fixed : {s t : StackWords} → Whole s → Whole t → lists t ≡ lists s → StackKept s t → t ≡ s
+-- the lists, the marks of those in none and the words past the records fix the words
+pub lists-fixed : {s t : StackWords} → Whole s → Whole t → lists t ≡ lists s → count t ≡ count s → links.LinksKept (count s) (s .links) (t .links)
+    → ((i : ℕ) → i < count s → places ≤ markOf s i → places ≤ markOf t i → markOf t i ≡ markOf s i) → t ≡ s
 unfolding lists
-lists-fixed {s} {t} W Y e K =
+lists-fixed {s} {t} W Y e n K loose =
     let r
-    = whole-fixed (W .held) (subst (λ n. links.Whole places n (headAt t) (t .links)) (K .size) (Y .held))
-    (ap (λ n. links.listsOf n (headAt t) (t .links)) (sym (K .size)) ∙ e) (K .links) in
-    words-eq (stacks-fixed (s .stacks) (t .stacks) (s .heads) (t .heads) (r .0) (K .size))
+    = whole-fixed (W .held) (subst (λ k. links.Whole places k (headAt t) (t .links)) n (Y .held))
+    (ap (λ k. links.listsOf k (headAt t) (t .links)) (sym n) ∙ e) K loose in
+    words-eq (stacks-fixed (s .stacks) (t .stacks) (s .heads) (t .heads) (r .0) n)
     (rows-fixed (s .stacks) (t .stacks) (s .heads) (t .heads) (r .0) (W .shape) (Y .shape)) (r .1)
 
 pub kept-refl : (t : StackWords) → StackKept t t
-kept-refl t = record { size = refl; links = links-laws.links-refl (count t) (t .links) }
+kept-refl t = record { size = refl; links = links-laws.links-refl (count t) (t .links); retired = λ i r. r }
 
 pub kept-trans : {s t u : StackWords} → StackKept s t → StackKept t u → StackKept s u
-kept-trans A B = record { size = B .size ∙ A .size; links = links-laws.links-trans (A .links) (rw (A .size) at (B .links)) }
+kept-trans A B =
+    record {
+      size = B .size ∙ A .size;
+      links = links-laws.links-trans (A .links) (rw (A .size) at (B .links));
+      retired = λ i r. B .retired i (A .retired i r);
+    }

@@ -43,6 +43,9 @@ loop-again c = search needs
 element-copy-out-image : tie.Need-element-copy-out-image Inv-loop μ-loop
 element-copy-out-image c = search needs
 
+unused-requires : tie.Need-unused-requires Inv-loop μ-loop
+unused-requires c κs = search needs
+
 numbers-rest-requires : tie.Need-numbers-rest-requires Inv-loop μ-loop
 numbers-rest-requires c κs = search needs
 
@@ -69,6 +72,7 @@ note-numbers-spec =
     loop-less
     loop-again
     element-copy-out-image
+    unused-requires
     numbers-rest-requires
     element-write-image-2
     returns)

@@ -12,6 +12,9 @@ Inv-loop image from numbers₀ i₀ numbers i = (i ≤ 12) × (length numbers �
 abbrev μ-loop : tie.MeasureT-loop
 μ-loop image from numbers₀ i₀ numbers i = 12 - i
 
+unused-requires : tie.Need-unused-requires Inv-loop μ-loop
+unused-requires c κs = search needs
+
 numbers-requires : tie.Need-numbers-requires Inv-loop μ-loop
 numbers-requires c κs = search needs
 
@@ -54,6 +57,7 @@ numbers-in-spec =
     (tie.spec
     Inv-loop
     μ-loop
+    unused-requires
     numbers-requires
     loop-holds
     add-narrow
