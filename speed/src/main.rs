@@ -8,7 +8,7 @@ mod replay;
 use clock::{in_turns, timed, timed_alone, Side, Times};
 use ours::{Store, NO_WORDS};
 use speed::original;
-use speed::script::{asked, sum_of, Answer, Asked, Mix, COMMANDS, EVERY_MIX, INSERT, MIXES, SIZES};
+use speed::script::{all_asked, sum_of, Answer, Asked, Command, Mix, COMMANDS, EVERY_MIX, INSERT, MIXES, SIZES};
 use std::hint::black_box;
 
 /// A judged call takes microseconds, so these runs are shorter.
@@ -19,7 +19,7 @@ const JUDGED_SIZES: [usize; 5] = [64, 1024, 8192, 32_768, 65_535];
 const JUDGED_RECORDS: usize = 1_000_000;
 const DAY: u64 = 86_400_000;
 
-const USAGE: &str = "usage: speed calls|run|judge|sizes|judged|replay ROUNDS FOLDER-OF-MIXES [PROGRAM]";
+const USAGE: &str = "usage: speed run|prototype|judge|sizes|judged|replay ROUNDS FOLDER-OF-MIXES [PROGRAM]";
 
 fn main() {
     let words: Vec<String> = std::env::args().collect();
@@ -33,8 +33,8 @@ fn main() {
         .flat_map(|&records| MIXES.map(|name| Mix::read(folder, name, records)))
         .collect();
     match (*what, rest) {
-        ("calls", []) => calls(rounds, &mixes),
         ("run", []) => run(rounds, &mixes, &SIZES.map(|records| Mix::read(folder, EVERY_MIX, records))),
+        ("prototype", []) => prototyped(rounds, &mixes),
         ("judge", []) => judge(rounds, &mixes),
         ("sizes", []) => sizes(rounds),
         ("judged", []) => judged(rounds, &mixes),
@@ -43,35 +43,19 @@ fn main() {
     }
 }
 
-/// The calls without the judge.
-fn calls(rounds: usize, mixes: &[Mix]) {
+/// One run of all commands beside the prototype, which sums its answers and hands none on.
+fn prototyped(rounds: usize, mixes: &[Mix]) {
     println!("ns a command, least (median) of {rounds} runs of {COMMANDS} commands");
-    row(
-        "N mix",
-        [
-            "ours",
-            "Rust",
-            "C",
-            "ours/Rust",
-            "ours/C",
-            "sum of the answers",
-            "refused by C",
-        ],
-    );
+    row("N mix", ["ours", "C", "ours/C", "refused by C"]);
     for mix in mixes {
         let (n, script) = (mix.records, &mix.script[..]);
+        let commands = all_asked(n, script);
+        let mut room = vec![[0; 6]; commands.len()];
         let ours: Side = (
             "ours",
             Box::new(move || {
                 let mut store = Store::new(n);
-                timed(script.len(), || store.inner(script))
-            }),
-        );
-        let rust: Side = (
-            "Rust",
-            Box::new(move || {
-                let mut queue = original::Queue::new(n);
-                timed(script.len(), || original::run(&mut queue, script))
+                timed_alone(commands.len(), || run_all(&mut store, &commands, &mut room))
             }),
         );
         let c: Side = (
@@ -81,21 +65,24 @@ fn calls(rounds: usize, mixes: &[Mix]) {
                 timed_alone(script.len(), || prototype::inner(script))
             }),
         );
-        let ([ours, rust, c], sum) = in_turns(mix.name, rounds, [ours, rust, c]);
-        let sum = format!("{sum:016x}");
-        row(
-            &named(mix),
-            [
-                &ns(&ours),
-                &ns(&rust),
-                &ns(&c),
-                &ratio(&ours, &rust),
-                &ratio(&ours, &c),
-                &sum,
-                &prototype::refused().to_string(),
-            ],
-        );
+        let ([ours, c], _) = in_turns(mix.name, rounds, [ours, c]);
+        let refused = prototype::refused().to_string();
+        row(&named(mix), [&ns(&ours), &ns(&c), &ratio(&ours, &c), &refused]);
     }
+}
+
+/// A run that answers all commands. Answers how many they are.
+fn run_all(store: &mut Store, commands: &[Asked], room: &mut [Answer]) -> u64 {
+    let ended = store.run(commands.as_flattened(), room.as_flattened_mut());
+    assert_eq!(ended, (commands.len(), NO_WORDS), "all are answered");
+    ended.0 as u64
+}
+
+/// A store after a run of these commands.
+fn after(records: usize, script: &[Command]) -> Store {
+    let mut store = Store::new(records);
+    run_all(&mut store, &all_asked(records, script), &mut vec![[0; 6]; script.len()]);
+    store
 }
 
 /// Runs of so many commands each, one behind the other, into room for as many answers: ns a command, and the sum of the answers.
@@ -125,17 +112,14 @@ fn run(rounds: usize, mixes: &[Mix], every: &[Mix]) {
         row("N mix", ["ours", "Rust", "ours/Rust", "sum of the answers"]);
         for mix in mixes.iter().chain(every) {
             let n = mix.records;
-            let script = mix.script.iter().enumerate();
-            let commands: Vec<Asked> = script.map(|(i, &c)| asked(n, i, c)).collect();
-            let commands = &commands[..];
+            let commands = &all_asked(n, &mix.script)[..];
             let mut room = vec![[0; 6]; size];
             let ours: Side = (
                 "ours",
                 Box::new(move || {
                     let mut store = Store::new(n);
                     in_runs(size, commands, &mut room, |part, room| {
-                        let ended = store.run(part.as_flattened(), room.as_flattened_mut());
-                        assert_eq!(ended, (part.len(), NO_WORDS), "all are answered")
+                        run_all(&mut store, part, room);
                     })
                 }),
             );
@@ -161,8 +145,7 @@ fn judge(rounds: usize, mixes: &[Mix]) {
     println!("ns a judging, least (median) of {rounds} runs of {JUDGINGS}, on the store after {JUDGED} commands");
     row("N mix", ["ours", "C", "ours/C"]);
     for mix in mixes {
-        let mut store = Store::new(mix.records);
-        store.inner(&mix.script[..JUDGED]);
+        let mut store = after(mix.records, &mix.script[..JUDGED]);
         prototype::judged_format(mix.records);
         prototype::judged(&mix.script[..JUDGED]);
         let ours: Side = (
@@ -194,10 +177,9 @@ fn sizes(rounds: usize) {
     println!("ns, least (median) of {rounds} runs, every record pending");
     row("N", ["a judging", "a record"]);
     for n in JUDGED_SIZES {
-        let mut store = Store::new(n);
         let when = |i: usize| 1 + (i as u64).wrapping_mul(0x9e37_79b9_7f4a_7c15) % DAY;
         let script: Vec<_> = (0..n).map(|i| [INSERT << 60, when(i)]).collect();
-        store.inner(&script);
+        let mut store = after(n, &script);
         let judgings = JUDGED_RECORDS.div_ceil(n);
         let ours: Side = (
             "ours",
@@ -218,17 +200,18 @@ fn sizes(rounds: usize) {
     }
 }
 
-/// The calls that users make: each judges first.
+/// The calls that users make: each crosses the border and judges first.
 fn judged(rounds: usize, mixes: &[Mix]) {
     println!("ns a command, least (median) of {rounds} runs of {JUDGED} commands");
     row("N mix", ["ours", "C", "ours/C"]);
     for mix in mixes {
         let (n, script) = (mix.records, &mix.script[..JUDGED]);
+        let commands = all_asked(n, script);
         let ours: Side = (
             "ours",
             Box::new(move || {
                 let mut store = Store::new(n);
-                timed(script.len(), || store.judged(script))
+                timed_alone(commands.len(), || commands.iter().map(|&call| store.call(call)[0]).sum())
             }),
         );
         let c: Side = (

@@ -5,7 +5,7 @@
 // Whole items of delay_queue.rs, and its methods insert_idx and remove_key.
 include!(concat!(env!("OUT_DIR"), "/delay_queue_parts.rs"));
 
-use crate::script::{mixed, Answer, Asked, Command, INSERT, POLL, REMOVE, RESET};
+use crate::script::{Answer, Asked};
 
 pub struct Queue {
     slab: SlabStorage<u64>,
@@ -82,34 +82,6 @@ impl Queue {
     pub fn elapsed(&self) -> u64 {
         self.wheel.elapsed()
     }
-}
-
-/// The whole script, and the sum of what was answered.
-#[inline(never)]
-pub fn run(queue: &mut Queue, script: &[Command]) -> u64 {
-    let mut sum = 0;
-    for (i, &[first, second]) in script.iter().enumerate() {
-        let record = (first & 0xffff) as usize;
-        match first >> 60 {
-            INSERT => sum = mixed(sum, queue.insert(i as u64, second) as u64),
-            RESET => queue.reset(record, second),
-            REMOVE => {
-                let (value, deadline) = queue.remove(record);
-                sum = mixed(mixed(sum, value), deadline);
-            }
-            POLL => {
-                sum = match queue.poll(second) {
-                    Some((number, value, deadline)) => {
-                        mixed(mixed(mixed(sum, number as u64), value), deadline)
-                    }
-                    None => mixed(sum, 7),
-                };
-                sum = mixed(sum, queue.elapsed());
-            }
-            _ => sum = mixed(sum, queue.wake().unwrap_or(3)),
-        }
-    }
-    sum
 }
 
 /// The commands of a run, with their answers written as a run of ours writes them, as far as the original has them.

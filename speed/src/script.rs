@@ -43,6 +43,12 @@ pub fn asked(records: usize, i: usize, [first, second]: Command) -> Asked {
     }
 }
 
+/// The whole script as a run has it.
+pub fn all_asked(records: usize, script: &[Command]) -> Vec<Asked> {
+    let commands = script.iter().enumerate();
+    commands.map(|(i, &command)| asked(records, i, command)).collect()
+}
+
 /// The sum of a run's answers: of a key its record, and no moves and drains, which the original does not count.
 pub fn sum_of(sum: u64, answers: &[Answer]) -> u64 {
     answers.iter().fold(sum, |sum, &[kind, a, b, c, ..]| match kind {

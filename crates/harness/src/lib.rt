@@ -1,5 +1,7 @@
-// What the benchmark (speed/) and the comparison at scale (oracle/scale) call: the queue with and without the judge, runs, the judge
-// alone, the gauge, and recovery.
+// What the benchmark (speed/) and the comparison at scale (oracle/scale) call: one call, a run of calls, the judge, the gauge, and
+// recovery. A store crosses in parts of their own types, each lent by its address: elapsed, the occupied bits, `tops` (n, then the heads
+// of the expired stack, of the free list and of the parking list), the place in hand, the time of its poll, the slot heads, and six slices.
+// So every word that is handed over fits, and none is bent on the way.
 use delay_queue::Call;
 use entries::Ending;
 use gauge::Light;
@@ -8,225 +10,71 @@ use queue::Answer;
 use run::Why;
 use stack::Stacks;
 use wheel::Wheel;
-ghost use Rattle.records.specs.Words.{lent, after, Sound};
 
-// Calls by number, in the order of `Call`. A call is four words: its number, then a value, a key or N, then a deadline, a time or a first
-// turn, then a period or a limit on moves. A command of the benchmark is two: its number in the top four bits and the key below, then the
-// deadline or the time; none of its timers repeats, and no poll of it has a limit.
-const FORMAT: u64 = 0;
-
-const INSERT: u64 = 1;
-
-const RESET: u64 = 2;
-
-const REMOVE: u64 = 3;
-
-const POLL: u64 = 4;
-
-const POLL_SOME: u64 = 5;
-
-const LENGTH: u64 = 7;
-
-const CLEAR: u64 = 8;
-
-// Elapsed after a command, and the sum of what has been answered.
-pub struct Ran {
-    pub elapsed: u64,
-    pub sum: u64,
+// What four words ask: a call, or nothing that is one.
+enum Asked {
+    Call(Call),
+    None,
 }
 
-fn mix(sum: u64, x: u64) -> u64 {
-    let y = sum ^ x;
-    std::num::wrapping_add_u64(y << 23 | y >> 41, x)
-}
-
-// The answer goes into the sum, so that the sides of the benchmark can be held against each other.
-fn told(sum: u64, answer: Answer) -> u64 {
-    match answer {
-        Answer::Done => sum,
-        Answer::Key(key) => mix(sum, records::number_of(key) as u64),
-        Answer::Gone(value, deadline) => mix(mix(sum, value), deadline),
-        Answer::Out(key, value, deadline, moves, drains) => {
-            mix(
-                mix(mix(sum, records::number_of(key) as u64), value),
-                deadline,
-            )
-        }
-        Answer::Last(key, value, deadline, moves, drains) => {
-            mix(
-                mix(mix(sum, records::number_of(key) as u64), value),
-                deadline,
-            )
-        }
-        Answer::Nothing(moves, drains) => mix(sum, 7),
-        Answer::NotYet(moves, drains) => mix(sum, 5),
-        Answer::Wake(time) => mix(sum, time),
-        Answer::NoWake => mix(sum, 3),
-        Answer::Length(n) => mix(sum, n),
-        Answer::No(number) => mix(sum, 1 << 63 | number),
+// The parts put together.
+fn wheel_of(elapsed: u64, occupied: [u64; 6], tops: [u16; 4], hand: u16, until: u64) -> Wheel {
+    let stacks = Stacks {
+        n: tops[0],
+        expired: tops[1],
+        free: tops[2],
+        parking: tops[3],
+    };
+    Wheel {
+        elapsed,
+        occupied,
+        stacks,
+        hand,
+        until,
     }
 }
 
-// After a poll elapsed goes into the sum too.
-fn summed(op: u64, sum: u64, answer: Answer, elapsed: u64) -> u64 {
-    let s = told(sum, answer);
-    if op == POLL {
-        return mix(s, elapsed);
-    }
-    s
-}
-
-// One command on a sound store with no poll in hand, which stays so: its polls have no limit.
-fn turn(
-    elapsed: u64,
-    rows: &mut [u64; 6],
+// What a call handed back goes where it came from.
+fn keep(
+    state: Wheel,
+    elapsed: &mut u64,
+    occupied: &mut [u64; 6],
     tops: &mut [u16; 4],
-    heads: &mut [[u16; 64]; 6],
-    values: &mut [u64],
-    deadlines: &mut [u64],
-    nexts: &mut [u16],
-    prevs: &mut [u16],
-    turns: &mut [u64],
-    marks: &mut [u16],
-    first: u64,
-    second: u64,
-    value: u64,
-    sum: u64,
-) -> Ran
-    requires { ⌜ Sound (lent elapsed rows tops heads values deadlines nexts prevs turns marks) ⌝ }
-    ensures { λ r. ⌜ Sound (after (r .elapsed) rows tops heads values deadlines nexts prevs turns marks) ⌝ }
-{
-    let op = first >> 60;
-    let key = first % (1 << 60);
-    if op == INSERT {
-        let answer = queue::insert(
-            elapsed,
-            rows,
-            tops,
-            heads,
-            values,
-            deadlines,
-            nexts,
-            prevs,
-            turns,
-            marks,
-            value,
-            second,
-            0,
-        );
-        let s = summed(op, sum, answer, elapsed);
-        return Ran { elapsed, sum: s };
-    }
-    if op == RESET {
-        let answer = queue::reset(
-            elapsed,
-            rows,
-            tops,
-            heads,
-            values,
-            deadlines,
-            nexts,
-            prevs,
-            turns,
-            marks,
-            key,
-            second,
-        );
-        let s = summed(op, sum, answer, elapsed);
-        return Ran { elapsed, sum: s };
-    }
-    if op == REMOVE {
-        let answer = queue::remove(
-            elapsed,
-            rows,
-            tops,
-            heads,
-            values,
-            deadlines,
-            nexts,
-            prevs,
-            turns,
-            marks,
-            key,
-        );
-        let s = summed(op, sum, answer, elapsed);
-        return Ran { elapsed, sum: s };
-    }
-    if op == POLL {
-        let out = queue::poll(
-            elapsed,
-            rows,
-            tops,
-            heads,
-            values,
-            deadlines,
-            nexts,
-            prevs,
-            turns,
-            marks,
-            links::NOBODY,
-            0,
-            second,
-            u64::MAX,
-        );
-        let answer = out.answer;
-        let e = out.elapsed;
-        let s = summed(op, sum, answer, e);
-        return Ran { elapsed: e, sum: s };
-    }
-    let answer = queue::next_wake(elapsed, rows, deadlines, tops[1], tops[3]);
-    let s = told(sum, answer);
-    Ran { elapsed, sum: s }
+    hand: &mut u16,
+    until: &mut u64,
+) {
+    let bits = state.occupied;
+    let stacks = state.stacks;
+    *elapsed = state.elapsed;
+    *occupied = bits;
+    *tops = [stacks.n, stacks.expired, stacks.free, stacks.parking];
+    *hand = state.hand;
+    *until = state.until;
 }
 
-// The whole script on a sound store with no poll in hand.
-fn script_on(
-    elapsed: u64,
-    rows: &mut [u64; 6],
-    tops: &mut [u16; 4],
-    heads: &mut [[u16; 64]; 6],
-    values: &mut [u64],
-    deadlines: &mut [u64],
-    nexts: &mut [u16],
-    prevs: &mut [u16],
-    turns: &mut [u64],
-    marks: &mut [u16],
-    script: &[u64],
-) -> Ran
-    requires { ⌜ Sound (lent elapsed rows tops heads values deadlines nexts prevs turns marks) ⌝ }
-{
-    let mut e = elapsed;
-    let mut sum = 0u64;
-    let commands = script.len() / 2;
-    let mut i: usize = 0;
-    while i < commands {
-        let first = script[2 * i];
-        let second = script[2 * i + 1];
-        let value = i as u64;
-        i += 1;
-        let next = turn(
-            e,
-            rows,
-            tops,
-            heads,
-            values,
-            deadlines,
-            nexts,
-            prevs,
-            turns,
-            marks,
-            first,
-            second,
-            value,
-            sum,
-        );
-        e = next.elapsed;
-        sum = next.sum;
+// The call that a command of a run asks, by its kind (crates/run/specs/Groups.antt).
+fn call_of(kind: u64, a: u64, b: u64, c: u64) -> Asked {
+    match kind {
+        1 => Asked::Call(Call::Format(a, b)),
+        2 => Asked::Call(Call::Insert(a, b, c)),
+        3 => Asked::Call(Call::Reset(a, b)),
+        4 => Asked::Call(Call::Remove(a)),
+        5 => Asked::Call(Call::Poll(a)),
+        6 => Asked::Call(Call::Clear),
+        11 => Asked::Call(Call::PollSome(a, b)),
+        12 => Asked::Call(Call::Wake),
+        13 => Asked::Call(Call::Length),
+        _ => Asked::None,
     }
-    Ran { elapsed: e, sum }
 }
 
-// An answer's number, in the order of `Answer`, and its parts.
+// Whether the numbers behind the kind are a command's of this call: those that it does not use are 0.
+fn is_command(call: Call, a: u64, b: u64, c: u64) -> bool {
+    let words = run::command_of(call);
+    words[1] == a && words[2] == b && words[3] == c
+}
+
+// An answer as the six words of a run.
 fn words_of(answer: Answer) -> [u64; 6] {
     match answer {
         Answer::Done => [0, 0, 0, 0, 0, 0],
@@ -249,75 +97,22 @@ fn words_of(answer: Answer) -> [u64; 6] {
             drains,
         ],
         Answer::Nothing(moves, drains) => [5, moves, drains, 0, 0, 0],
-        Answer::NotYet(moves, drains) => [6, moves, drains, 0, 0, 0],
-        Answer::Wake(time) => [7, time, 0, 0, 0, 0],
-        Answer::NoWake => [8, 0, 0, 0, 0, 0],
-        Answer::Length(n) => [9, n, 0, 0, 0, 0],
-        Answer::No(number) => [10, number, 0, 0, 0, 0],
+        Answer::Wake(time) => [6, time, 0, 0, 0, 0],
+        Answer::NoWake => [7, 0, 0, 0, 0, 0],
+        Answer::Length(n) => [8, n, 0, 0, 0, 0],
+        Answer::No(number) => [9, number, 0, 0, 0, 0],
+        Answer::NotYet(moves, drains) => [10, moves, drains, 0, 0, 0],
     }
-}
-
-fn low(x: u64) -> u16 {
-    (x % 65536) as u16
-}
-
-// The state across the border: elapsed, six rows, n, the heads of the expired stack and of the free list, the slot whose drain is in hand and
-// the time of its poll, the head of the parking list.
-fn state_of(s: &[u64; 13]) -> Wheel {
-    let occupied = [s[1], s[2], s[3], s[4], s[5], s[6]];
-    let stacks = Stacks {
-        n: low(s[7]),
-        expired: low(s[8]),
-        free: low(s[9]),
-        parking: low(s[12]),
-    };
-    Wheel {
-        elapsed: s[0],
-        occupied,
-        stacks,
-        hand: low(s[10]),
-        until: s[11],
-    }
-}
-
-// The parts put together again.
-fn wheel_of(elapsed: u64, rows: [u64; 6], tops: [u16; 4], hand: u16, until: u64) -> Wheel {
-    let stacks = Stacks {
-        n: tops[0],
-        expired: tops[1],
-        free: tops[2],
-        parking: tops[3],
-    };
-    Wheel {
-        elapsed,
-        occupied: rows,
-        stacks,
-        hand,
-        until,
-    }
-}
-
-fn keep_state(s: &mut [u64; 13], wheel: Wheel) {
-    let stacks = wheel.stacks;
-    s[0] = wheel.elapsed;
-    s[1] = wheel.occupied[0];
-    s[2] = wheel.occupied[1];
-    s[3] = wheel.occupied[2];
-    s[4] = wheel.occupied[3];
-    s[5] = wheel.occupied[4];
-    s[6] = wheel.occupied[5];
-    s[7] = stacks.n as u64;
-    s[8] = stacks.expired as u64;
-    s[9] = stacks.free as u64;
-    s[10] = wheel.hand as u64;
-    s[11] = wheel.until;
-    s[12] = stacks.parking as u64;
 }
 
 // Whether the store is sound.
 #[no_mangle]
 pub extern "C" fn harness_judge(
-    state: &[u64; 13],
+    elapsed: &u64,
+    occupied: &[u64; 6],
+    tops: &[u16; 4],
+    hand: &u16,
+    until: &u64,
     heads: &[[u16; 64]; 6],
     values: &[u64],
     deadlines: &[u64],
@@ -327,7 +122,7 @@ pub extern "C" fn harness_judge(
     marks: &[u16],
 ) -> bool {
     judge::is_sound(
-        state_of(state),
+        wheel_of(*elapsed, *occupied, *tops, *hand, *until),
         *heads,
         values,
         deadlines,
@@ -338,88 +133,14 @@ pub extern "C" fn harness_judge(
     )
 }
 
-// The whole script by the calls that judge nothing, on a store with no poll in hand. The store is judged once, before the first.
-#[no_mangle]
-pub extern "C" fn harness_inner(
-    state: &mut [u64; 13],
-    heads: &mut [[u16; 64]; 6],
-    values: &mut [u64],
-    deadlines: &mut [u64],
-    nexts: &mut [u16],
-    prevs: &mut [u16],
-    turns: &mut [u64],
-    marks: &mut [u16],
-    script: &[u64],
-) -> u64 {
-    let before = state_of(state);
-    if !judge::is_sound(
-        before,
-        *heads,
-        values,
-        deadlines,
-        nexts,
-        prevs,
-        turns,
-        marks,
-    ) {
-        return 0;
-    }
-    if before.hand != links::NOBODY {
-        return 0;
-    }
-    let elapsed = before.elapsed;
-    let mut rows = before.occupied;
-    let stacks = before.stacks;
-    let mut tops = [stacks.n, stacks.expired, stacks.free, stacks.parking];
-    let end = script_on(
-        elapsed,
-        &mut rows,
-        &mut tops,
-        heads,
-        values,
-        deadlines,
-        nexts,
-        prevs,
-        turns,
-        marks,
-        script,
-    );
-    keep_state(state, wheel_of(end.elapsed, rows, tops, links::NOBODY, 0));
-    end.sum
-}
-
-fn call_of(op: u64, a: u64, b: u64, c: u64) -> Call {
-    if op == FORMAT {
-        return Call::Format(a, b);
-    }
-    if op == INSERT {
-        return Call::Insert(a, b, c);
-    }
-    if op == RESET {
-        return Call::Reset(a, b);
-    }
-    if op == REMOVE {
-        return Call::Remove(a);
-    }
-    if op == POLL {
-        return Call::Poll(b);
-    }
-    if op == POLL_SOME {
-        return Call::PollSome(b, c);
-    }
-    if op == LENGTH {
-        return Call::Length;
-    }
-    if op == CLEAR {
-        return Call::Clear;
-    }
-    Call::Wake
-}
-
-// One call as users make it, which judges the store first, with its answer.
+// One call as users make it, which judges the store first, with its answer. Says whether the four words are one: if not, nothing is done.
 #[no_mangle]
 pub extern "C" fn harness_call(
-    state: &mut [u64; 13],
+    elapsed: &mut u64,
+    occupied: &mut [u64; 6],
+    tops: &mut [u16; 4],
+    hand: &mut u16,
+    until: &mut u64,
     heads: &mut [[u16; 64]; 6],
     values: &mut [u64],
     deadlines: &mut [u64],
@@ -427,16 +148,20 @@ pub extern "C" fn harness_call(
     prevs: &mut [u16],
     turns: &mut [u64],
     marks: &mut [u16],
-    op: u64,
+    kind: u64,
     a: u64,
     b: u64,
     c: u64,
     answer: &mut [u64; 6],
-) {
-    let before = state_of(state);
-    let call = call_of(op, a, b, c);
+) -> bool {
+    let Asked::Call(call) = call_of(kind, a, b, c) else {
+        return false;
+    };
+    if !is_command(call, a, b, c) {
+        return false;
+    }
     let reply = any_call::ask(
-        before,
+        wheel_of(*elapsed, *occupied, *tops, *hand, *until),
         *heads,
         values,
         deadlines,
@@ -447,17 +172,31 @@ pub extern "C" fn harness_call(
         call,
     );
     let after = reply.state;
-    let h = reply.heads;
+    let slots = reply.heads;
     let said = reply.answer;
-    keep_state(state, after);
-    *heads = delay_queue::rows_of(h);
+    keep(after, elapsed, occupied, tops, hand, until);
+    *heads = delay_queue::rows_of(slots);
     *answer = words_of(said);
+    true
+}
+
+// Why a run stopped, by its number in the order of `Why`.
+fn why_number(why: Why) -> u64 {
+    match why {
+        Why::NoWords => 0,
+        Why::NoCommand => 1,
+        Why::NoRoom => 2,
+    }
 }
 
 // A run of commands, which judges the store once: how many were answered, and why no more were.
 #[no_mangle]
 pub extern "C" fn harness_run(
-    state: &mut [u64; 13],
+    elapsed: &mut u64,
+    occupied: &mut [u64; 6],
+    tops: &mut [u16; 4],
+    hand: &mut u16,
+    until: &mut u64,
     heads: &mut [[u16; 64]; 6],
     values: &mut [u64],
     deadlines: &mut [u64],
@@ -469,9 +208,8 @@ pub extern "C" fn harness_run(
     answers: &mut [u64],
     told: &mut [u64; 2],
 ) {
-    let before = state_of(state);
     let ran = run::run(
-        before,
+        wheel_of(*elapsed, *occupied, *tops, *hand, *until),
         *heads,
         values,
         deadlines,
@@ -484,66 +222,11 @@ pub extern "C" fn harness_run(
     );
     let done = ran.done;
     let after = ran.state;
-    let h = ran.heads;
+    let slots = ran.heads;
     let why = ran.why;
-    keep_state(state, after);
-    *heads = delay_queue::rows_of(h);
-    let number = why_number(why);
-    *told = [done as u64, number];
-}
-
-// Why a run stopped, by its number in the order of `Why`.
-fn why_number(why: Why) -> u64 {
-    match why {
-        Why::NoWords => 0,
-        Why::NoCommand => 1,
-        Why::NoRoom => 2,
-    }
-}
-
-// The command's key, or the value that its place in the script gives.
-fn first_of(first: u64, i: u64) -> u64 {
-    if first >> 60 == INSERT {
-        return i;
-    }
-    first % (1 << 60)
-}
-
-// The whole script by the calls that users make: every one judges the store first.
-#[no_mangle]
-pub extern "C" fn harness_judged(
-    state: &mut [u64; 13],
-    heads: &mut [[u16; 64]; 6],
-    values: &mut [u64],
-    deadlines: &mut [u64],
-    nexts: &mut [u16],
-    prevs: &mut [u16],
-    turns: &mut [u64],
-    marks: &mut [u16],
-    script: &[u64],
-) -> u64 {
-    let mut w = state_of(state);
-    let mut rows = *heads;
-    let mut sum = 0u64;
-    let commands = script.len() / 2;
-    let mut i: usize = 0;
-    while i < commands {
-        let first = script[2 * i];
-        let second = script[2 * i + 1];
-        let op = first >> 60;
-        let call = call_of(op, first_of(first, i as u64), second, 0);
-        i += 1;
-        let reply = any_call::ask(w, rows, values, deadlines, nexts, prevs, turns, marks, call);
-        let after = reply.state;
-        let h = reply.heads;
-        let answer = reply.answer;
-        w = after;
-        rows = delay_queue::rows_of(h);
-        sum = summed(op, sum, answer, w.elapsed);
-    }
-    keep_state(state, w);
-    *heads = rows;
-    sum
+    keep(after, elapsed, occupied, tops, hand, until);
+    *heads = delay_queue::rows_of(slots);
+    *told = [done as u64, why_number(why)];
 }
 
 // A reading as two words: 0 calm, 1 slow, 2 late, or the number of the refusal; and the bits of what the light carries.
@@ -597,7 +280,11 @@ fn ending_words(ending: Ending) -> [u64; 2] {
 // where reading stopped, and the words of why.
 #[no_mangle]
 pub extern "C" fn harness_replay(
-    state: &mut [u64; 13],
+    elapsed: &mut u64,
+    occupied: &mut [u64; 6],
+    tops: &mut [u16; 4],
+    hand: &mut u16,
+    until: &mut u64,
     heads: &mut [[u16; 64]; 6],
     values: &mut [u64],
     deadlines: &mut [u64],
@@ -610,10 +297,10 @@ pub extern "C" fn harness_replay(
 ) {
     let r = recover::replay(bytes, values, deadlines, nexts, prevs, turns, marks);
     let after = r.state;
-    let h = r.heads;
+    let slots = r.heads;
     let ending = r.ending;
     let words = ending_words(ending);
-    keep_state(state, after);
-    *heads = delay_queue::rows_of(h);
+    keep(after, elapsed, occupied, tops, hand, until);
+    *heads = delay_queue::rows_of(slots);
     *told = [r.kept as u64, r.at as u64, words[0], words[1]];
 }

@@ -130,10 +130,8 @@ impl Compared {
         }
         let got = &mut vec![[u64::MAX; 6]; self.waiting.len()][..];
         if self.how == How::Inner {
-            let commands: Vec<ours::Call> = self.waiting.iter().map(|&call| ours::command(call)).collect();
-            let ended = self.ours.run(commands.as_flattened(), got.as_flattened_mut());
-            assert_eq!(ended, (commands.len(), ours::NO_WORDS), "all are answered");
-            got.iter_mut().for_each(|answer| *answer = ours::called(*answer));
+            let ended = self.ours.run(self.waiting.as_flattened(), got.as_flattened_mut());
+            assert_eq!(ended, (self.waiting.len(), ours::NO_WORDS), "all are answered");
         } else {
             for (call, got) in self.waiting.iter().zip(&mut *got) {
                 *got = self.ours.call(*call);
@@ -287,7 +285,7 @@ impl Drop for Compared {
     }
 }
 
-/// A command in the words of crates/harness.
+/// A command in the words of a run.
 pub fn call(command: Command) -> ours::Call {
     match command {
         Command::Format { records, turn } => [ours::FORMAT, records, turn, 0],
@@ -295,23 +293,23 @@ pub fn call(command: Command) -> ours::Call {
             value,
             when,
             period,
-        } => [1, value, when, period],
-        Command::Reset { key, when } => [2, key, when, 0],
-        Command::Remove { key } => [3, key, 0, 0],
-        Command::Poll { now } => [4, 0, now, 0],
-        Command::PollSome { now, limit } => [5, 0, now, limit],
-        Command::Wake => [6, 0, 0, 0],
-        Command::Length => [7, 0, 0, 0],
-        Command::Clear => [8, 0, 0, 0],
+        } => [ours::INSERT, value, when, period],
+        Command::Reset { key, when } => [ours::RESET, key, when, 0],
+        Command::Remove { key } => [ours::REMOVE, key, 0, 0],
+        Command::Poll { now } => [ours::POLL, now, 0, 0],
+        Command::PollSome { now, limit } => [ours::POLL_SOME, now, limit, 0],
+        Command::Wake => [ours::WAKE, 0, 0, 0],
+        Command::Length => [ours::LENGTH, 0, 0, 0],
+        Command::Clear => [ours::CLEAR, 0, 0, 0],
     }
 }
 
-/// An answer in the words of crates/harness.
+/// An answer in the words of a run.
 fn words(answer: Answer) -> ours::Answer {
     match answer {
-        Answer::Ok => [0; 6],
-        Answer::Key(key) => [1, key, 0, 0, 0, 0],
-        Answer::Gone { value, deadline } => [2, value, deadline, 0, 0, 0],
+        Answer::Ok => [ours::OK, 0, 0, 0, 0, 0],
+        Answer::Key(key) => [ours::KEY, key, 0, 0, 0, 0],
+        Answer::Gone { value, deadline } => [ours::GONE, value, deadline, 0, 0, 0],
         Answer::Out {
             key,
             value,
@@ -319,13 +317,13 @@ fn words(answer: Answer) -> ours::Answer {
             moves,
             drains,
             last,
-        } => [3 + u64::from(last), key, value, deadline, moves, drains],
-        Answer::Nothing { moves, drains } => [5, moves, drains, 0, 0, 0],
-        Answer::Yet { moves, drains } => [6, moves, drains, 0, 0, 0],
-        Answer::Wake(Some(time)) => [7, time, 0, 0, 0, 0],
-        Answer::Wake(None) => [8, 0, 0, 0, 0, 0],
-        Answer::Length(length) => [9, length, 0, 0, 0, 0],
-        Answer::No(number) => [10, number.into(), 0, 0, 0, 0],
+        } => [if last { ours::LAST } else { ours::OUT }, key, value, deadline, moves, drains],
+        Answer::Nothing { moves, drains } => [ours::NOTHING, moves, drains, 0, 0, 0],
+        Answer::Yet { moves, drains } => [ours::NOT_YET, moves, drains, 0, 0, 0],
+        Answer::Wake(Some(time)) => [ours::AT, time, 0, 0, 0, 0],
+        Answer::Wake(None) => [ours::NEVER, 0, 0, 0, 0, 0],
+        Answer::Length(length) => [ours::LEN, length, 0, 0, 0, 0],
+        Answer::No(number) => [ours::NO, number.into(), 0, 0, 0, 0],
         Answer::Bad => unreachable!("a command is no malformed line"),
     }
 }
@@ -333,7 +331,7 @@ fn words(answer: Answer) -> ours::Answer {
 /// Our words with the name of their kind, all of them, for a part that should be 0 may not be.
 fn show(words: &ours::Answer) -> String {
     let names = [
-        "ok", "key", "gone", "out", "out last", "none", "yet", "wake", "wake -", "len", "no",
+        "ok", "key", "gone", "out", "out last", "none", "wake", "wake -", "len", "no", "yet",
     ];
     let name = names.get(words[0] as usize).unwrap_or(&"no answer");
     format!("{name}, in words {words:?}")

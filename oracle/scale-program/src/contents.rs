@@ -1,5 +1,5 @@
 //! What our store holds, read out of its memory, held against what the original holds.
-use crate::ours;
+use crate::ours::{self, FREE, N};
 use oracle::bench::{Entry, Store};
 use oracle::journal::recovered::Parts;
 use oracle::rules::{EXPIRED, PARKING, SLOTS};
@@ -26,14 +26,13 @@ impl Contents {
         let read = read(ours, &mut self.ours);
         let size = store.size() as u64;
         if read.is_ok()
-            && (ours.state[0], ours.state[7]) == (store.elapsed(), size)
-            && ours.state[10..12] == hand_words(store.in_hand())
+            && (ours.elapsed, ours.tops[N].into()) == (store.elapsed(), size)
+            && hand(ours) == hand_words(store.in_hand())
             && self.ours == self.original
         {
             return Ok(self.ours.len() as u64);
         }
-        let hand = [ours.state[10], ours.state[11]];
-        let mut there = show(ours.state[7], ours.state[0], hand, &self.ours);
+        let mut there = show(ours.tops[N].into(), ours.elapsed, hand(ours), &self.ours);
         if let Err(odd) = read {
             write!(there, "; {odd}").expect("memory");
         }
@@ -50,6 +49,11 @@ impl Contents {
 /// The place whose drain is in hand and the poll's now; nobody and 0 if none is.
 fn hand_words(hand: Option<(u64, usize)>) -> [u64; 2] {
     hand.map_or([NOBODY, 0], |(now, place)| [place as u64, now])
+}
+
+/// The same of ours.
+fn hand(ours: &ours::Store) -> [u64; 2] {
+    [ours.hand.into(), ours.until]
 }
 
 /// All turns, values and periods, also of records that have left, and the free list, the next to be taken first.
@@ -77,7 +81,7 @@ pub fn compare_rest(store: &Store, ours: &ours::Store) -> Result<(), [String; 2]
 /// Our free list, the next to be taken first, and what stands at its end.
 fn free(ours: &ours::Store, size: usize) -> (Vec<usize>, u64) {
     let mut free = vec![];
-    let mut at = ours.state[9];
+    let mut at = ours.tops[FREE].into();
     while at < size as u64 && free.len() < size {
         free.push(at as usize);
         at = ours.nexts[at as usize].into();
@@ -87,7 +91,7 @@ fn free(ours: &ours::Store, size: usize) -> (Vec<usize>, u64) {
 
 /// All that our words hold. An error says what is not as it must be between calls.
 pub fn parts(ours: &ours::Store) -> Result<Parts, String> {
-    let size = ours.state[7] as usize;
+    let size = usize::from(ours.tops[N]);
     let mut entries = vec![];
     read(ours, &mut entries)?;
     let (free, end) = free(ours, size);
@@ -104,14 +108,14 @@ pub fn parts(ours: &ours::Store) -> Result<Parts, String> {
     if let Some(record) = retired.iter().find(|&&i| ours.marks[i] != RETIRED) {
         return Err(format!("the mark of {record}"));
     }
-    let hand = match [ours.state[10], ours.state[11]] {
+    let hand = match hand(ours) {
         [NOBODY, 0] => None,
         [NOBODY, now] => return Err(format!("nobody in hand at {now}")),
         [place, now] => Some((now, place as usize)),
     };
     let record = |i: usize| [ours.turns[i], ours.values[2 * i], ours.deadlines[i], ours.values[2 * i + 1]];
     Ok(Parts {
-        elapsed: ours.state[0],
+        elapsed: ours.elapsed,
         hand,
         free,
         retired,
@@ -126,18 +130,18 @@ fn read(ours: &ours::Store, into: &mut Vec<Entry>) -> Result<(), String> {
     for place in 0..PARKING {
         let (level, slot) = (place / SLOTS, place % SLOTS);
         let head = ours.heads[level][slot].into();
-        let occupied = ours.state[1 + level] >> slot & 1 == 1;
+        let occupied = ours.occupied[level] >> slot & 1 == 1;
         if occupied != (head != NOBODY) {
             return Err(format!("occupied bit {level}.{slot}"));
         }
         walk(ours, place, head, into)?;
     }
-    walk(ours, PARKING, ours.state[12], into)?;
-    walk(ours, EXPIRED, ours.state[8], into)
+    walk(ours, PARKING, ours.tops[ours::PARKING].into(), into)?;
+    walk(ours, EXPIRED, ours.tops[ours::EXPIRED].into(), into)
 }
 
 fn walk(ours: &ours::Store, place: usize, head: u64, into: &mut Vec<Entry>) -> Result<(), String> {
-    let most = ours.deadlines.len().min(ours.state[7] as usize);
+    let most = ours.deadlines.len().min(ours.tops[N].into());
     // The head's back link is the tail.
     let tail = ours.prevs.get(head as usize).map_or(NOBODY, |&tail| tail.into());
     let (mut before, mut at) = (tail, head);

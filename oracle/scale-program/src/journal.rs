@@ -24,7 +24,7 @@ pub fn recovers(wrong: Option<usize>) -> Recovers {
         dirty(&mut ours, DIRTY, &mut rng);
         let mut told = ours.replay(journal);
         match wrong {
-            Some(word) if ours.state[7] > 0 && is_due(word.saturating_sub(TOLD.len()), &ours) => match told.get_mut(word) {
+            Some(word) if ours.tops[ours::N] > 0 && is_due(word.saturating_sub(TOLD.len()), &ours) => match told.get_mut(word) {
                 Some(told) => *told ^= 1,
                 None => make(word - told.len(), &mut ours),
             },
@@ -47,7 +47,8 @@ pub fn name(word: usize) -> String {
 /// State, heads, and the words of the first records.
 fn dirty(ours: &mut ours::Store, records: usize, rng: &mut Rng) {
     let mut word = || rng.next() >> (rng.next() % 64);
-    ours.state.fill_with(&mut word);
+    (ours.elapsed, ours.hand, ours.until) = (word(), word() as u16, word());
+    ours.occupied.fill_with(&mut word);
     for words in [
         &mut ours.values[..2 * records],
         &mut ours.deadlines[..records],
@@ -59,6 +60,7 @@ fn dirty(ours: &mut ours::Store, records: usize, rng: &mut Rng) {
         &mut ours.nexts[..records],
         &mut ours.prevs[..records],
         &mut ours.marks[..records],
+        &mut ours.tops[..],
     ];
     for words in slices
         .into_iter()
@@ -75,7 +77,7 @@ fn text_of([kept, _, ending, number]: ours::Told, ours: &ours::Store) -> String 
         Err(odd) => odd,
     };
     match parts(ours) {
-        _ if ours.state[7] == 0 => show(None),
+        _ if ours.tops[ours::N] == 0 => show(None),
         Ok(parts) => show(Some(&parts)),
         Err(odd) => format!("{odd}\n"),
     }

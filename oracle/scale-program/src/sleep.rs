@@ -1,24 +1,12 @@
 //! Our queue polled from wake to wake, a store a seed (02 [14]): before a wake a poll finds nothing to do, what comes out at one is due then, and
 //! where nothing repeats there are at most as many polls as heights and timers at the start.
-use crate::ours;
+use crate::ours::{self, AT, FORMAT, INSERT, KEY, LAST, NEVER, NOTHING, OUT, POLL, POLL_SOME, WAKE};
 use oracle::rng::Rng;
 use oracle::rules::{block_end, height, EXPIRED, FARTHEST, OLDEST, PARKED, WIDTHS};
 use std::ops::AddAssign;
 use std::sync::atomic::{AtomicBool, AtomicU64, Ordering};
 use std::thread;
 use std::time::Instant;
-
-const INSERT: u64 = 1;
-const POLL: u64 = 4;
-const POLL_SOME: u64 = 5;
-const WAKE: u64 = 6;
-/// Numbers of answers.
-const KEY: u64 = 1;
-const OUT: u64 = 3;
-const LAST: u64 = 4;
-const NOTHING: u64 = 5;
-const AT: u64 = 7;
-const NEVER: u64 = 8;
 
 const MOST_TIMERS: usize = 64;
 /// Where something repeats there is no end: so many polls then.
@@ -182,7 +170,7 @@ impl Sleeper {
             slept = now;
             polls += 1;
             let deadlines = self.store.deadlines.clone();
-            let answer = self.store.call([POLL, 0, now, 0]);
+            let answer = self.store.call([POLL, now, 0, 0]);
             let [kind, key, _, deadline, ..] = answer;
             let late = u64::from(self.fault == Fault::AMillisecondLate);
             match kind {
@@ -223,8 +211,8 @@ impl Sleeper {
             _ => 1 + rng.below(5),
         };
         let elapsed = clock(rng);
-        assert_eq!(self.store.call([ours::FORMAT, timers, 1, 0])[0], 0, "formatted");
-        assert_eq!(self.store.call([POLL, 0, elapsed, 0])[..3], [NOTHING, 0, 0], "the clock is set");
+        assert_eq!(self.store.call([FORMAT, timers, 1, 0])[0], 0, "formatted");
+        assert_eq!(self.store.call([POLL, elapsed, 0, 0])[..3], [NOTHING, 0, 0], "the clock is set");
         let repeating = rng.chance(1, 4);
         let (mut repeats, mut heights, mut deadline) = (false, 0, elapsed);
         for value in 0..timers {
@@ -254,7 +242,7 @@ impl Sleeper {
 
     /// A poll of a copy before the wake, or at any time if there is none: whole, or with a limit.
     fn doze(&mut self, rng: &mut Rng, wake: ours::Answer, end: Option<u64>) -> Result<(), String> {
-        let elapsed = self.store.state[0];
+        let elapsed = self.store.elapsed;
         let past = end.unwrap_or(u64::MAX).saturating_add(u64::from(self.fault == Fault::AtTheWake));
         if past <= elapsed {
             return Ok(());
@@ -265,12 +253,12 @@ impl Sleeper {
             _ => elapsed + rng.below(past - elapsed),
         };
         let limit = rng.pick(&[0, 1, 2, u64::MAX]);
-        let call = if rng.chance(1, 2) { [POLL, 0, now, 0] } else { [POLL_SOME, 0, now, limit] };
-        copy(&self.store, &mut self.other);
+        let call = if rng.chance(1, 2) { [POLL, now, 0, 0] } else { [POLL_SOME, now, limit, 0] };
+        self.other.clone_from(&self.store);
         let answer = self.other.call(call);
         let same_wake = self.other.call([WAKE, 0, 0, 0]) == wake;
-        let clock = std::mem::replace(&mut self.other.state[0], elapsed);
-        if answer[..3] != [NOTHING, 0, 0] || clock != now || !same(&self.store, &self.other) || !same_wake {
+        let clock = std::mem::replace(&mut self.other.elapsed, elapsed);
+        if answer[..3] != [NOTHING, 0, 0] || clock != now || self.store != self.other || !same_wake {
             return Err(format!("{call:?} before the wake {wake:?} answers {answer:?}, and leaves elapsed {clock}"));
         }
         self.tally.asleep += 1;
@@ -308,21 +296,4 @@ fn deadline_from(rng: &mut Rng, elapsed: u64) -> u64 {
         3 => last,
         _ => ahead,
     }
-}
-
-fn copy(from: &ours::Store, to: &mut ours::Store) {
-    (to.state, to.heads) = (from.state, from.heads);
-    to.values.copy_from_slice(&from.values);
-    to.deadlines.copy_from_slice(&from.deadlines);
-    to.nexts.copy_from_slice(&from.nexts);
-    to.prevs.copy_from_slice(&from.prevs);
-    to.turns.copy_from_slice(&from.turns);
-    to.marks.copy_from_slice(&from.marks);
-}
-
-/// Word for word.
-fn same(a: &ours::Store, b: &ours::Store) -> bool {
-    (a.state, a.heads) == (b.state, b.heads)
-        && [&a.values, &a.deadlines, &a.turns] == [&b.values, &b.deadlines, &b.turns]
-        && [&a.nexts, &a.prevs, &a.marks] == [&b.nexts, &b.prevs, &b.marks]
 }

@@ -1,13 +1,10 @@
 //! Every small store with a poll in hand, by brute force: our judge calls it sound exactly if a poll with a limit, from a store that it calls
 //! sound with no poll in hand, leaves it (02 [10], "exactly the states that the rules of the poll in hand pass through").
-use crate::ours;
+use crate::ours::{self, N, NOT_YET, POLL_SOME};
 use oracle::rules::{block, slot, EXPIRED, PARKED, PARKING, SLOTS, WIDTHS};
 use std::collections::{BTreeMap, BTreeSet, HashSet};
 
-const NOBODY: u64 = 65_535;
-/// The number of a poll with a limit, and of the answer "not yet".
-const POLL_SOME: u64 = 5;
-const NOT_YET: u64 = 6;
+const NOBODY: u16 = 65_535;
 
 /// Times about the starts of slots: from 0 on, from a block's start on, up to its last level, and about two block's starts, so that some are parked
 /// while others are not. Of three timers the first six are tried.
@@ -42,7 +39,7 @@ type Lists = Vec<(usize, Vec<usize>)>;
 #[derive(Clone, PartialEq, Eq, Hash, Debug)]
 struct State {
     elapsed: u64,
-    hand: u64,
+    hand: u16,
     until: u64,
     lists: Lists,
 }
@@ -137,7 +134,7 @@ fn judged_is_reached(deadlines: &[u64], times: &[u64], counted: &mut Counted) ->
             .flat_map(|p| times.iter().map(move |t| (p, t)))
         {
             (state.hand, state.until) = (hand, until);
-            store.state[10..12].copy_from_slice(&[hand, until]);
+            (store.hand, store.until) = (hand, until);
             counted.tried += 1;
             if store.judge() {
                 sound += 1;
@@ -169,7 +166,7 @@ fn reach(
     for &now in times {
         for limit in 0..=(PARKED * deadlines.len()) as u64 {
             write(store, deadlines, rest);
-            if store.call([POLL_SOME, 0, now, limit])[0] != NOT_YET {
+            if store.call([POLL_SOME, now, limit, 0])[0] != NOT_YET {
                 break;
             }
             reached.insert(read(store));
@@ -191,18 +188,18 @@ fn clocks(deadlines: &[u64], times: &[u64]) -> BTreeSet<u64> {
 
 /// What the word of the place in hand is tried with: every deadline's slot of each level, of less than three timers also the ones beside, the
 /// parking list, and what cannot be in hand. Of a single timer every place.
-fn places(deadlines: &[u64]) -> Vec<u64> {
-    let others = [PARKING as u64, EXPIRED as u64, EXPIRED as u64 + 1, NOBODY - 1];
+fn places(deadlines: &[u64]) -> Vec<u16> {
+    let others = [PARKING as u16, EXPIRED as u16, EXPIRED as u16 + 1, NOBODY - 1];
     if deadlines.len() == 1 {
-        return (0..PARKING as u64).chain(others).collect();
+        return (0..PARKING as u16).chain(others).collect();
     }
     let own = deadlines
         .iter()
         .flat_map(|&deadline| (0..WIDTHS.len()).map(move |k| SLOTS * k + slot(k, deadline)));
     let beside = usize::from(deadlines.len() < 3);
-    let own: BTreeSet<u64> = own
+    let own: BTreeSet<u16> = own
         .flat_map(|place| [place, (place + beside) % PARKING])
-        .map(|place| place as u64)
+        .map(|place| place as u16)
         .collect();
     own.into_iter().chain(others).collect()
 }
@@ -235,27 +232,27 @@ fn all_lists(deadlines: &[u64]) -> Vec<Lists> {
 
 /// The words of such a store, all of whose records are pending at turn 1.
 fn write(store: &mut ours::Store, deadlines: &[u64], state: &State) {
-    store.state = [0; 13];
-    store.state[0] = state.elapsed;
-    store.state[7] = deadlines.len() as u64;
-    store.state[8..].copy_from_slice(&[NOBODY, NOBODY, state.hand, state.until, NOBODY]);
-    store.heads = [[NOBODY as u16; 64]; 6];
+    (store.elapsed, store.hand, store.until) = (state.elapsed, state.hand, state.until);
+    store.occupied = [0; 6];
+    store.tops = [NOBODY; 4];
+    store.tops[N] = deadlines.len() as u16;
+    store.heads = [[NOBODY; 64]; 6];
     store.deadlines.copy_from_slice(deadlines);
     store.turns.fill(1);
     for (place, list) in &state.lists {
         let (head, tail) = (list[0] as u16, list[list.len() - 1]);
         match *place {
-            EXPIRED => store.state[8] = head.into(),
-            PARKING => store.state[12] = head.into(),
+            EXPIRED => store.tops[ours::EXPIRED] = head,
+            PARKING => store.tops[ours::PARKING] = head,
             place => {
                 store.heads[place / SLOTS][place % SLOTS] = head;
-                store.state[1 + place / SLOTS] |= 1 << (place % SLOTS);
+                store.occupied[place / SLOTS] |= 1 << (place % SLOTS);
             }
         }
         let mut before = tail;
         for (i, &record) in list.iter().enumerate() {
             store.prevs[record] = before as u16;
-            store.nexts[record] = list.get(i + 1).map_or(NOBODY as u16, |&next| next as u16);
+            store.nexts[record] = list.get(i + 1).map_or(NOBODY, |&next| next as u16);
             store.marks[record] = *place as u16;
             before = record;
         }
@@ -266,11 +263,11 @@ fn read(store: &ours::Store) -> State {
     let mut lists: Lists = vec![];
     for place in 0..=PARKING {
         let mut at = match place {
-            PARKING => store.state[12] as u16,
+            PARKING => store.tops[ours::PARKING],
             place => store.heads[place / SLOTS][place % SLOTS],
         };
         let mut list = vec![];
-        while u64::from(at) != NOBODY {
+        while at != NOBODY {
             list.push(usize::from(at));
             at = store.nexts[usize::from(at)];
         }
@@ -279,9 +276,9 @@ fn read(store: &ours::Store) -> State {
         }
     }
     State {
-        elapsed: store.state[0],
-        hand: store.state[10],
-        until: store.state[11],
+        elapsed: store.elapsed,
+        hand: store.hand,
+        until: store.until,
         lists,
     }
 }

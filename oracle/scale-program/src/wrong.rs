@@ -1,16 +1,19 @@
 //! One word of ours made wrong, to see that the comparison finds it.
-use crate::ours::{Answer, Store};
+use crate::ours::{self, Answer, Store};
 
 /// The six words of an answer, and those of a store.
 pub const WORDS: usize = 6 + STORE_WORDS;
-/// The words of the state, the head of a slot, and seven words of its record and of a parked one.
+/// The words of the state (elapsed, the occupied bits, `tops`, the place in hand and the time of its poll), the head of a slot, and seven words of its record and of a parked one.
 pub const STORE_WORDS: usize = PARKED_WORDS + NAMES.len();
 const STATE_WORDS: usize = 13;
 const SLOT_WORDS: usize = STATE_WORDS + 1;
 const PARKED_WORDS: usize = SLOT_WORDS + NAMES.len();
-/// The word of the state that is the parking list's head.
-const PARKING: usize = 12;
-const NOBODY: u64 = 65535;
+/// The words of the state that are the heads of the free list and of the parking list, and the poll in hand.
+const FREE: usize = 7 + ours::FREE;
+const PARKING: usize = 7 + ours::PARKING;
+const HAND: usize = 11;
+const UNTIL: usize = 12;
+const NOBODY: u16 = 65535;
 const NAMES: [&str; 7] = ["value", "period", "deadline", "next", "prev", "turn", "mark"];
 /// Not before so many commands.
 const FROM: usize = 300;
@@ -32,14 +35,14 @@ impl Wrong {
 
     /// The free list is compared only before a format and at the end.
     pub fn is_seen_later(self) -> bool {
-        self.0 == 15
+        self.0 == 6 + FREE
     }
 
     /// The words of a poll in hand are made wrong while one is.
     pub fn is_due(self, commands: usize, store: &Store) -> bool {
-        let in_hand = store.state[10] != NOBODY;
+        let in_hand = store.hand != NOBODY;
         let word = self.0.saturating_sub(6);
-        commands >= FROM && is_due(word, store) && (in_hand || !matches!(self.0, 16 | 17))
+        commands >= FROM && is_due(word, store) && (in_hand || !matches!(word, HAND | UNTIL))
     }
 
     pub fn make(self, answers: &mut [Answer], store: &mut Store) {
@@ -63,19 +66,26 @@ pub fn name(word: usize) -> String {
 /// A slot is not empty, or a timer is parked where it is that one's word.
 pub fn is_due(word: usize, store: &Store) -> bool {
     match word {
-        PARKING | PARKED_WORDS.. => store.state[PARKING] != NOBODY,
+        PARKING | PARKED_WORDS.. => store.tops[ours::PARKING] != NOBODY,
         _ => slot(store).is_some(),
     }
 }
 
 /// Its last bit is another then.
 pub fn make(word: usize, store: &mut Store) {
-    if word < STATE_WORDS {
-        store.state[word] ^= 1;
-        return;
+    match word {
+        0 => store.elapsed ^= 1,
+        1..7 => store.occupied[word - 1] ^= 1,
+        7..HAND => store.tops[word - 7] ^= 1,
+        HAND => store.hand ^= 1,
+        UNTIL => store.until ^= 1,
+        _ => make_record(word, store),
     }
+}
+
+fn make_record(word: usize, store: &mut Store) {
     let (record, word) = match word.checked_sub(PARKED_WORDS) {
-        Some(word) => (store.state[PARKING] as usize, word),
+        Some(word) => (usize::from(store.tops[ours::PARKING]), word),
         None => {
             let (level, slot) = slot(store).expect("is due");
             if word == STATE_WORDS {
@@ -98,6 +108,6 @@ pub fn make(word: usize, store: &mut Store) {
 
 /// The first slot that is not empty.
 fn slot(store: &Store) -> Option<(usize, usize)> {
-    let level = store.state[1..7].iter().position(|&row| row != 0)?;
-    Some((level, store.state[1 + level].trailing_zeros() as usize))
+    let level = store.occupied.iter().position(|&row| row != 0)?;
+    Some((level, store.occupied[level].trailing_zeros() as usize))
 }

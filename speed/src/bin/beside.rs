@@ -1,4 +1,4 @@
-//! Our calls without the judge, one kind of call alone, and the judge, of this tree and of another commit, in one process and in turns. Their sums
+//! Our runs of calls, one kind of call alone, and the judge, of this tree and of another commit, in one process and in turns. Their sums
 //! are not held against each other: a request may change the order in which timers come out.
 #[allow(dead_code)]
 #[path = "../clock.rs"]
@@ -13,7 +13,8 @@ mod before {
 }
 
 use clock::{in_turns, timed_alone, Side, Times};
-use speed::script::{Command, Mix, COMMANDS, INSERT, MIXES, POLL, RESET, SIZES, WAKE};
+use ours::{INSERT, POLL, RESET, WAKE};
+use speed::script::{all_asked, Asked, Mix, COMMANDS, MIXES, SIZES};
 use std::hint::black_box;
 
 /// The longest poll inside a block: the largest store, all timers in one slot of the highest level. And the longest that there is: all are parked.
@@ -25,21 +26,21 @@ const JUDGINGS: usize = 1_000;
 const JUDGED: usize = 20_000;
 const WAKED: usize = 64;
 
-/// What is asked of a store of either side.
-trait Asked {
+/// What is asked of a store of either side. Runs are there since request 13.
+trait Runs {
     fn fresh(records: usize) -> Self;
-    fn inner(&mut self, script: &[Command]) -> u64;
+    fn run(&mut self, commands: &[Asked], answers: &mut [[u64; 6]]) -> u64;
     fn judge(&mut self) -> bool;
 }
 
 macro_rules! asked {
     ($store:ty) => {
-        impl Asked for $store {
+        impl Runs for $store {
             fn fresh(records: usize) -> Self {
                 <$store>::new(records)
             }
-            fn inner(&mut self, script: &[Command]) -> u64 {
-                <$store>::inner(self, script)
+            fn run(&mut self, commands: &[Asked], answers: &mut [[u64; 6]]) -> u64 {
+                <$store>::run(self, commands.as_flattened(), answers.as_flattened_mut()).0 as u64
             }
             fn judge(&mut self) -> bool {
                 <$store>::judge(self)
@@ -50,23 +51,25 @@ macro_rules! asked {
 asked!(before::Store);
 asked!(ours::Store);
 
-/// A run: a fresh store of so many records, a first script, and then what is measured: another script, or the judge.
+/// What is measured: a fresh store of so many records, a first run of commands, and then the time of another run, or of the judge.
 #[derive(Clone, Copy)]
 struct Run<'a> {
     name: &'a str,
     records: usize,
-    first: &'a [Command],
-    script: Option<&'a [Command]>,
+    first: &'a [Asked],
+    script: Option<&'a [Asked]>,
     /// A time is by so many parts.
     parts: usize,
 }
 
 impl Run<'_> {
-    fn once<S: Asked>(self) -> (f64, Option<u64>) {
+    fn once<S: Runs>(self) -> (f64, Option<u64>) {
         let mut store = S::fresh(self.records);
-        store.inner(self.first);
+        let most = self.first.len().max(self.script.map_or(0, <[_]>::len));
+        let answers = &mut vec![[0; 6]; most][..];
+        store.run(self.first, answers);
         timed_alone(self.parts, || match self.script {
-            Some(script) => store.inner(script),
+            Some(script) => store.run(script, answers),
             None => (0..JUDGINGS).map(|_| black_box(store.judge()) as u64).sum(),
         })
     }
@@ -92,15 +95,15 @@ fn main() {
     println!("N mix                     before                 now          now/before");
     for mix in mixes() {
         let name = &format!("{} {}", mix.records, mix.name);
-        let (records, script, parts) = (mix.records, Some(&mix.script[..]), mix.script.len());
-        Run { name, records, first: &[], script, parts }.measured(rounds);
+        let (records, script) = (mix.records, &all_asked(mix.records, &mix.script)[..]);
+        Run { name, records, first: &[], script: Some(script), parts: script.len() }.measured(rounds);
     }
     alone(rounds);
     println!("ns a judging of the store after {JUDGED} commands");
     for mix in mixes() {
         let name = &format!("{} {}", mix.records, mix.name);
-        let (records, first, parts) = (mix.records, &mix.script[..JUDGED], JUDGINGS);
-        Run { name, records, first, script: None, parts }.measured(rounds);
+        let (records, first) = (mix.records, &all_asked(mix.records, &mix.script[..JUDGED])[..]);
+        Run { name, records, first, script: None, parts: JUDGINGS }.measured(rounds);
     }
     longest(rounds);
     parked(rounds);
@@ -113,21 +116,21 @@ fn shown(t: &Times) -> String {
 /// One kind of call alone, deadlines all over a day: the largest store is filled, and each timer reset; on a small one the next wake is asked.
 fn alone(rounds: usize) {
     let when = |i: usize| 1 + (i as u64).wrapping_mul(0x9e37_79b9_7f4a_7c15) % DAY;
-    let inserts: Vec<Command> = (0..RECORDS).map(|i| [INSERT << 60, when(i)]).collect();
+    let inserts: Vec<Asked> = (0..RECORDS).map(|i| [INSERT, i as u64, when(i), 0]).collect();
     let key = |i: usize| 1 << 16 | i as u64;
-    let resets: Vec<Command> = (0..RECORDS).map(|i| [RESET << 60 | key(i), when(i + RECORDS)]).collect();
-    let wakes = vec![[WAKE << 60, 0]; COMMANDS];
-    println!("ns a call of one kind, the judging before the script among it");
+    let resets: Vec<Asked> = (0..RECORDS).map(|i| [RESET, key(i), when(i + RECORDS), 0]).collect();
+    let wakes = vec![[WAKE, 0, 0, 0]; COMMANDS];
+    println!("ns a call of one kind, the judging before the run among it");
     let run = Run { name: "inserts", records: RECORDS, first: &[], script: Some(&inserts), parts: RECORDS };
     run.measured(rounds);
     Run { name: "resets", first: &inserts, script: Some(&resets), ..run }.measured(rounds);
     Run { name: "wakes", records: WAKED, first: &inserts[..WAKED], script: Some(&wakes), parts: COMMANDS }.measured(rounds);
 }
 
-/// One whole poll of that store, with the judging before its script.
+/// One whole poll of that store, with the judging before its run.
 fn longest(rounds: usize) {
-    let inserts = vec![[INSERT << 60, DEADLINE]; RECORDS];
-    let poll = [[POLL << 60, DEADLINE]];
+    let inserts = vec![[INSERT, 0, DEADLINE, 0]; RECORDS];
+    let poll = [[POLL, DEADLINE, 0, 0]];
     println!("microseconds, one whole poll of {RECORDS} timers in one slot of level 5, {} moves", 5 * RECORDS);
     Run { name: "longest", records: RECORDS, first: &inserts, script: Some(&poll), parts: 1000 }.measured(rounds);
 }
@@ -135,9 +138,9 @@ fn longest(rounds: usize) {
 /// The same of timers in the next block, by this tree alone: before request 12 none could be set there.
 fn parked(rounds: usize) {
     let (clock, when) = (2 * (1 << 30), (1 << 36) + DEADLINE);
-    let mut first = vec![[POLL << 60, clock]];
-    first.extend(vec![[INSERT << 60, when]; RECORDS]);
-    let poll = [[POLL << 60, when]];
+    let mut first = vec![[POLL, clock, 0, 0]];
+    first.extend(vec![[INSERT, 0, when, 0]; RECORDS]);
+    let poll = [[POLL, when, 0, 0]];
     let run = Run { name: "parked", records: RECORDS, first: &first, script: Some(&poll), parts: 1000 };
     let now: Side = ("now", Box::new(move || run.once::<ours::Store>()));
     let ([now], _) = in_turns(run.name, rounds, [now]);

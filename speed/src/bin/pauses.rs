@@ -7,8 +7,7 @@ mod clock;
 mod ours;
 
 use clock::{in_turns, timed_alone, Side, Times};
-use ours::{Answer, Call, Store};
-use speed::script::INSERT;
+use ours::{Answer, Call, Store, INSERT, NO_WORDS, POLL_SOME};
 
 const RECORDS: usize = 65_535;
 /// Five levels above the one that it is handed out from, and no slot's first millisecond.
@@ -19,8 +18,6 @@ const LIMITS: [u64; 10] = [1, 4, 16, 64, 256, 1024, 4096, 16_384, 65_536, u64::M
 /// So many calls of a chain are timed at most, and of those that judge first.
 const CALLS: u64 = 32_768;
 const JUDGED: u64 = 16;
-/// The number of a poll with a limit.
-const POLL_SOME: u64 = 5;
 
 fn main() {
     let words: Vec<String> = std::env::args().collect();
@@ -43,31 +40,38 @@ fn main() {
 
 fn full() -> Store {
     let mut store = Store::new(RECORDS);
-    store.inner(&vec![[INSERT << 60, DEADLINE]; RECORDS]);
+    run(&mut store, &vec![[INSERT, 0, DEADLINE, 0]; RECORDS], &mut vec![[0; 6]; RECORDS]);
     store
 }
 
-fn poll(limit: u64) -> Call {
-    [POLL_SOME, 0, DEADLINE, limit]
+/// A run that answers all commands. Answers how many they are.
+fn run(store: &mut Store, commands: &[Call], answers: &mut [Answer]) -> u64 {
+    let ended = store.run(commands.as_flattened(), answers.as_flattened_mut());
+    assert_eq!(ended, (commands.len(), NO_WORDS), "all are answered");
+    ended.0 as u64
 }
 
-/// A script with no call: the store is judged, and that is all.
+fn poll(limit: u64) -> Call {
+    [POLL_SOME, DEADLINE, limit, 0]
+}
+
+/// A run of no command: the store is judged, and that is all.
 fn judging(rounds: usize) -> Times {
     let mut store = full();
-    let side: Side = ("judge", Box::new(move || timed_alone(1, || store.answers(&[], &mut []) as u64)));
+    let side: Side = ("judge", Box::new(move || timed_alone(1, || run(&mut store, &[], &mut []))));
     let ([times], _) = in_turns("judge", rounds, [side]);
     times
 }
 
-/// The first calls of a chain, in one script that is judged once: what a call costs without that.
+/// The first calls of a chain, in one run that is judged once: what a call costs without that.
 fn chained(rounds: usize, limit: u64, calls: u64, judge: &Times) -> Times {
-    let script = vec![poll(limit); calls as usize];
+    let commands = vec![poll(limit); calls as usize];
     let side: Side = (
         "inner",
         Box::new(move || {
             let mut store = full();
-            let mut answers: Vec<Answer> = vec![[0; 6]; script.len()];
-            timed_alone(1, || store.answers(&script, &mut answers) as u64)
+            let mut answers: Vec<Answer> = vec![[0; 6]; commands.len()];
+            timed_alone(1, || run(&mut store, &commands, &mut answers))
         }),
     );
     let ([times], _) = in_turns("inner", rounds, [side]);

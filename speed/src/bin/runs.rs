@@ -8,7 +8,7 @@ mod ours;
 #[path = "../../../oracle/src/rng.rs"]
 mod rng;
 
-use ours::{called, command, Answer, Call, Store, NO_COMMAND, NO_ROOM, NO_WORDS};
+use ours::{Answer, Call, Store, CLEAR, FORMAT, INSERT, KEY, LAST, LENGTH, NO, NOT_YET, NO_COMMAND, NO_ROOM, NO_WORDS, OUT, POLL, POLL_SOME, REMOVE, RESET, WAKE};
 use rng::Rng;
 
 const MARK: u64 = 0x5a5a_5a5a_5a5a_5a5a;
@@ -36,14 +36,15 @@ fn main() {
         let (mut all, mut one) = (Store::room(n), Store::room(n));
         if rng.below(8) != 0 {
             let turn = if rng.below(4) == 0 { (1 << 48) - 3 } else { 1 };
-            assert_eq!(all.call([0, n as u64, turn, 0]), one.call([0, n as u64, turn, 0]));
+            let format = [FORMAT, n as u64, turn, 0];
+            assert_eq!(all.call(format), one.call(format));
         }
         let (mut keys, mut clock) = (vec![], 0);
         for _ in 0..8 {
             if rng.below(4) == 0 {
                 let (what, word) = (rng.below(7), rng.below(70_000));
                 damage(&mut all, what, rng.below(16), word);
-                one.clone_from_words(&all);
+                one.clone_from(&all);
             }
             run(seed, n, &mut rng, &mut all, &mut one, &mut keys, &mut clock, &mut seen);
         }
@@ -54,7 +55,13 @@ fn main() {
 fn damage(s: &mut Store, what: u64, at: u64, word: u64) {
     let i = at as usize % s.deadlines.len();
     match what {
-        0 => s.state[at as usize % 13] ^= 1 << (word % 16),
+        0 => match (at % 13) as usize {
+            0 => s.elapsed ^= 1 << (word % 16),
+            at @ 1..7 => s.occupied[at - 1] ^= 1 << (word % 16),
+            at @ 7..11 => s.tops[at - 7] ^= 1 << (word % 16),
+            11 => s.hand ^= 1 << (word % 16),
+            _ => s.until ^= 1 << (word % 16),
+        },
         1 => s.heads[at as usize % 6][word as usize % 64] = word as u16,
         2 => s.nexts[i] = word as u16 % 20,
         3 => s.prevs[i] = word as u16 % 20,
@@ -64,8 +71,8 @@ fn damage(s: &mut Store, what: u64, at: u64, word: u64) {
     }
 }
 
-/// A command, and the call that it is, if it is one.
-fn drawn(rng: &mut Rng, n: usize, keys: &[u64], held: Option<u64>, clock: &mut u64) -> (Call, Option<Call>) {
+/// Four words, and whether they are a command.
+fn drawn(rng: &mut Rng, n: usize, keys: &[u64], held: Option<u64>, clock: &mut u64) -> (Call, bool) {
     let wide = 1 << rng.below(38);
     let when = clock.wrapping_add(rng.below(wide)).wrapping_sub(rng.below(2) * rng.below(4_000_000));
     let key = match rng.below(10) {
@@ -75,10 +82,10 @@ fn drawn(rng: &mut Rng, n: usize, keys: &[u64], held: Option<u64>, clock: &mut u
     };
     let period = if rng.below(4) == 0 { rng.below(wide) } else { 0 };
     let call = match rng.below(200) {
-        0..=2 => [0, rng.below(n as u64 + 2), rng.below(4), 0],
-        3..=69 => [1, when ^ 7, when, period],
-        70..=99 => [2, key, when, 0],
-        100..=119 => [3, key, 0, 0],
+        0..=2 => [FORMAT, rng.below(n as u64 + 2), rng.below(4), 0],
+        3..=69 => [INSERT, when ^ 7, when, period],
+        70..=99 => [RESET, key, when, 0],
+        100..=119 => [REMOVE, key, 0, 0],
         120..=179 => {
             // the poll in hand goes on, or is met by one with another now
             let now = match held {
@@ -86,17 +93,17 @@ fn drawn(rng: &mut Rng, n: usize, keys: &[u64], held: Option<u64>, clock: &mut u
                 _ => later(rng, clock, wide),
             };
             match rng.below(8) {
-                0..=4 => [4, 0, now, 0],
-                limit => [5, 0, now, limit - 5],
+                0..=4 => [POLL, now, 0, 0],
+                limit => [POLL_SOME, now, limit - 5, 0],
             }
         }
-        180..=187 => [6, 0, 0, 0],
-        188..=196 => [7, 0, 0, 0],
-        197 => [8, 0, 0, 0],
-        198 => return ([if rng.below(2) == 0 { 0 } else { 7 + rng.below(4) }, 1, 1, 0], None),
-        _ => return (spoilt(rng), None),
+        180..=187 => [WAKE, 0, 0, 0],
+        188..=196 => [LENGTH, 0, 0, 0],
+        197 => [CLEAR, 0, 0, 0],
+        198 => return ([if rng.below(2) == 0 { 0 } else { 7 + rng.below(4) }, 1, 1, 0], false),
+        _ => return (spoilt(rng), false),
     };
-    (command(call), Some(call))
+    (call, true)
 }
 
 fn later(rng: &mut Rng, clock: &mut u64, wide: u64) -> u64 {
@@ -123,20 +130,20 @@ fn run(seed: u64, n: usize, rng: &mut Rng, all: &mut Store, one: &mut Store, key
     let (mut commands, mut expected) = (vec![], vec![[MARK; 6]; room + 1]);
     let (mut done, mut why) = (0, NO_WORDS);
     for _ in 0..count {
-        let held = (one.state[10] != 65_535).then_some(one.state[11]);
-        let (command, call) = drawn(rng, n, keys, held, clock);
+        let held = (one.hand != 65_535).then_some(one.until);
+        let (command, is_one) = drawn(rng, n, keys, held, clock);
         commands.push(command);
-        why = match call {
+        why = match is_one {
             _ if why != NO_WORDS => why,
-            None => NO_COMMAND,
-            Some(_) if done == room => NO_ROOM,
-            Some(call) => {
-                let answer = one.call(call);
+            false => NO_COMMAND,
+            true if done == room => NO_ROOM,
+            true => {
+                let answer = one.call(command);
                 match answer[0] {
-                    1 => keys.push(answer[1]),
-                    3 | 4 => seen.out += 1,
-                    6 => seen.not_yet += 1,
-                    10 => seen.refused[answer[1] as usize] += 1,
+                    KEY => keys.push(answer[1]),
+                    OUT | LAST => seen.out += 1,
+                    NOT_YET => seen.not_yet += 1,
+                    NO => seen.refused[answer[1] as usize] += 1,
                     _ => {}
                 }
                 expected[done] = answer;
@@ -146,15 +153,12 @@ fn run(seed: u64, n: usize, rng: &mut Rng, all: &mut Store, one: &mut Store, key
         };
     }
     // up to three words of a command that is cut off, and up to five of room
-    commands.push([5, *clock, 0, 0]);
+    commands.push([POLL, *clock, 0, 0]);
     let mut answers: Vec<Answer> = vec![[MARK; 6]; room + 1];
     let words = &commands.as_flattened()[..4 * count + cut];
     let did = all.run(words, &mut answers.as_flattened_mut()[..6 * room + spare]);
-    for answer in &mut answers[..done] {
-        *answer = called(*answer);
-    }
     assert_eq!((did, &answers), ((done, why), &expected), "seed {seed}");
-    assert!(all.same_words(one), "seed {seed}: the words differ");
+    assert!(all == one, "seed {seed}: the words differ");
     seen.runs += 1;
     seen.commands += done as u64;
     seen.unsound += !sound as u64;
