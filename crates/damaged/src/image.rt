@@ -9,7 +9,7 @@ ghost use Prim.Native.Nat.{_+_, _-_, _≤_, _<_};
 ghost use lib.ListN.{length};
 ghost use Rattle.stack.specs.Places.{slots};
 
-// Where each part begins in the row. Each slice has the words of 1,025 records, and the row those of the first 12; the store
+// Where each part begins in the row. Each slice lends the words of 1,025 records, and the row has those of the first 12; the store
 // has 9. Of values a record has two words, its value and its period, and of each other slice one.
 pub const VALUES: usize = 0;
 
@@ -25,17 +25,17 @@ pub const MARKS: usize = 72;
 
 pub const N: usize = 84;
 
-pub const ELAPSED: usize = 85;
+pub const EXPIRED: usize = 85;
 
-pub const EXPIRED: usize = 86;
+pub const FREE: usize = 86;
 
-pub const FREE: usize = 87;
+pub const PARKING: usize = 87;
 
 pub const HAND: usize = 88;
 
-pub const UNTIL: usize = 89;
+pub const ELAPSED: usize = 89;
 
-pub const PARKING: usize = 90;
+pub const UNTIL: usize = 90;
 
 pub const OCCUPIED: usize = 91;
 
@@ -63,38 +63,24 @@ fn blank(x: u64) -> Image
 
 // The contracts give the lengths alone, so that no proof meets the words. A record of such words is a retired one: its turn is the
 // last, its links are nobody, and its mark says so.
-fn pairs() -> [u64; 2050]
+fn words() -> [u64; 2050]
     ensures { λ r. ⌜ length r ≡ 2050 ⌝ }
 {
     [records::LAST_TURN; 2050]
 }
 
-fn words() -> [u64; 1025]
+fn numbers(rest: u16) -> [u16; 1025]
     ensures { λ r. ⌜ length r ≡ 1025 ⌝ }
 {
-    [records::LAST_TURN; 1025]
+    [rest; 1025]
 }
 
-fn numbers(x: u16) -> [u16; 1025]
-    ensures { λ r. ⌜ length r ≡ 1025 ⌝ }
-{
-    [x; 1025]
-}
-
-// What the words of a slice of numbers are made of, by where it begins in the row.
-fn unused(from: usize) -> u16 {
-    if from == MARKS {
-        return stack::RETIRED;
-    }
-    links::NOBODY
-}
-
-// 0 where all words but the first are as `pairs` and `words` made them.
-fn words_rest(words: &[u64], first: usize) -> u64
+// 0 where all words but the first are as they were made.
+fn words_rest(words: &[u64; 2050], first: usize) -> u64
     ensures { λ r. ⌜ r ≤ 1 ⌝ }
 {
     let mut i = first;
-    while i < words.len() {
+    while i < 2050 {
         if words[i] != records::LAST_TURN {
             return 1;
         }
@@ -103,12 +89,12 @@ fn words_rest(words: &[u64], first: usize) -> u64
     0
 }
 
-fn numbers_rest(numbers: &[u16; 1025], x: u16) -> u64
+fn numbers_rest(numbers: &[u16; 1025], rest: u16) -> u64
     ensures { λ r. ⌜ r ≤ 1 ⌝ }
 {
     let mut i: usize = 12;
     while i < 1025 {
-        if numbers[i] != x {
+        if numbers[i] != rest {
             return 1;
         }
         i += 1;
@@ -135,55 +121,51 @@ fn take_words(words: &mut [u64], image: &Image, from: usize, count: usize)
     }
 }
 
-fn pairs_in(image: &Image) -> [u64; 2050]
-    ensures { λ r. ⌜ length r ≡ 2050 ⌝ }
+fn take_numbers(numbers: &mut [u16], image: &Image, from: usize, count: usize)
+    requires { ⌜ (count ≤ length (now numbers)) × (from + count ≤ 481) ⌝ }
 {
-    let mut pairs = pairs();
-    take_words(&mut pairs, image, VALUES, 24);
-    pairs
-}
-
-fn words_in(image: &Image, from: usize) -> [u64; 1025]
-    requires { ⌜ from ≤ 469 ⌝ }
-    ensures { λ r. ⌜ length r ≡ 1025 ⌝ }
-{
-    let mut words = words();
-    take_words(&mut words, image, from, 12);
-    words
-}
-
-fn numbers_in(image: &Image, from: usize) -> [u16; 1025]
-    requires { ⌜ from ≤ 469 ⌝ }
-    ensures { λ r. ⌜ length r ≡ 1025 ⌝ }
-{
-    let mut numbers = numbers(unused(from));
     let mut i: usize = 0;
-    while i < 12 {
+    while i < count {
         numbers[i] = narrow(image[from + i]);
         i += 1;
     }
+}
+
+// A slice whose first words are those of the row.
+fn words_in(image: &Image, from: usize, count: usize) -> [u64; 2050]
+    requires { ⌜ (count ≤ 24) × (from + count ≤ 481) ⌝ }
+    ensures { λ r. ⌜ length r ≡ 2050 ⌝ }
+{
+    let mut words = words();
+    take_words(&mut words, image, from, count);
+    words
+}
+
+fn numbers_in(image: &Image, from: usize, rest: u16) -> [u16; 1025]
+    requires { ⌜ from ≤ 469 ⌝ }
+    ensures { λ r. ⌜ length r ≡ 1025 ⌝ }
+{
+    let mut numbers = numbers(rest);
+    take_numbers(&mut numbers, image, from, 12);
     numbers
 }
 
 fn state_in(image: &Image) -> Wheel {
     let mut occupied = [0u64; 6];
-    occupied[0] = image[OCCUPIED];
-    occupied[1] = image[OCCUPIED + 1];
-    occupied[2] = image[OCCUPIED + 2];
-    occupied[3] = image[OCCUPIED + 3];
-    occupied[4] = image[OCCUPIED + 4];
-    occupied[5] = image[OCCUPIED + 5];
+    take_words(&mut occupied, image, OCCUPIED, 6);
+    let mut tops = [0u16; 5];
+    take_numbers(&mut tops, image, N, 5);
     let stacks = Stacks {
-        n: narrow(image[N]),
-        expired: narrow(image[EXPIRED]),
-        free: narrow(image[FREE]),
-        parking: narrow(image[PARKING]),
+        n: tops[0],
+        expired: tops[1],
+        free: tops[2],
+        parking: tops[3],
     };
     Wheel {
         elapsed: image[ELAPSED],
         occupied,
         stacks,
-        hand: narrow(image[HAND]),
+        hand: tops[4],
         until: image[UNTIL],
     }
 }
@@ -207,8 +189,8 @@ fn put_head(heads: &mut [[u16; 64]; 6], i: usize, x: u16)
 }
 
 // The first `count` words of a slice, into the row.
-fn note_slice(image: &mut Image, from: usize, words: &[u64], count: usize)
-    requires { ⌜ (count ≤ length (now words)) × (from + count ≤ 481) ⌝ }
+fn note_words(image: &mut Image, from: usize, words: &[u64; 2050], count: usize)
+    requires { ⌜ (count ≤ 24) × (from + count ≤ 481) ⌝ }
 {
     let mut i: usize = 0;
     while i < count {
@@ -218,17 +200,7 @@ fn note_slice(image: &mut Image, from: usize, words: &[u64], count: usize)
     image[REST] = image[REST] | words_rest(words, count);
 }
 
-fn note_pairs(image: &mut Image, pairs: &[u64; 2050]) {
-    note_slice(image, VALUES, pairs, 24);
-}
-
-fn note_words(image: &mut Image, from: usize, words: &[u64; 1025])
-    requires { ⌜ from ≤ 469 ⌝ }
-{
-    note_slice(image, from, words, 12);
-}
-
-fn note_numbers(image: &mut Image, from: usize, numbers: &[u16; 1025])
+fn note_numbers(image: &mut Image, from: usize, numbers: &[u16; 1025], rest: u16)
     requires { ⌜ from ≤ 469 ⌝ }
 {
     let mut i: usize = 0;
@@ -236,7 +208,7 @@ fn note_numbers(image: &mut Image, from: usize, numbers: &[u16; 1025])
         image[from + i] = wide(numbers[i]);
         i += 1;
     }
-    image[REST] = image[REST] | numbers_rest(numbers, unused(from));
+    image[REST] = image[REST] | numbers_rest(numbers, rest);
 }
 
 fn note_state(image: &mut Image, state: Wheel) {
@@ -252,8 +224,8 @@ fn note_state(image: &mut Image, state: Wheel) {
     image[EXPIRED] = wide(stacks.expired);
     image[FREE] = wide(stacks.free);
     image[PARKING] = wide(stacks.parking);
-    image[ELAPSED] = state.elapsed;
     image[HAND] = wide(state.hand);
+    image[ELAPSED] = state.elapsed;
     image[UNTIL] = state.until;
 }
 
@@ -303,12 +275,12 @@ fn is_no_2(answer: Answer) -> bool {
 
 // Asks the call of the store in the row, which becomes the store after the call, and says whether it answered no 2.
 fn ask(image: &mut Image, part: Part, call: Call) -> bool {
-    let mut values = pairs_in(image);
-    let mut deadlines = words_in(image, DEADLINES);
-    let mut nexts = numbers_in(image, NEXTS);
-    let mut prevs = numbers_in(image, PREVS);
-    let mut turns = words_in(image, TURNS);
-    let mut marks = numbers_in(image, MARKS);
+    let mut values = words_in(image, VALUES, 24);
+    let mut deadlines = words_in(image, DEADLINES, 12);
+    let mut nexts = numbers_in(image, NEXTS, links::NOBODY);
+    let mut prevs = numbers_in(image, PREVS, links::NOBODY);
+    let mut turns = words_in(image, TURNS, 12);
+    let mut marks = numbers_in(image, MARKS, stack::RETIRED);
     let reply = any_call::ask(
         state_in(image),
         heads_in(image),
@@ -320,12 +292,12 @@ fn ask(image: &mut Image, part: Part, call: Call) -> bool {
         &mut marks[0..lent(MARKS, part, 1025)],
         call,
     );
-    note_pairs(image, &values);
-    note_words(image, DEADLINES, &deadlines);
-    note_numbers(image, NEXTS, &nexts);
-    note_numbers(image, PREVS, &prevs);
-    note_words(image, TURNS, &turns);
-    note_numbers(image, MARKS, &marks);
+    note_words(image, VALUES, &values, 24);
+    note_words(image, DEADLINES, &deadlines, 12);
+    note_numbers(image, NEXTS, &nexts, links::NOBODY);
+    note_numbers(image, PREVS, &prevs, links::NOBODY);
+    note_words(image, TURNS, &turns, 12);
+    note_numbers(image, MARKS, &marks, stack::RETIRED);
     let state = reply.state;
     note_state(image, state);
     let heads = reply.heads;
@@ -675,7 +647,7 @@ pub fn show_whole(image: &Image) {
 }
 
 // The store with the word at `at` changed to x.
-pub fn show(image: &Image, at: usize, x: u64)
+fn show(image: &Image, at: usize, x: u64)
     requires { ⌜ at < 481 ⌝ }
 {
     let mut changed = *image;
@@ -684,6 +656,19 @@ pub fn show(image: &Image, at: usize, x: u64)
     say(b" := ");
     say_number(x);
     say_seen(ask_all(&changed, whole()));
+}
+
+// The store with one word changed: for each row of the table in turn, the word and what it becomes.
+pub fn show_all(image: &Image, table: &[[u64; 2]]) {
+    let mut i: usize = 0;
+    while i < table.len() {
+        let row = table[i];
+        let at = row[0] as usize;
+        if at < REST {
+            show(image, at, row[1]);
+        }
+        i += 1;
+    }
 }
 
 // The store with `size` words of the slice that begins at `slice`.

@@ -5,10 +5,10 @@ use Rattle.damaged.proofs.image.note_numbers.Statement.{statement}
 use Rattle.damaged.proofs.image.note_numbers.Tie as tie
 
 abbrev Inv-loop : tie.InvT-loop
-Inv-loop image₀ from numbers i₀ image i = (i ≤ 12)
+Inv-loop image₀ from numbers rest i₀ image i = (i ≤ 12)
 
 abbrev μ-loop : tie.MeasureT-loop
-μ-loop image₀ from numbers i₀ image i = 12 - i
+μ-loop image₀ from numbers rest i₀ image i = 12 - i
 
 loop-holds : tie.Need-loop-holds Inv-loop μ-loop
 loop-holds c = search needs
@@ -43,9 +43,6 @@ loop-again c = search needs
 element-copy-out-image : tie.Need-element-copy-out-image Inv-loop μ-loop
 element-copy-out-image c = search needs
 
-unused-requires : tie.Need-unused-requires Inv-loop μ-loop
-unused-requires c κs = search needs
-
 numbers-rest-requires : tie.Need-numbers-rest-requires Inv-loop μ-loop
 numbers-rest-requires c κs = search needs
 
@@ -72,7 +69,6 @@ note-numbers-spec =
     loop-less
     loop-again
     element-copy-out-image
-    unused-requires
     numbers-rest-requires
     element-write-image-2
     returns)

