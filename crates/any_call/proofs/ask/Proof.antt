@@ -1,93 +1,19 @@
--- `ask` meets its claim: each call by its own function.
+-- `ask` meets its claim: each call by its own function; which call it was and what that function did stand among what is known there (`by-call`).
 use borrow.Author.Needs.{needs}
 use Rattle.delay_queue.specs.Claims.{WakeClaim, LengthClaim}
 use Rattle.delay_queue.proofs.laws.Back.{back-same, by-call}
 use Rattle.any_call.proofs.ask.Statement.{statement}
 use Rattle.any_call.proofs.ask.Tie as tie
 
-abbrev to-format : tie.After-slice-known12 → tie.After-format
-to-format c =
-    let a = c .before .before .before .before in
-    let b = a .before .before .before .before in
-    b .before .before .before .before
-
-abbrev to-call : tie.After-format → tie.After-call
-to-call c =
+abbrev to-wake : tie.After-unchanged → tie.After-enum-told
+to-wake c =
     let a = c .before .before .before .before in
     a .before .before .before .before
 
-abbrev to-insert : tie.After-slice-known17 → tie.After-insert
-to-insert c =
-    let a = c .before .before .before .before in
-    let b = a .before .before .before .before in
-    b .before .before
-
-abbrev to-call2 : tie.After-insert → tie.After-call2
-to-call2 c =
+abbrev to-length : tie.After-unchanged2 → tie.After-enum-told2
+to-length c =
     let a = c .before .before .before .before in
     a .before .before .before .before
-
-abbrev to-reset : tie.After-slice-known21 → tie.After-reset
-to-reset c =
-    let a = c .before .before .before .before in
-    a .before .before .before .before
-
-abbrev to-call3 : tie.After-reset → tie.After-call3
-to-call3 c =
-    let a = c .before .before .before .before in
-    a .before .before .before .before
-
-abbrev to-remove : tie.After-slice-known25 → tie.After-remove
-to-remove c =
-    let a = c .before .before .before .before in
-    a .before .before .before .before
-
-abbrev to-call4 : tie.After-remove → tie.After-call4
-to-call4 c =
-    let a = c .before .before .before .before in
-    a .before .before .before .before
-
-abbrev to-poll : tie.After-slice-known30 → tie.After-poll
-to-poll c =
-    let a = c .before .before .before .before in
-    let b = a .before .before .before .before in
-    b .before .before
-
-abbrev to-call5 : tie.After-poll → tie.After-call5
-to-call5 c =
-    let a = c .before .before .before .before in
-    a .before .before .before .before
-
-abbrev to-poll-some : tie.After-slice-known35 → tie.After-poll-some
-to-poll-some c =
-    let a = c .before .before .before .before in
-    let b = a .before .before .before .before in
-    b .before .before
-
-abbrev to-call6 : tie.After-poll-some → tie.After-call6
-to-call6 c =
-    let a = c .before .before .before .before in
-    a .before .before .before .before
-
-abbrev to-enum-told : tie.After-unchanged → tie.After-enum-told
-to-enum-told c =
-    let a = c .before .before .before .before in
-    a .before .before .before .before
-
-abbrev to-enum-told2 : tie.After-unchanged2 → tie.After-enum-told2
-to-enum-told2 c =
-    let a = c .before .before .before .before in
-    a .before .before .before .before
-
-abbrev to-clear : tie.After-slice-known39 → tie.After-clear
-to-clear c =
-    let a = c .before .before .before .before in
-    a .before .before .before .before
-
-abbrev to-enum-told3 : tie.After-clear → tie.After-enum-told3
-to-enum-told3 c =
-    let a = c .before .before .before .before in
-    a .before .before .before
 
 enum-known-call : tie.Need-enum-known-call
 enum-known-call c = search needs
@@ -168,9 +94,7 @@ same-length-6 : tie.Need-same-length-6
 same-length-6 c = search needs
 
 returns : tie.Need-returns
-returns c =
-    let at-format = to-format c in
-    by-call _ _ _ (to-call at-format .call .given .1) (at-format .format .ensures)
+returns c = search by-call
 
 same-length-7 : tie.Need-same-length-7
 same-length-7 c = search needs
@@ -191,9 +115,7 @@ same-length-12 : tie.Need-same-length-12
 same-length-12 c = search needs
 
 returns-2 : tie.Need-returns-2
-returns-2 c =
-    let at-insert = to-insert c in
-    by-call _ _ _ (to-call2 at-insert .call2 .given .1) (at-insert .insert .ensures)
+returns-2 c = search by-call
 
 same-length-13 : tie.Need-same-length-13
 same-length-13 c = search needs
@@ -214,9 +136,7 @@ same-length-18 : tie.Need-same-length-18
 same-length-18 c = search needs
 
 returns-3 : tie.Need-returns-3
-returns-3 c =
-    let at-reset = to-reset c in
-    by-call _ _ _ (to-call3 at-reset .call3 .given .1) (at-reset .reset .ensures)
+returns-3 c = search by-call
 
 same-length-19 : tie.Need-same-length-19
 same-length-19 c = search needs
@@ -237,9 +157,7 @@ same-length-24 : tie.Need-same-length-24
 same-length-24 c = search needs
 
 returns-4 : tie.Need-returns-4
-returns-4 c =
-    let at-remove = to-remove c in
-    by-call _ _ _ (to-call4 at-remove .call4 .given .1) (at-remove .remove .ensures)
+returns-4 c = search by-call
 
 same-length-25 : tie.Need-same-length-25
 same-length-25 c = search needs
@@ -260,9 +178,7 @@ same-length-30 : tie.Need-same-length-30
 same-length-30 c = search needs
 
 returns-5 : tie.Need-returns-5
-returns-5 c =
-    let at-poll = to-poll c in
-    by-call _ _ _ (to-call5 at-poll .call5 .given .1) (at-poll .poll .ensures)
+returns-5 c = search by-call
 
 same-length-31 : tie.Need-same-length-31
 same-length-31 c = search needs
@@ -283,9 +199,7 @@ same-length-36 : tie.Need-same-length-36
 same-length-36 c = search needs
 
 returns-6 : tie.Need-returns-6
-returns-6 c =
-    let at-poll-some = to-poll-some c in
-    by-call _ _ _ (to-call6 at-poll-some .call6 .given .1) (at-poll-some .poll-some .ensures)
+returns-6 c = search by-call
 
 same-length-37 : tie.Need-same-length-37
 same-length-37 c = search needs
@@ -307,7 +221,7 @@ same-length-42 c = search needs
 
 returns-7 : tie.Need-returns-7
 returns-7 c =
-    by-call _ _ _ (to-enum-told c .enum-told .given .1) (back-same _ _ _ _ _ _ (c .unchanged .ensures) (WakeClaim _) (c .before .next-wake .ensures))
+    by-call _ _ _ (to-wake c .enum-told .given .1) (back-same _ _ _ _ _ _ (c .unchanged .ensures) (WakeClaim _) (c .before .next-wake .ensures))
 
 same-length-43 : tie.Need-same-length-43
 same-length-43 c = search needs
@@ -329,8 +243,7 @@ same-length-48 c = search needs
 
 returns-8 : tie.Need-returns-8
 returns-8 c =
-    by-call _ _ _ (to-enum-told2 c .enum-told2 .given .1)
-    (back-same _ _ _ _ _ _ (c .unchanged2 .ensures) (LengthClaim _) (c .before .length .ensures))
+    by-call _ _ _ (to-length c .enum-told2 .given .1) (back-same _ _ _ _ _ _ (c .unchanged2 .ensures) (LengthClaim _) (c .before .length .ensures))
 
 same-length-49 : tie.Need-same-length-49
 same-length-49 c = search needs
@@ -351,9 +264,7 @@ same-length-54 : tie.Need-same-length-54
 same-length-54 c = search needs
 
 returns-9 : tie.Need-returns-9
-returns-9 c =
-    let at-clear = to-clear c in
-    by-call _ _ _ (to-enum-told3 at-clear .enum-told3 .given .1) (at-clear .clear .ensures)
+returns-9 c = search by-call
 
 pub ask-spec : {M : Type 1} → statement M
 ask-spec =
