@@ -23,7 +23,7 @@ use Rattle.wheel.proofs.laws.Drain.{move-rest, drains-law, drain-law}
 use Rattle.queue.specs.declared.Answer.{Answer}
 use Rattle.queue.specs.Told.{Told, told, Hands, timer}
 use Rattle.queue.specs.Told as T
-use Rattle.records.specs.View.{View, upd}
+use Rattle.records.specs.View.{View, upd, withElapsed, withLists}
 use Rattle.records.specs.Records.{keyOf, At, Names, placed, target, freed}
 use Rattle.queue.proofs.laws.Calls.{names-one}
 use Rattle.queue.specs.Steps.{QueuePolls, polled, popped, handed, nothing, GoesOn, once, ended, again}
@@ -264,8 +264,10 @@ module _ {s : QueueWords} (S : Sound s) where
 
   -- a whole poll, with no poll in hand
   module _ (z₀ : AtRest s) {now : ℕ} (not-back : elapsed s ≤ now) where
-    order-of : {x : Told} {u : View} → QueuePolls (view s) now x u → PollOrder (view s) x u
-    order-of {x} {u = w} (handed {r} {m} {n} (popped {l = l} e) G) =
+    -- the head of the expired stack goes first
+    order-popped : {x : Told} {w : View} {r : ℕ} {l : List ℕ} → view s .lists expired ≡ r ∷ l
+        → GoesOn (view s) r 0 0 (withLists (change (view s .lists) expired l) (view s)) x w → PollOrder (view s) x w
+    order-popped {x} {w} {r} {l} e G =
         let v = view s in
         let a : At v r expired = record { timed = omega arith; member = rw e (inl refl) } in
         let late : v .elapsed ≤ v .deadline r = omega (arith, S .rule .free z₀ .stack r (a .member)) in
@@ -283,38 +285,58 @@ module _ {s : QueueWords} (S : Sound s) where
           head = λ k y d m n i p is N h. absurd (away k y d m n i p is N (omega arith));
           equals = λ k y d m n i p is N h. absurd (away k y d m n i p is N h);
         }
-    order-of {x} {u = w} (handed {r} {m} {n} (polled {e = e} {L = L} empty P) G) =
-        let v = view s in
-        let O = polls-order (rule-between (S .rule .free z₀)) P in
-        let a : At v r (O .place) = record { timed = omega arith; member = O .member } in
-        let K = taken-from-rest s z₀ not-back in
-        let W = whole-takes S z₀ (polled empty P) .1 in
-        let T = taken-out S K W in
-        let late : e ≤ v .deadline r = clock-before S K W in
-        let z = goes-on-says G in
+
+    -- the stack is empty, and the wheel gives r
+    module _ {r m n e : ℕ} {L : Lists} (empty : view s .lists expired ≡ [])
+        (P : Polls (view s .deadline) now (view s .elapsed) (view s .lists) (some r) m n e L) where
+      ordered : Ordered (view s .deadline) (view s .lists) r L
+      ordered = polls-order (rule-between (S .rule .free z₀)) P
+
+      was-there : At (view s) r (ordered .place)
+      was-there = record { timed = omega (arith, ordered .below); member = ordered .member }
+
+      clock-late : e ≤ view s .deadline r
+      clock-late = clock-before S (taken-from-rest s z₀ not-back) (whole-takes S z₀ (polled empty P) .1)
+
+      module _ {x : Told} {w : View} (G : GoesOn (view s) r m n (withElapsed e (withLists L (view s))) x w) {k y d m₁ n₁ i p : ℕ}
+          (is : Hands x k y d m₁ n₁) (N : Names (view s) k i p) where
+        it-is : (r ≡ i) × (ordered .place ≡ p)
+        it-is = names-it was-there (same-key x (goes-on-says G) is .0) N
+
+        order-head : p < 64 → (l : List ℕ) × (view s .lists p ≡ i ∷ l) × (w .lists p ≡ l)
+        order-head h =
+            let v = view s in
+            let late = clock-late in
+            let b : At v r p = rw (it-is .0) (N .pending) in
+            let H = polls-head P p h (b .member) (λ o c. one-list S r o p c (b .member)) in
+            let on = S .rule .free z₀ .wheel p r (omega arith) (b .member) in
+            let still : w .lists p ≡ L p
+            = goes-list late G p (omega (arith, h))
+            (λ some f.
+            let own = low-deadline p (v .elapsed) (v .deadline r) h (on .place) in
+            let level = target-level e (v .deadline r + v .period r) (omega (arith, late, some)) (omega (arith, f, h)) in
+            let next = low-deadline p e (v .deadline r + v .period r) h (f ∙ level) in
+            omega (arith, own, next, H .3)) in
+            rw (← it-is .0) (H .0, H .1, still ∙ H .2)
+
+        order-equals : (q : ℕ) × (q < 64) × (ofDeadline (view s .deadline) d (view s .lists p) ≡ i ∷ ofDeadline (w .deadline) d (w .lists q))
+        order-equals =
+            let O = ordered in
+            let T = taken-out S (taken-from-rest s z₀ not-back) (whole-takes S z₀ (polled empty P) .1) in
+            let g : d ≡ view s .deadline r = sym (same-key x (goes-on-says G) is .1) in (
+              O .slot,
+              O .low,
+              rw (g, ← it-is .0, ← it-is .1)
+                  (O .order ∙ ap (λ c. r ∷ c) (sym (goes-equals clock-late G (T .deadline) (O .slot) (omega (arith, O .low)) (T .gone r refl (O .slot))))),
+            )
+
+    order-of : {x : Told} {u : View} → QueuePolls (view s) now x u → PollOrder (view s) x u
+    order-of (handed (popped e) G) = order-popped e G
+    order-of (handed (polled empty P) G) =
         record {
           stack = λ i j f. absurd (nil≢cons (sym empty ∙ f));
-          head = λ k y d m₁ n₁ i p is N h.
-              let q : r ≡ i = names-it a (same-key x z is .0) N .0 in
-              let b : At v r p = rw q (N .pending) in
-              let H = polls-head P p h (b .member) (λ o c. one-list S r o p c (b .member)) in
-              let on = S .rule .free z₀ .wheel p r (omega arith) (b .member) in
-              let still : w .lists p ≡ L p
-              = goes-list late G p (omega (arith, h))
-              (λ some f.
-              let own = low-deadline p (v .elapsed) (v .deadline r) h (on .place) in
-              let level = target-level e (v .deadline r + v .period r) (omega (arith, late, some)) (omega (arith, f, h)) in
-              let next = low-deadline p e (v .deadline r + v .period r) h (f ∙ level) in
-              omega (arith, own, next, H .3)) in
-              rw (← q) (H .0, H .1, still ∙ H .2);
-          equals = λ k y d m₁ n₁ i p is N h.
-              let q = names-it a (same-key x z is .0) N in
-              let g : d ≡ v .deadline r = sym (same-key x z is .1) in (
-                O .slot,
-                O .low,
-                rw (g, ← q .0, ← q .1)
-                    (O .order ∙ ap (λ c. r ∷ c) (sym (goes-equals late G (T .deadline) (O .slot) (omega (arith, O .low)) (T .gone r refl (O .slot))))),
-              );
+          head = λ k y d m n i p is N h. order-head empty P G is N h;
+          equals = λ k y d m n i p is N h. order-equals empty P G is N;
         }
     order-of (nothing (polled empty P)) =
         record {

@@ -30,7 +30,7 @@ use Rattle.delay_queue.specs.Claims.{CallClaim}
 use Rattle.promises.specs.Runs.{Asked, Runs, rest, next, All, NoFormat, Each, isFormat}
 use Rattle.promises.specs.KeysStay.{Out}
 use Rattle.promises.specs.KeysReach.{Reaches}
-use Rattle.promises.specs.Polling.{IsPending, Due, SaysLast, Finished, SetAgain}
+use Rattle.promises.specs.Polling.{IsPending, PollLeast, SaysLast, Finished, SetAgain}
 use Rattle.promises.specs.OneCall.{one, isNo}
 use Rattle.promises.specs.First.{NotSet}
 use Rattle.promises.specs.Repeats.{NoNextTime, NotReset, ThreeTimes}
@@ -299,57 +299,88 @@ record Turns (s : QueueWords) (k x q d : ℕ) : Type 0 where
   out : told answer ≡ T.out k x d moves drains
   then : Alone left k x q (d + q)
 
+none-next : (e w : ℕ) → e ≤ w → w < 68719476736 → NoNextTime e w → ⊥
+none-next e w h l (inl y) = omega arith
+none-next e w h l (inr y) = omega arith
+
+module _ {s : QueueWords} {k x q d : ℕ} (W : Alone s k x q d) where
+  abbrev reply : Answer
+  reply = poll-met s d .0
+
+  abbrev store : QueueWords
+  store = poll-met s d .1
+
+  abbrev claim : CallClaim (C.Poll d) s reply store
+  claim = poll-met s d .2
+
+  taken : PollTaken (view s) d
+  taken = taken-from-rest s (W .at-rest) (W .before)
+
+  ends : SaysYet (told reply) → ⊥
+  ends = whole-no-yet (W .sound) taken claim
+
+  least : PollLeast (view s) d (told reply) (view store)
+  least = poll-least (W .sound) whole taken reply store claim ends
+
+  -- it is handed out, since it is due and no other waits
+  comes-out : (m n : ℕ) × Hands (told reply) k x d m n
+  comes-out =
+      let R = W .reaches in
+      let o = least .hands-out .1 (R .number, (R .place, R .names .pending), omega (arith, R .deadline)) in
+      let H = least .out (o .0) (o .1) (o .2) (o .3) (o .4) (o .5) in
+      let i : H .timer ≡ R .number = W .only (H .timer) (H .place, H .names .pending) in
+      let key : o .0 ≡ k = key-is (H .names) ∙ ap (keyOf (view s)) i ∙ sym (key-is (R .names)) in
+      let value : o .1 ≡ x = H .value ∙ ap (view s .value) i ∙ R .value in
+      let time : o .2 ≡ d = H .deadline ∙ ap (view s .deadline) i ∙ R .deadline in
+      let same : timer (o .0) (o .1) (o .2) (o .3) (o .4) ≡ timer k x d (o .3) (o .4) = cc in
+      (o .3, o .4, o .5 ∙ same)
+
+  its-period : view s .period (numberIn k) ≡ q
+  its-period = ap (view s .period) (sym (W .reaches .names .number)) ∙ W .reaches .period
+
+  -- elapsed has not passed it
+  still-before : elapsed store ≤ d
+  still-before =
+      omega (arith, poll-clock (W .sound) whole taken reply store claim .out k x d (comes-out .0) (comes-out .1) (comes-out .2), W .before)
+
+  module _ (more : 0 < q) (low : d + q < 68719476736) where
+    not-last : SaysLast (told reply) → ⊥
+    not-last y =
+        none-next (elapsed store) (d + view s .period (numberIn k)) (omega (arith, still-before)) (omega (arith, its-period, low))
+        (last-exactly (W .sound) (C.Poll d) reply store claim (comes-out .2) .0 y .1)
+
+    alone-again : Alone store k x q (d + q)
+    alone-again =
+        let R = W .reaches in
+        let Q = repeats-same-key (W .sound) (C.Poll d) reply store claim (comes-out .2) .0 (omega (arith, its-period, more), not-last) in
+        let L = least .out k x d (comes-out .0) (comes-out .1) (comes-out .2) in
+        record {
+          sound = call-sound (C.Poll d) s reply store claim (W .sound);
+          at-rest = goes-rest (call-goes (C.Poll d) s reply store (W .sound) claim) ends (W .at-rest);
+          before = omega (arith, still-before);
+          reaches = record {
+            number = numberIn k;
+            place = Q .place;
+            names = Q .names;
+            value = Q .value ∙ ap (view s .value) (sym (R .names .number)) ∙ R .value;
+            period = Q .period ∙ its-period;
+            deadline = omega (arith, Q .deadline, its-period, R .deadline, ap (view s .deadline) (R .names .number));
+          };
+          only = λ y p. W .only y (L .only y p) ∙ R .names .number;
+        }
+
 turn : {s : QueueWords} {k x q d : ℕ} → Alone s k x q d → 0 < q → d + q < 68719476736 → Turns s k x q d
-turn {s} {k} {x} {q} {d} W more low =
-    let m = poll-met s d in
-    let R = W .reaches in
-    let S = W .sound in
-    let K₀ = taken-from-rest s (W .at-rest) (W .before) in
-    let no-yet = whole-no-yet S K₀ (m .2) in
-    let fair = poll-least S whole K₀ (m .0) (m .1) (m .2) no-yet in
-    let due : Due (view s) d = (R .number, (R .place, R .names .pending), omega (arith, R .deadline)) in
-    let o = fair .hands-out .1 due in
-    let H = fair .out (o .0) (o .1) (o .2) (o .3) (o .4) (o .5) in
-    let i : H .timer ≡ R .number = W .only (H .timer) (H .place, H .names .pending) in
-    let key : o .0 ≡ k = key-is (H .names) ∙ ap (keyOf (view s)) i ∙ sym (key-is (R .names)) in
-    let value : o .1 ≡ x = H .value ∙ ap (view s .value) i ∙ R .value in
-    let time : o .2 ≡ d = H .deadline ∙ ap (view s .deadline) i ∙ R .deadline in
-    let hands : Hands (told (m .0)) k x d (o .3) (o .4)
-    = o .5 ∙ (let same : timer (o .0) (o .1) (o .2) (o .3) (o .4) ≡ timer k x d (o .3) (o .4) = cc in same) in
-    let period : view s .period (numberIn k) ≡ q = ap (view s .period) (sym (R .names .number)) ∙ R .period in
-    let clock = poll-clock S whole K₀ (m .0) (m .1) (m .2) .out k x d (o .3) (o .4) hands in
-    let again : SaysLast (told (m .0)) → ⊥
-    = λ y.
-    let n = last-exactly S (C.Poll d) (m .0) (m .1) (m .2) hands .0 y .1 in
-    none-next (elapsed (m .1)) (d + view s .period (numberIn k)) (omega (arith, clock, W .before)) (omega (arith, period)) n in
-    let Q = repeats-same-key S (C.Poll d) (m .0) (m .1) (m .2) hands .0 (omega (arith, period), again) in
-    let L = fair .out k x d (o .3) (o .4) hands in
+turn {s} {d = d} W more low =
+    let o = comes-out W in
     record {
-      answer = m .0;
-      left = m .1;
-      poll = m .2;
-      moves = o .3;
-      drains = o .4;
-      out = ⊎-elim (λ y. y) (λ y. absurd (again (_, _, _, _, _, y))) (out-or-last (told (m .0)) hands);
-      then = record {
-        sound = call-sound (C.Poll d) s (m .0) (m .1) (m .2) S;
-        at-rest = goes-rest (call-goes (C.Poll d) s (m .0) (m .1) S (m .2)) no-yet (W .at-rest);
-        before = omega (arith, clock, W .before);
-        reaches = record {
-          number = numberIn k;
-          place = Q .place;
-          names = Q .names;
-          value = Q .value ∙ ap (view s .value) (sym (R .names .number)) ∙ R .value;
-          period = Q .period ∙ period;
-          deadline = omega (arith, Q .deadline, period, R .deadline, ap (view s .deadline) (R .names .number));
-        };
-        only = λ y p. W .only y (L .only y p) ∙ R .names .number;
-      };
+      answer = poll-met s d .0;
+      left = poll-met s d .1;
+      poll = poll-met s d .2;
+      moves = o .0;
+      drains = o .1;
+      out = ⊎-elim (λ y. y) (λ y. absurd (not-last W more low (_, _, _, _, _, y))) (out-or-last (told (poll-met s d .0)) (o .2));
+      then = alone-again W more low;
     }
-  where
-    none-next : (e w : ℕ) → e ≤ w → w < 68719476736 → NoNextTime e w → ⊥
-    none-next e w h l (inl y) = omega arith
-    none-next e w h l (inr y) = omega arith
 
 pub three-times : ThreeTimes
 unfolding over placed
