@@ -194,24 +194,24 @@ unfolding slotOf width startAt
 one-crosses {L} {x} d e O =
     let to : (k : ℕ) → slotPlace k (slotOf (d x) k) ≡ slotPlace k (slotOf 68719476736 k) = λ k. ap (λ w. slotPlace k (slotOf w k)) e in
     let F = only-drained d 5 320 (omega arith) (omega arith) (omega arith) (to 5) O in
-    let E = only-drained d 4 256 (omega arith) (omega arith) (omega arith) (to 4) (F .2) in
-    let D = only-drained d 3 192 (omega arith) (omega arith) (omega arith) (to 3) (E .2) in
-    let C = only-drained d 2 128 (omega arith) (omega arith) (omega arith) (to 2) (D .2) in
-    let B = only-drained d 1 64 (omega arith) (omega arith) (omega arith) (to 1) (C .2) in
-    let A = only-drained d 0 0 (omega arith) (omega arith) (omega arith) (to 0) (B .2) in
-    let f = only-first 68719476736 5 0 (omega arith) (omega arith) (omega arith) (F .2) in
-    let e = only-first 68719476736 4 0 (omega arith) (omega arith) (omega arith) (E .2) in
-    let d = only-first 68719476736 3 0 (omega arith) (omega arith) (omega arith) (D .2) in
-    let c = only-first 68719476736 2 0 (omega arith) (omega arith) (omega arith) (C .2) in
-    let b = only-first 68719476736 1 0 (omega arith) (omega arith) (omega arith) (B .2) in
-    let a = only-first 68719476736 0 0 (omega arith) (omega arith) (omega arith) (A .2) in (
+    let E = only-drained {L = F .0} d 4 256 (omega arith) (omega arith) (omega arith) (to 4) (F .2) in
+    let D = only-drained {L = E .0} d 3 192 (omega arith) (omega arith) (omega arith) (to 3) (E .2) in
+    let C = only-drained {L = D .0} d 2 128 (omega arith) (omega arith) (omega arith) (to 2) (D .2) in
+    let B = only-drained {L = C .0} d 1 64 (omega arith) (omega arith) (omega arith) (to 1) (C .2) in
+    let A = only-drained {L = B .0} d 0 0 (omega arith) (omega arith) (omega arith) (to 0) (B .2) in
+    let f = only-first {L = F .0} 68719476736 5 0 (omega arith) (omega arith) (omega arith) (F .2) in
+    let e = only-first {L = E .0} 68719476736 4 0 (omega arith) (omega arith) (omega arith) (E .2) in
+    let d = only-first {L = D .0} 68719476736 3 0 (omega arith) (omega arith) (omega arith) (D .2) in
+    let c = only-first {L = C .0} 68719476736 2 0 (omega arith) (omega arith) (omega arith) (C .2) in
+    let b = only-first {L = B .0} 68719476736 1 0 (omega arith) (omega arith) (omega arith) (B .2) in
+    let a = only-first {L = A .0} 68719476736 0 0 (omega arith) (omega arith) (omega arith) (A .2) in (
       _,
-      drain (only-parking O) (omega arith) (F .1)
-          (drain (in-slot f) (omega arith) (E .1)
-          (drain (in-slot e) (omega arith) (D .1)
-          (drain (in-slot d) (omega arith) (C .1)
-          (drain (in-slot c) (omega arith) (B .1)
-          (drain (in-slot b) (omega arith) (A .1) (out a (omega arith) (A .2 .here))))))),
+      drain {M = F .0} (only-parking O) (omega arith) (F .1)
+          (drain {L = F .0} {M = E .0} (in-slot f) (omega arith) (E .1)
+          (drain {L = E .0} {M = D .0} (in-slot e) (omega arith) (D .1)
+          (drain {L = D .0} {M = C .0} (in-slot d) (omega arith) (C .1)
+          (drain {L = C .0} {M = B .0} (in-slot c) (omega arith) (B .1)
+          (drain {L = B .0} {M = A .0} (in-slot b) (omega arith) (A .1) (out a (omega arith) (A .2 .here))))))),
     )
 
 -- what the insert leaves
