@@ -21,6 +21,7 @@ use Rattle.wheel.specs.Between.{Between}
 use Rattle.wheel.proofs.laws.Between.{rule-between}
 use Rattle.wheel.proofs.laws.Next.{list-height, list-some, list-late, list-start, list-least, list-one, list-not-none}
 use Rattle.wheel.proofs.laws.One.{Same, polls-one}
+use Rattle.wheel.proofs.laws.Poll.{none-waits}
 use Rattle.queue.specs.declared.Answer.{Answer}
 use Rattle.queue.specs.Told.{Told, told, handing}
 use Rattle.queue.specs.Told as T
@@ -37,7 +38,7 @@ use Rattle.pausing.proofs.laws.Works.{not-before}
 use Rattle.promises.specs.Polling.{IsPending}
 use Rattle.promises.specs.Looking.{InList, WakesAt, NonePending, NextAt, Before, atTime, Idle, isPending}
 use Rattle.promises.proofs.laws.Polling.{none-out, goes-on-says}
-use Rattle.promises.proofs.laws.Parked.{list-before, none-waits}
+use Rattle.promises.proofs.laws.Parked.{list-before}
 
 -- ---- the wheel's answer
 

@@ -13,7 +13,7 @@ use Rattle.times.proofs.laws.Levels.{level-is}
 use Rattle.times.proofs.laws.Blocks.{next-floor, lies-ends}
 use Rattle.links.specs.Lists.{Mem}
 use Rattle.stack.specs.Places.{slotPlace, slots, parking, expired, free, levelAt}
-use Rattle.wheel.specs.Wheel.{Lists, placeFor, Rule, NextList, in-slot, in-parking, NoneWaits}
+use Rattle.wheel.specs.Wheel.{Lists, placeFor, Rule, NextList, in-slot, in-parking}
 use Rattle.wheel.specs.Between.{Between}
 use Rattle.wheel.proofs.laws.Next.{here-below, next-before}
 use Rattle.records.specs.Records.{target}
@@ -41,11 +41,6 @@ list-before B (in-parking E is) x mx q y hq n my =
     by-cases (decLt q slots)
     (λ h. absurd (subst (Mem y) (E q h) my))
     (λ h. absurd (n (omega (arith, hq, h))))
-
-pub none-waits : {L : Lists} → NoneWaits L → (q y : ℕ) → q < expired → Mem y (L q) → ⊥
-none-waits {L} N q y hq m =
-    by-cases (decLt q slots) (λ h. subst (Mem y) (N .0 q h) m)
-    (λ h. let z : q ≡ parking = omega (arith, hq, h) in subst (Mem y) (ap L z ∙ N .1) m)
 
 -- ---- the place of a deadline past elapsed
 

@@ -2,8 +2,8 @@
 use mathlib.Core.Path.{_≡_, refl, sym, ap, _∙_, subst}
 use mathlib.Core.Logic.{inl, by-cases}
 use mathlib.Core.List.{List, _∷_, nil≢cons}
-use mathlib.Core.Option.{Option, none, some}
-use Prim.Native.Nat.{ℕ, suc, _+_, _-_, _*_, _/_, _≤_, _<_}
+use mathlib.Core.Option.{Option, some}
+use Prim.Native.Nat.{ℕ, suc, _-_, _*_, _/_, _≤_, _<_}
 use native.Mathlib.Nat.{le-trans}
 use native.Mathlib.Decide.{decLt, ℕ-discrete}
 use native.Mathlib.Omega.{arith}
@@ -12,50 +12,11 @@ use Rattle.times.proofs.laws.Quotients.{floor-le, floor-64}
 use Rattle.links.specs.Lists.{Mem}
 use Rattle.stack.specs.Places.{slots, parking, expired}
 use Rattle.wheel.specs.Wheel.{Lists, Drains, drained, moved}
-use Rattle.wheel.proofs.laws.Sums.{hits, lies-times, times-lies}
-use Rattle.wheel.proofs.laws.Drain.{amount, Drained, drain-ends, drains-law}
-use Rattle.wheel.specs.Poll.{Waits, Fair, clockAfter}
-use Rattle.wheel.proofs.laws.Poll.{Promise, poll-law}
+use Rattle.wheel.proofs.laws.Drain.{Drained, drain-ends, drains-law}
+use Rattle.wheel.proofs.laws.Poll.{Promise, end-drain, poll-law}
 use Rattle.wheel.specs.Limited.{ended, start, Limited}
 use Rattle.wheel.proofs.laws.Limited.{Finishes, limited-polls}
 use Rattle.wheel.specs.Midway.{InHand}
-
--- ---- the answer of a poll in hand (Poll.antt's `end-drain` needs no more than this)
-
-waits-same : (L M : Lists) → ((v : ℕ → ℕ) → amount v M ≡ amount v L) → (y : ℕ) → Waits L y → Waits M y
-unfolding amount
-waits-same L M e y k = times-lies expired M y (omega (arith, e (hits y), lies-times expired L y (k .0) (k .1) (k .2)))
-
-end-drain : {d : ℕ → ℕ} {now e : ℕ} {L : Lists} {m c : ℕ} {M : Lists} {got : Option ℕ} {moves drains e′ : ℕ} {N : Lists} → Drained d e L m c M
-    → Promise d now c M got moves drains e′ N → Promise d now e L got (m + moves) (suc drains) e′ N
-unfolding amount
-end-drain {d} {now} {e} {L} {m} {c} {M} {got} {moves} {drains} {e′} {N} D R =
-    record {
-      fair = fair-back got (R .fair);
-      kept = λ v. R .kept v ∙ D .kept v;
-      clock = R .clock ∙ clock-back got (R .fair);
-      rule = R .rule;
-      counted = omega (arith, R .counted, D .fallen);
-      few = omega (arith, R .few, D .some);
-      none = λ z. absurd (omega arith);
-      aside = λ q h. R .aside q h ∙ D .aside q h;
-    }
-  where
-    there : (y : ℕ) → Waits L y → Waits M y
-    there y k = waits-same L M (D .kept) y k
-
-    back : (y : ℕ) → Waits M y → Waits L y
-    back y k = waits-same M L (λ v. sym (D .kept v)) y k
-
-    fair-back : (o : Option ℕ) → Fair d now M o → Fair d now L o
-    fair-back none f = λ y k. f y (there y k)
-    fair-back (some x) f = (back x (f .0), f .1, λ y k. f .2 y (there y k))
-
-    clock-back : (o : Option ℕ) → Fair d now M o → clockAfter d now c o ≡ clockAfter d now e o
-    clock-back none f = refl
-    clock-back (some x) f =
-        let k = back x (f .0) in
-        omega (arith, D .rises, D .whole, D .reached (k .0) x (k .1) (k .2))
 
 some-moves : {d : ℕ → ℕ} {k h m x : ℕ} {L M : Lists} {l : List ℕ} → L h ≡ x ∷ l → Drains d k h L m M → 0 < m
 some-moves is (drained e) = absurd (nil≢cons (sym e ∙ is))

@@ -50,7 +50,7 @@ unfolding amount
 waits-on {L = L} {N = N} P y z k = times-lies expired N y (omega (arith, P .kept (hits y), lies-times expired L y (k .0) (k .1) (k .2)))
 
 -- where nobody waits nobody does
-none-waits : {L : Lists} → NoneWaits L → (q y : ℕ) → q < expired → Mem y (L q) → ⊥
+pub none-waits : {L : Lists} → NoneWaits L → (q y : ℕ) → q < expired → Mem y (L q) → ⊥
 none-waits {L} N q y hq m =
     by-cases (decLt q slots) (λ h. subst (Mem y) (N .0 q h) m)
     (λ h. let z : q ≡ parking = omega (arith, hq, h) in subst (Mem y) (ap L z ∙ N .1) m)
@@ -117,38 +117,38 @@ module _ {d : ℕ → ℕ} {now e : ℕ} {L : Lists} (B : Between d e L) (stack 
         aside = λ q h. change-other L p l q (omega (arith, hp));
       }
 
-  -- a drain, and what the rest of the poll does
-  end-drain : {m c : ℕ} {M : Lists} {got : Option ℕ} {moves drains e′ : ℕ} {N : Lists} → Drained d e L m c M
-      → Promise d now c M got moves drains e′ N → Promise d now e L got (m + moves) (suc drains) e′ N
-  unfolding amount
-  end-drain {m} {c} {M} {got} {moves} {drains} {e′} {N} D R =
-      record {
-        fair = fair-back got (R .fair);
-        kept = λ v. R .kept v ∙ D .kept v;
-        clock = R .clock ∙ clock-back got (R .fair);
-        rule = R .rule;
-        counted = omega (arith, R .counted, D .fallen);
-        few = omega (arith, R .few, D .some);
-        none = λ z. absurd (omega arith);
-        aside = λ q h. R .aside q h ∙ D .aside q h;
-      }
-    where
-      -- the same wait
-      there : (y : ℕ) → Waits L y → Waits M y
-      there y k = waits-same L M (D .kept) y k
+-- a drain, and what the rest of the poll does
+pub end-drain : {d : ℕ → ℕ} {now e : ℕ} {L : Lists} {m c : ℕ} {M : Lists} {got : Option ℕ} {moves drains e′ : ℕ} {N : Lists}
+    → Drained d e L m c M → Promise d now c M got moves drains e′ N → Promise d now e L got (m + moves) (suc drains) e′ N
+unfolding amount
+end-drain {d} {now} {e} {L} {m} {c} {M} {got} {moves} {drains} {e′} {N} D R =
+    record {
+      fair = fair-back got (R .fair);
+      kept = λ v. R .kept v ∙ D .kept v;
+      clock = R .clock ∙ clock-back got (R .fair);
+      rule = R .rule;
+      counted = omega (arith, R .counted, D .fallen);
+      few = omega (arith, R .few, D .some);
+      none = λ z. absurd (omega arith);
+      aside = λ q h. R .aside q h ∙ D .aside q h;
+    }
+  where
+    -- the same wait
+    there : (y : ℕ) → Waits L y → Waits M y
+    there y k = waits-same L M (D .kept) y k
 
-      back : (y : ℕ) → Waits M y → Waits L y
-      back y k = waits-same M L (λ v. sym (D .kept v)) y k
+    back : (y : ℕ) → Waits M y → Waits L y
+    back y k = waits-same M L (λ v. sym (D .kept v)) y k
 
-      fair-back : (o : Option ℕ) → Fair d now M o → Fair d now L o
-      fair-back none f = λ y k. f y (there y k)
-      fair-back (some x) f = (back x (f .0), f .1, λ y k. f .2 y (there y k))
+    fair-back : (o : Option ℕ) → Fair d now M o → Fair d now L o
+    fair-back none f = λ y k. f y (there y k)
+    fair-back (some x) f = (back x (f .0), f .1, λ y k. f .2 y (there y k))
 
-      clock-back : (o : Option ℕ) → Fair d now M o → clockAfter d now c o ≡ clockAfter d now e o
-      clock-back none f = refl
-      clock-back (some x) f =
-          let k = back x (f .0) in
-          omega (arith, D .rises, D .whole, D .reached (k .0) x (k .1) (k .2))
+    clock-back : (o : Option ℕ) → Fair d now M o → clockAfter d now c o ≡ clockAfter d now e o
+    clock-back none f = refl
+    clock-back (some x) f =
+        let k = back x (f .0) in
+        omega (arith, D .rises, D .whole, D .reached (k .0) x (k .1) (k .2))
 
 -- ---- a whole poll
 
@@ -160,4 +160,4 @@ poll-law B s l (early X far) = end-rest B s l (λ q y hq m. lt-of-lt-of-le far (
 poll-law B s l (out F due is) = end-out B s l F due is
 poll-law B s l (drain X due D r) =
     let R = drain-law B X D in
-    end-drain B s l R (poll-law (R .rule) (R .aside expired (omega arith) ∙ s) due r)
+    end-drain R (poll-law (R .rule) (R .aside expired (omega arith) ∙ s) due r)
