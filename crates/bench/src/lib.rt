@@ -41,7 +41,7 @@ pub fn answer_line(
     limits: bool,
     line: &[u8],
     state: Wheel,
-    heads: [[u16; 64]; 6],
+    heads: Heads,
     values: &mut [u64],
     deadlines: &mut [u64],
     nexts: &mut [u16],
@@ -55,7 +55,7 @@ pub fn answer_line(
         LineClaim
         limits
         (old line)
-        (before state heads values deadlines nexts prevs turns marks)
+        (before state (heads .rows) values deadlines nexts prevs turns marks)
         (old out)
         at
         (after (r .state) (r .heads .rows) values deadlines nexts prevs turns marks)
@@ -67,7 +67,7 @@ pub fn answer_line(
         Line::Asks(call) => {
             let reply = any_call::ask(
                 state,
-                heads,
+                delay_queue::rows_of(heads),
                 values,
                 deadlines,
                 nexts,
@@ -78,21 +78,20 @@ pub fn answer_line(
             );
             let answer = reply.answer;
             let after = reply.state;
-            let rows = reply.heads;
+            let left = reply.heads;
             let end = write_answer(out, at, answer);
             Answered {
                 at: end,
                 state: after,
-                heads: rows,
+                heads: left,
             }
         }
         Line::Bad => {
             let end = write_bad(out, at);
-            let rows = delay_queue::heads_of(heads);
             Answered {
                 at: end,
                 state,
-                heads: rows,
+                heads,
             }
         }
     }

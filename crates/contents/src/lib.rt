@@ -57,7 +57,7 @@ fn slot(out: &mut [u8], pen: Pen, nexts: &[u16], n: u16, k: u64, s: u64, h: u16)
 fn slots(out: &mut [u8], pen: Pen, state: Wheel, heads: &[[u16; 64]; 6], nexts: &[u16]) -> Pen {
     let stacks = state.stacks;
     let n = stacks.n;
-    let tops = [n, stacks.expired, stacks.free, stacks.parking];
+    let tops = stack::tops_of(stacks);
     let mut p = pen;
     let mut place = 0u16;
     while place <= stack::PARKING {

@@ -104,33 +104,16 @@ fn packed(
     elapsed: u64,
     rows: [u64; 6],
     tops: [u16; 4],
-    slots: [[u16; 64]; 6],
+    heads: [[u16; 64]; 6],
     hand: u16,
     until: u64,
 ) -> Reply
     ensures { λ r. ⌜
         (r .answer ≡ answer)
-        × (r .state ≡ wheelOf elapsed rows tops hand until) × (r .heads .rows ≡ slots) ⌝ }
+        × (r .state ≡ wheelOf elapsed rows tops hand until) × (r .heads .rows ≡ heads) ⌝ }
 {
-    let stacks = Stacks {
-        n: tops[0],
-        expired: tops[1],
-        free: tops[2],
-        parking: tops[3],
-    };
-    let state = Wheel {
-        elapsed,
-        occupied: rows,
-        stacks,
-        hand,
-        until,
-    };
-    let h = heads_of(slots);
-    Reply {
-        answer,
-        state,
-        heads: h,
-    }
+    let state = records::wheel_of(elapsed, rows, tops, hand, until);
+    unchanged(answer, state, heads)
 }
 
 // 2 for a store that is not sound, 12 while a poll is in hand, 0 if it is neither.
@@ -147,10 +130,10 @@ fn free_no(
     ensures { λ r. ⌜ FreeNo (before state heads values deadlines nexts prevs turns marks) r ⌝ }
 {
     if !judge::is_sound(state, heads, values, deadlines, nexts, prevs, turns, marks) {
-        return 2;
+        return refusals::NOT_SOUND;
     }
     if state.hand != links::NOBODY {
-        return 12;
+        return refusals::POLL_IN_HAND;
     }
     0
 }
@@ -182,19 +165,19 @@ fn format_no(
         FormatNo (Fits (slices values deadlines nexts prevs turns marks) n) (InRange turn) r ⌝ }
 {
     if n == 0 {
-        return 1;
+        return refusals::NO_ROOM;
     }
     if (records::LIMIT as u64) < n {
-        return 1;
+        return refusals::NO_ROOM;
     }
     if !judge::has_room(n as u16, values, deadlines, nexts, prevs, turns, marks) {
-        return 1;
+        return refusals::NO_ROOM;
     }
     if turn == 0 {
-        return 8;
+        return refusals::BAD_TURN;
     }
     if records::LAST_TURN < turn {
-        return 8;
+        return refusals::BAD_TURN;
     }
     0
 }
@@ -225,7 +208,7 @@ fn make(
 // Every record of n is free, with the first turn `turn`. What the store was before does not matter.
 pub fn format(
     state: Wheel,
-    heads: [[u16; 64]; 6],
+    mut heads: [[u16; 64]; 6],
     values: &mut [u64],
     deadlines: &mut [u64],
     nexts: &mut [u16],
@@ -244,10 +227,9 @@ pub fn format(
         return refused(number, state, heads);
     }
     let mut tops = [0u16; 4];
-    let mut slots = heads;
     make(
         &mut tops,
-        &mut slots,
+        &mut heads,
         values,
         deadlines,
         nexts,
@@ -258,13 +240,13 @@ pub fn format(
         turn,
     );
     let rows = [0u64; 6];
-    packed(Answer::Done, 0, rows, tops, slots, links::NOBODY, 0)
+    packed(Answer::Done, 0, rows, tops, heads, links::NOBODY, 0)
 }
 
 // A timer with the value, at the deadline `when` and then after each period, if it is not 0: its key.
 pub fn insert(
     state: Wheel,
-    heads: [[u16; 64]; 6],
+    mut heads: [[u16; 64]; 6],
     values: &mut [u64],
     deadlines: &mut [u64],
     nexts: &mut [u16],
@@ -285,14 +267,12 @@ pub fn insert(
     }
     let elapsed = state.elapsed;
     let mut rows = state.occupied;
-    let stacks = state.stacks;
-    let mut tops = [stacks.n, stacks.expired, stacks.free, stacks.parking];
-    let mut slots = heads;
+    let mut tops = stack::tops_of(state.stacks);
     let answer = queue::insert(
         elapsed,
         &mut rows,
         &mut tops,
-        &mut slots,
+        &mut heads,
         values,
         deadlines,
         nexts,
@@ -303,13 +283,13 @@ pub fn insert(
         when,
         period,
     );
-    packed(answer, elapsed, rows, tops, slots, links::NOBODY, 0)
+    packed(answer, elapsed, rows, tops, heads, links::NOBODY, 0)
 }
 
 // The timer of the key gets the deadline `when`.
 pub fn reset(
     state: Wheel,
-    heads: [[u16; 64]; 6],
+    mut heads: [[u16; 64]; 6],
     values: &[u64],
     deadlines: &mut [u64],
     nexts: &mut [u16],
@@ -329,14 +309,12 @@ pub fn reset(
     }
     let elapsed = state.elapsed;
     let mut rows = state.occupied;
-    let stacks = state.stacks;
-    let mut tops = [stacks.n, stacks.expired, stacks.free, stacks.parking];
-    let mut slots = heads;
+    let mut tops = stack::tops_of(state.stacks);
     let answer = queue::reset(
         elapsed,
         &mut rows,
         &mut tops,
-        &mut slots,
+        &mut heads,
         values,
         deadlines,
         nexts,
@@ -346,13 +324,13 @@ pub fn reset(
         key,
         when,
     );
-    packed(answer, elapsed, rows, tops, slots, links::NOBODY, 0)
+    packed(answer, elapsed, rows, tops, heads, links::NOBODY, 0)
 }
 
 // The timer of the key is taken out: its value and deadline.
 pub fn remove(
     state: Wheel,
-    heads: [[u16; 64]; 6],
+    mut heads: [[u16; 64]; 6],
     values: &[u64],
     deadlines: &[u64],
     nexts: &mut [u16],
@@ -371,14 +349,12 @@ pub fn remove(
     }
     let elapsed = state.elapsed;
     let mut rows = state.occupied;
-    let stacks = state.stacks;
-    let mut tops = [stacks.n, stacks.expired, stacks.free, stacks.parking];
-    let mut slots = heads;
+    let mut tops = stack::tops_of(state.stacks);
     let answer = queue::remove(
         elapsed,
         &mut rows,
         &mut tops,
-        &mut slots,
+        &mut heads,
         values,
         deadlines,
         nexts,
@@ -387,14 +363,14 @@ pub fn remove(
         marks,
         key,
     );
-    packed(answer, elapsed, rows, tops, slots, links::NOBODY, 0)
+    packed(answer, elapsed, rows, tops, heads, links::NOBODY, 0)
 }
 
 // A timer that is due at `time`, or nothing, or not yet: it stops before the move that would exceed `limit`, and the next
 // poll at `time` goes on.
 pub fn poll_some(
     state: Wheel,
-    heads: [[u16; 64]; 6],
+    mut heads: [[u16; 64]; 6],
     values: &[u64],
     deadlines: &mut [u64],
     nexts: &mut [u16],
@@ -409,18 +385,16 @@ pub fn poll_some(
         time limit (r .answer) (after (r .state) (r .heads .rows) values deadlines nexts prevs turns marks) ⌝ }
 {
     if !judge::is_sound(state, heads, values, deadlines, nexts, prevs, turns, marks) {
-        return refused(2, state, heads);
+        return refused(refusals::NOT_SOUND, state, heads);
     }
     let elapsed = state.elapsed;
     let mut rows = state.occupied;
-    let stacks = state.stacks;
-    let mut tops = [stacks.n, stacks.expired, stacks.free, stacks.parking];
-    let mut slots = heads;
+    let mut tops = stack::tops_of(state.stacks);
     let out = queue::poll(
         elapsed,
         &mut rows,
         &mut tops,
-        &mut slots,
+        &mut heads,
         values,
         deadlines,
         nexts,
@@ -436,7 +410,7 @@ pub fn poll_some(
     let e = out.elapsed;
     let hand = out.hand;
     let until = out.until;
-    packed(answer, e, rows, tops, slots, hand, until)
+    packed(answer, e, rows, tops, heads, hand, until)
 }
 
 // A timer that is due at `time`, or nothing: no store has so many moves to make.
@@ -512,7 +486,7 @@ pub fn length(
     ensures { λ r. ⌜ LengthClaim (before state heads values deadlines nexts prevs turns marks) r ⌝ }
 {
     if !judge::is_sound(state, heads, values, deadlines, nexts, prevs, turns, marks) {
-        return Answer::No(2);
+        return Answer::No(refusals::NOT_SOUND);
     }
     let stacks = state.stacks;
     let n = queue::length(stacks.n, marks);
@@ -522,7 +496,7 @@ pub fn length(
 // No timer is pending any more, and elapsed is 0.
 pub fn clear(
     state: Wheel,
-    heads: [[u16; 64]; 6],
+    mut heads: [[u16; 64]; 6],
     values: &[u64],
     deadlines: &[u64],
     nexts: &mut [u16],
@@ -535,18 +509,16 @@ pub fn clear(
         (r .answer) (after (r .state) (r .heads .rows) values deadlines nexts prevs turns marks) ⌝ }
 {
     if !judge::is_sound(state, heads, values, deadlines, nexts, prevs, turns, marks) {
-        return refused(2, state, heads);
+        return refused(refusals::NOT_SOUND, state, heads);
     }
     let elapsed = state.elapsed;
     let mut rows = state.occupied;
-    let stacks = state.stacks;
-    let mut tops = [stacks.n, stacks.expired, stacks.free, stacks.parking];
-    let mut slots = heads;
+    let mut tops = stack::tops_of(state.stacks);
     let answer = queue::clear(
         elapsed,
         &mut rows,
         &mut tops,
-        &mut slots,
+        &mut heads,
         values,
         deadlines,
         nexts,
@@ -554,5 +526,5 @@ pub fn clear(
         turns,
         marks,
     );
-    packed(answer, 0, rows, tops, slots, links::NOBODY, 0)
+    packed(answer, 0, rows, tops, heads, links::NOBODY, 0)
 }

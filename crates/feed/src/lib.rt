@@ -1,7 +1,6 @@
 // The bench over what was read: the lines of a chunk are answered one after the other, as far as the output has room.
 use bench::Answered;
 use delay_queue::Heads;
-use stack::Stacks;
 use wheel::Wheel;
 ghost use Prim.Native.Nat.{_+_, _≤_, _<_};
 ghost use Rattle.contracts.specs.Lent.{old, new};
@@ -255,11 +254,10 @@ pub fn answer_lines(
         (new out)
         (r .at)) ⌝ }
 {
-    let mut slots = delay_queue::rows_of(heads);
-    let sound = judge::is_sound(state, slots, values, deadlines, nexts, prevs, turns, marks);
+    let mut here = delay_queue::rows_of(heads);
+    let sound = judge::is_sound(state, here, values, deadlines, nexts, prevs, turns, marks);
     let mut rows = state.occupied;
-    let stacks = state.stacks;
-    let mut tops = [stacks.n, stacks.expired, stacks.free, stacks.parking];
+    let mut tops = stack::tops_of(state.stacks);
     let r = answer_parts(
         limits,
         got,
@@ -270,7 +268,7 @@ pub fn answer_lines(
         state.elapsed,
         &mut rows,
         &mut tops,
-        &mut slots,
+        &mut here,
         values,
         deadlines,
         nexts,
@@ -281,20 +279,8 @@ pub fn answer_lines(
         state.until,
         out,
     );
-    let ends = Stacks {
-        n: tops[0],
-        expired: tops[1],
-        free: tops[2],
-        parking: tops[3],
-    };
-    let after = Wheel {
-        elapsed: r.elapsed,
-        occupied: rows,
-        stacks: ends,
-        hand: r.hand,
-        until: r.until,
-    };
-    let h = delay_queue::heads_of(slots);
+    let after = records::wheel_of(r.elapsed, rows, tops, r.hand, r.until);
+    let h = delay_queue::heads_of(here);
     Fed {
         next: r.next,
         kept: r.kept,
@@ -335,12 +321,11 @@ pub fn answer_last(
             heads,
         };
     }
-    let rows = delay_queue::rows_of(heads);
     bench::answer_line(
         limits,
         line,
         state,
-        rows,
+        heads,
         values,
         deadlines,
         nexts,

@@ -136,10 +136,10 @@ pub fn read(g: Gauge, slow: f64, late: f64) -> Reading
     ensures { λ r. ⌜ r ≡ readingOf g slow late ⌝ }
 {
     if !is_limit(slow) {
-        return Reading::No(9);
+        return Reading::No(refusals::BAD_LIMIT);
     }
     if !is_limit(late) {
-        return Reading::No(9);
+        return Reading::No(refusals::BAD_LIMIT);
     }
     Reading::Shows(light_at(g, slow, late))
 }

@@ -63,7 +63,7 @@ fn patched(refused: bool) -> Answer
     ensures { λ r. ⌜ told r ≡ cond refused (T.no 13) T.ok ⌝ }
 {
     if refused {
-        return Answer::No(13);
+        return Answer::No(refusals::BAD_PATCH);
     }
     Answer::Done
 }

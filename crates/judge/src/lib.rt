@@ -206,7 +206,7 @@ pub fn is_sound(
         return false;
     }
     let rows = state.occupied;
-    let tops = [n, stacks.expired, stacks.free, stacks.parking];
+    let tops = stack::tops_of(stacks);
     let e = state.elapsed;
     if !wheel::is_whole(e, &rows, &tops, &heads, nexts, prevs, marks) {
         return false;

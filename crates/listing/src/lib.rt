@@ -182,7 +182,7 @@ fn slot(out: &mut [u8], pen: Pen, nexts: &[u16], n: u16, k: u64, s: u64, head: u
 
 // All slots, levels and slots rising.
 fn slots(out: &mut [u8], pen: Pen, tops: &[u16; 4], heads: &[[u16; 64]; 6], nexts: &[u16]) -> Pen {
-    let n = tops[0];
+    let n = stack::count_of(tops);
     let mut p = pen;
     let mut place = 0u16;
     while place < stack::SLOTS {
@@ -205,7 +205,7 @@ fn lists(
     marks: &[u16],
 ) -> Pen {
     let n = stacks.n;
-    let tops = [n, stacks.expired, stacks.free, stacks.parking];
+    let tops = stack::tops_of(stacks);
     let p = free(out, pen, nexts, n, stacks.free);
     let q = retired(out, p, marks, n);
     let r = named(out, q, b"expired", nexts, n, stacks.expired);

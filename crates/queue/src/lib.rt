@@ -35,7 +35,7 @@ pub enum Answer {
     NoWake,
     // length
     Length(u64),
-    // the number of the refusal
+    // the number of the refusal, one of the crate refusals
     No(u64),
 }
 
@@ -69,17 +69,15 @@ pub fn insert(
         InsertOn (before elapsed rows tops heads values deadlines nexts prevs turns marks)
         value when period r (after elapsed rows tops heads values deadlines nexts prevs turns marks) ⌝ }
 {
-    if tops[2] == links::NOBODY {
-        return Answer::No(3);
+    if stack::first_free(tops) == links::NOBODY {
+        return Answer::No(refusals::FULL);
     }
     let no = records::deadline_no(elapsed, when);
     if no != 0 {
         return Answer::No(no);
     }
     let item = wheel::pop(elapsed, rows, tops, heads, nexts, prevs, marks, stack::FREE);
-    let at = 2 * (item as usize);
-    values[at] = value;
-    values[at + 1] = period;
+    records::give(values, item, value, period);
     let key = records::key_of(turns[item as usize], item);
     records::place(
         elapsed,
@@ -116,9 +114,9 @@ pub fn reset(
         ResetOn (before elapsed rows tops heads values deadlines nexts prevs turns marks)
         key when r (after elapsed rows tops heads values deadlines nexts prevs turns marks) ⌝ }
 {
-    let found = records::find(tops[0], turns, marks, key);
+    let found = records::find(stack::count_of(tops), turns, marks, key);
     let records::Found::At(item) = found else {
-        return Answer::No(6);
+        return Answer::No(refusals::DEAD_KEY);
     };
     let no = records::deadline_no(elapsed, when);
     if no != 0 {
@@ -159,13 +157,12 @@ pub fn remove(
         RemoveOn (before elapsed rows tops heads values deadlines nexts prevs turns marks)
         key r (after elapsed rows tops heads values deadlines nexts prevs turns marks) ⌝ }
 {
-    let found = records::find(tops[0], turns, marks, key);
+    let found = records::find(stack::count_of(tops), turns, marks, key);
     let records::Found::At(item) = found else {
-        return Answer::No(6);
+        return Answer::No(refusals::DEAD_KEY);
     };
-    let k = item as usize;
-    let value = values[2 * k];
-    let deadline = deadlines[k];
+    let value = records::value_of(values, item);
+    let deadline = deadlines[item as usize];
     wheel::remove(elapsed, rows, tops, heads, nexts, prevs, marks, item);
     records::leave(elapsed, rows, tops, heads, nexts, prevs, turns, marks, item);
     Answer::Gone(value, deadline)
@@ -195,8 +192,8 @@ fn hand_out(
 {
     let k = item as usize;
     let key = records::key_of(turns[k], item);
-    let value = values[2 * k];
-    let period = values[2 * k + 1];
+    let value = records::value_of(values, item);
+    let period = records::period_of(values, item);
     let deadline = deadlines[k];
     if period == 0 {
         records::leave(elapsed, rows, tops, heads, nexts, prevs, turns, marks, item);
@@ -282,12 +279,12 @@ fn poll_no(elapsed: u64, hand: u16, until: u64, time: u64) -> u64
 {
     if hand != links::NOBODY {
         if time != until {
-            return 12;
+            return refusals::POLL_IN_HAND;
         }
         return 0;
     }
     if time < elapsed {
-        return 7;
+        return refusals::BACK_IN_TIME;
     }
     0
 }
@@ -466,7 +463,7 @@ pub fn clear(
         ((h u : ℕ) → ClearOn (holding h u (before elapsed rows tops heads values deadlines nexts prevs turns marks))
         r (after 0 rows tops heads values deadlines nexts prevs turns marks)) ⌝ }
 {
-    let n = tops[0];
+    let n = stack::count_of(tops);
     let mut i = 0u16;
     while i < n {
         clear_one(

@@ -1,3 +1,4 @@
+pub mod Lent
 pub mod View
 pub mod Words
 pub mod Inner

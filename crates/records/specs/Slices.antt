@@ -1,7 +1,7 @@
 -- The six slices of a store, and when they are long enough.
 use mathlib.Core.List.{List}
 use Prim.Native.Nat.{ℕ, _+_, _*_, _≤_, _<_}
-use lib.ListN.{length}
+use lib.ListN.{length, set}
 use Rattle.contracts.specs.Lent.{Lent, Turned, old}
 use Rattle.links.specs.Links.{Links, links, at}
 use Rattle.links.specs.Links as linked
@@ -30,6 +30,10 @@ valueAt vs i = at vs (2 * i)
 
 abbrev pub periodAt : List ℕ → ℕ → ℕ
 periodAt vs i = at vs (2 * i + 1)
+
+-- they become x and y
+abbrev pub given : List ℕ → ℕ → ℕ → ℕ → List ℕ
+given vs i x y = set (set vs (2 * i) x) (2 * i + 1) y
 
 -- none of them is too short for n records
 pub record Room (n : ℕ) (l : Slices) : Type 0 where

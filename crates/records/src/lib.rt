@@ -1,12 +1,15 @@
-// Records in lent slices: their keys and turns, where a deadline may lie, and how one joins the wheel or leaves the store.
+// Records in lent slices: their values, keys and turns, where a deadline may lie, and how one joins the wheel or leaves the store.
+use wheel::Wheel;
 ghost use mathlib.Core.Path.{_≡_};
-ghost use Prim.Native.Nat.{_+_, _^_, _≤_, _<_, max};
+ghost use Prim.Native.Nat.{_+_, _*_, _^_, _≤_, _<_, max};
 ghost use lib.ListN.{length};
 ghost use Rattle.contracts.specs.Lent.{old, new};
 ghost use Rattle.contracts.specs.Tells.{Tells};
 ghost use Rattle.stack.specs.Places.{slots, free};
 ghost use Rattle.wheel.specs.Words.{lent, before, after};
 ghost use Rattle.records.specs.Records.{packed, turnIn, numberIn, target};
+ghost use Rattle.records.specs.Slices.{valueAt, periodAt, given};
+ghost use Rattle.records.specs.Store.{wheelOf};
 ghost use Rattle.records.specs.Inner.{HasSlot, PlacesTo, CanPlace, LeavesTo, CanFree};
 ghost use Rattle.records.specs.Found.{AheadNo, DeadlineNo, AgainIs, FindIs};
 
@@ -31,12 +34,49 @@ pub enum Again {
     Never,
 }
 
+// The state, put together again.
+pub fn wheel_of(elapsed: u64, rows: [u64; 6], tops: [u16; 4], hand: u16, until: u64) -> Wheel
+    ensures { λ r. ⌜ r ≡ wheelOf elapsed rows tops hand until ⌝ }
+{
+    Wheel {
+        elapsed,
+        occupied: rows,
+        stacks: stack::stacks_of(tops),
+        hand,
+        until,
+    }
+}
+
+// A record has two words of `values`, of which no other crate knows the order: its value and, behind it, its period.
+pub fn value_of(values: &[u64], item: u16) -> u64
+    requires { ⌜ 2 * item < length (now values) ⌝ }
+    ensures { λ r. ⌜ r ≡ valueAt (old values) item ⌝ }
+{
+    values[2 * (item as usize)]
+}
+
+pub fn period_of(values: &[u64], item: u16) -> u64
+    requires { ⌜ 2 * item + 1 < length (now values) ⌝ }
+    ensures { λ r. ⌜ r ≡ periodAt (old values) item ⌝ }
+{
+    values[2 * (item as usize) + 1]
+}
+
+pub fn give(values: &mut [u64], item: u16, value: u64, period: u64)
+    requires { ⌜ 2 * item + 1 < length (now values) ⌝ }
+    ensures { λ _. ⌜ new values ≡ given (old values) item value period ⌝ }
+{
+    let k = 2 * (item as usize);
+    values[k] = value;
+    values[k + 1] = period;
+}
+
 // 4 for a deadline that lies too far ahead of elapsed, 0 for one that does not.
 fn ahead_no(elapsed: u64, when: u64) -> u64
     ensures { λ r. ⌜ AheadNo elapsed when r ⌝ }
 {
     if times::too_far(elapsed, when) {
-        return 4;
+        return refusals::TOO_FAR;
     }
     0
 }
@@ -47,7 +87,7 @@ pub fn deadline_no(elapsed: u64, when: u64) -> u64
 {
     if when < elapsed {
         if elapsed - when > MAX_AGE {
-            return 11;
+            return refusals::TOO_OLD;
         }
         return 0;
     }

@@ -5,7 +5,6 @@ use delay_queue::Heads;
 use entries::Ending;
 use entries::Next;
 use entries::Step;
-use stack::Stacks;
 use wheel::Wheel;
 ghost use mathlib.Core.Path.{_≡_};
 ghost use mathlib.Core.Bool.{cond};
@@ -110,13 +109,13 @@ fn format_number(
     ensures { λ r. ⌜ Short (Fits (slices values deadlines nexts prevs turns marks) n) r ⌝ }
 {
     if n == 0 {
-        return 1;
+        return refusals::NO_ROOM;
     }
     if (records::LIMIT as u64) < n {
-        return 1;
+        return refusals::NO_ROOM;
     }
     if !judge::has_room(n as u16, values, deadlines, nexts, prevs, turns, marks) {
-        return 1;
+        return refusals::NO_ROOM;
     }
     0
 }
@@ -491,18 +490,17 @@ pub fn apply(
         Applies (old bytes) (before state (heads .rows) values deadlines nexts prevs turns marks) (r .used)
         (after (r .state) (r .heads .rows) values deadlines nexts prevs turns marks) ⌝ }
 {
-    let mut slots = delay_queue::rows_of(heads);
-    let sound = judge::is_sound(state, slots, values, deadlines, nexts, prevs, turns, marks);
+    let mut here = delay_queue::rows_of(heads);
+    let sound = judge::is_sound(state, here, values, deadlines, nexts, prevs, turns, marks);
     let mut rows = state.occupied;
-    let stacks = state.stacks;
-    let mut tops = [stacks.n, stacks.expired, stacks.free, stacks.parking];
+    let mut tops = stack::tops_of(state.stacks);
     let r = apply_parts(
         bytes,
         sound,
         state.elapsed,
         &mut rows,
         &mut tops,
-        &mut slots,
+        &mut here,
         values,
         deadlines,
         nexts,
@@ -512,20 +510,8 @@ pub fn apply(
         state.hand,
         state.until,
     );
-    let ends = Stacks {
-        n: tops[0],
-        expired: tops[1],
-        free: tops[2],
-        parking: tops[3],
-    };
-    let behind = Wheel {
-        elapsed: r.elapsed,
-        occupied: rows,
-        stacks: ends,
-        hand: r.hand,
-        until: r.until,
-    };
-    let h = delay_queue::heads_of(slots);
+    let behind = records::wheel_of(r.elapsed, rows, tops, r.hand, r.until);
+    let h = delay_queue::heads_of(here);
     Applied {
         used: r.used,
         state: behind,

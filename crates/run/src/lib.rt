@@ -3,7 +3,6 @@ use delay_queue::Call;
 use delay_queue::Heads;
 use queue::Answer;
 use queue::Out;
-use stack::Stacks;
 use wheel::Wheel;
 ghost use mathlib.Core.Path.{_≡_};
 ghost use mathlib.Core.Logic.{_≢_};
@@ -191,20 +190,7 @@ fn formats(
         n turn (r .answer) (holding (r .hand) (r .until)
         (after (r .elapsed) rows tops heads values deadlines nexts prevs turns marks)) ⌝ }
 {
-    let stacks = Stacks {
-        n: tops[0],
-        expired: tops[1],
-        free: tops[2],
-        parking: tops[3],
-    };
-    let occupied = *rows;
-    let state = Wheel {
-        elapsed,
-        occupied,
-        stacks,
-        hand,
-        until,
-    };
+    let state = records::wheel_of(elapsed, *rows, *tops, hand, until);
     let reply = delay_queue::format(
         state,
         *heads,
@@ -218,13 +204,12 @@ fn formats(
         turn,
     );
     let made = reply.state;
-    let slots = reply.heads;
+    let fresh = reply.heads;
     let answer = reply.answer;
-    let ends = made.stacks;
     let bits = made.occupied;
     *rows = bits;
-    *tops = [ends.n, ends.expired, ends.free, ends.parking];
-    *heads = delay_queue::rows_of(slots);
+    *tops = stack::tops_of(made.stacks);
+    *heads = delay_queue::rows_of(fresh);
     let e = made.elapsed;
     let h = made.hand;
     let u = made.until;
@@ -276,7 +261,7 @@ fn on_sound(
 {
     if must_wait(hand, call) {
         return Out {
-            answer: Answer::No(12),
+            answer: Answer::No(refusals::POLL_IN_HAND),
             elapsed,
             hand,
             until,
@@ -332,7 +317,7 @@ fn on_sound(
             limit,
         ),
         Call::Length => {
-            let n = queue::length(tops[0], marks);
+            let n = queue::length(stack::count_of(tops), marks);
             Out {
                 answer: Answer::Length(n),
                 elapsed,
@@ -427,7 +412,9 @@ fn on_sound(
             }
         }
         Call::Wake => {
-            let answer = queue::next_wake(elapsed, rows, deadlines, tops[1], tops[3]);
+            let expired = stack::first_expired(tops);
+            let parked = stack::first_parked(tops);
+            let answer = queue::next_wake(elapsed, rows, deadlines, expired, parked);
             Out {
                 answer,
                 elapsed,
@@ -499,7 +486,7 @@ pub fn known(
         };
     }
     let Call::Format(n, turn) = call else {
-        let answer = Answer::No(2);
+        let answer = Answer::No(refusals::NOT_SOUND);
         return Said {
             answer,
             elapsed,
@@ -637,7 +624,7 @@ pub fn answer_all(
 // it says how many were answered and why no more were.
 pub fn run(
     state: Wheel,
-    heads: [[u16; 64]; 6],
+    mut heads: [[u16; 64]; 6],
     values: &mut [u64],
     deadlines: &mut [u64],
     nexts: &mut [u16],
@@ -654,15 +641,13 @@ pub fn run(
 {
     let sound = judge::is_sound(state, heads, values, deadlines, nexts, prevs, turns, marks);
     let mut rows = state.occupied;
-    let stacks = state.stacks;
-    let mut tops = [stacks.n, stacks.expired, stacks.free, stacks.parking];
-    let mut slots = heads;
+    let mut tops = stack::tops_of(state.stacks);
     let went = answer_all(
         sound,
         state.elapsed,
         &mut rows,
         &mut tops,
-        &mut slots,
+        &mut heads,
         values,
         deadlines,
         nexts,
@@ -674,20 +659,8 @@ pub fn run(
         commands,
         answers,
     );
-    let ends = Stacks {
-        n: tops[0],
-        expired: tops[1],
-        free: tops[2],
-        parking: tops[3],
-    };
-    let after = Wheel {
-        elapsed: went.elapsed,
-        occupied: rows,
-        stacks: ends,
-        hand: went.hand,
-        until: went.until,
-    };
-    let h = delay_queue::heads_of(slots);
+    let after = records::wheel_of(went.elapsed, rows, tops, went.hand, went.until);
+    let h = delay_queue::heads_of(heads);
     let why = went.why;
     Ran {
         done: went.done,

@@ -37,6 +37,49 @@ pub struct Stacks {
     pub parking: u16,
 }
 
+// The words of `tops`, of which no other crate knows the order.
+pub fn tops_of(stacks: Stacks) -> [u16; 4]
+    ensures { λ r. ⌜ stacksOf r ≡ stacks ⌝ }
+{
+    [stacks.n, stacks.expired, stacks.free, stacks.parking]
+}
+
+pub fn stacks_of(tops: [u16; 4]) -> Stacks
+    ensures { λ r. ⌜ r ≡ stacksOf tops ⌝ }
+{
+    Stacks {
+        n: tops[0],
+        expired: tops[1],
+        free: tops[2],
+        parking: tops[3],
+    }
+}
+
+// How many records there are, and the heads of the lists that are no slot.
+pub fn count_of(tops: &[u16; 4]) -> u16
+    ensures { λ r. ⌜ r ≡ stacksOf (old tops) .n ⌝ }
+{
+    tops[0]
+}
+
+pub fn first_expired(tops: &[u16; 4]) -> u16
+    ensures { λ r. ⌜ r ≡ stacksOf (old tops) .expired ⌝ }
+{
+    tops[1]
+}
+
+pub fn first_free(tops: &[u16; 4]) -> u16
+    ensures { λ r. ⌜ r ≡ stacksOf (old tops) .free ⌝ }
+{
+    tops[2]
+}
+
+pub fn first_parked(tops: &[u16; 4]) -> u16
+    ensures { λ r. ⌜ r ≡ stacksOf (old tops) .parking ⌝ }
+{
+    tops[3]
+}
+
 pub fn slot_place(level: usize, slot: usize) -> u16
     requires { ⌜ (level < 6) × (slot < 64) ⌝ }
     ensures { λ r. ⌜ r ≡ slotPlace level slot ⌝ }

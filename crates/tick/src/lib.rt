@@ -46,7 +46,7 @@ pub fn read(front: Front, tick: u32) -> Seen
     let time = front.time;
     let step = difference(time, tick);
     if u64::MAX - time < step {
-        let answer = Answer::No(10);
+        let answer = Answer::No(refusals::TIME_OVER);
         return Seen { answer, front };
     }
     let answer = Answer::Done;

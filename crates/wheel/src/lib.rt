@@ -377,7 +377,7 @@ fn list_head(tops: &[u16; 4], heads: &[[u16; 64]; 6], level: usize, slot: usize)
     if level < times::NUM_LEVELS {
         return heads[level][slot];
     }
-    tops[3]
+    stack::first_parked(tops)
 }
 
 // Where the list of a slot starts, or the parking list, if that is a u64.
@@ -445,7 +445,7 @@ pub fn poll(
     let mut moves = 0u64;
     let mut drains = 0u64;
     let item = loop {
-        let next = next_list(e, rows, deadlines, tops[3], place);
+        let next = next_list(e, rows, deadlines, stack::first_parked(tops), place);
         let Next::At(expiration) = next else {
             e = time;
             break links::NOBODY;
@@ -504,7 +504,7 @@ pub fn is_whole(
     requires { ⌜ CanJudge (lent elapsed rows tops heads nexts prevs marks) ⌝ }
     ensures { λ r. ⌜ Tells (WheelWhole (before elapsed rows tops heads nexts prevs marks)) r ⌝ }
 {
-    let mut left = tops[0];
+    let mut left = stack::count_of(tops);
     let mut level: usize = 0;
     while level < times::NUM_LEVELS {
         let seen = stack::walk_level(tops, heads, nexts, prevs, marks, level, left);

@@ -1,6 +1,6 @@
 -- `answer_line` meets its claim: heard, done and written, or `bad` written and nothing else touched.
 use borrow.Author.Needs.{needs}
-use Rattle.bench.proofs.laws.Line.{line-asks, line-bad}
+use Rattle.bench.proofs.laws.Line.{line-asks, line-rows, line-not}
 use Rattle.bench.proofs.answer_line.Statement.{statement}
 use Rattle.bench.proofs.answer_line.Tie as tie
 
@@ -12,21 +12,28 @@ to-ask c =
     let e = d .before .before .before .before in
     e .before .before
 
-abbrev to-asked : tie.After-ask → tie.After-asked
-to-asked c =
+abbrev to-rows : tie.After-ask → tie.After-rows-of
+to-rows c =
     let a = c .before .before .before .before in
-    a .before .before .before .before
+    a .before .before .before
 
-abbrev to-enum-told : tie.After-heads-of → tie.After-enum-told
-to-enum-told c =
-    let a = c .before .before .before .before in
-    a .before
+abbrev to-asked : tie.After-rows-of → tie.After-asked
+to-asked c = c .before .before
+
+abbrev to-bad : tie.After-slice-known15 → tie.After-write-bad
+to-bad c = c .before .before
+
+abbrev to-enum-told : tie.After-write-bad → tie.After-enum-told
+to-enum-told c = c .before .before
 
 hear-requires : tie.Need-hear-requires
 hear-requires c κs = search needs
 
 enum-known-asked : tie.Need-enum-known-asked
 enum-known-asked c = search needs
+
+rows-of-requires : tie.Need-rows-of-requires
+rows-of-requires c κs = search needs
 
 ask-requires : tie.Need-ask-requires
 ask-requires c κs = search needs
@@ -39,9 +46,6 @@ enum-told c = search needs
 
 write-bad-requires : tie.Need-write-bad-requires
 write-bad-requires c κs = search needs
-
-heads-of-requires : tie.Need-heads-of-requires
-heads-of-requires c κs = search needs
 
 same-length : tie.Need-same-length
 same-length c = search needs
@@ -67,18 +71,19 @@ same-length-7 c = search needs
 returns : tie.Need-returns
 returns c =
     let at-ask = to-ask c in
-    let at-asked = to-asked at-ask in
-    line-asks _ (at-asked .before .before .hear .ensures) (at-asked .asked .given .1) _ (at-ask .ask .ensures)
-    (c .before .before .write-answer .ensures)
+    let at-rows = to-rows at-ask in
+    let at-asked = to-asked at-rows in
+    line-rows _ _ _ _ _ _ _ (at-rows .rows-of .ensures)
+    (line-asks _ (at-asked .before .before .hear .ensures) (at-asked .asked .given .1) _ (at-ask .ask .ensures) (c .before .before .write-answer .ensures))
 
 same-length-8 : tie.Need-same-length-8
 same-length-8 c = search needs
 
 returns-2 : tie.Need-returns-2
 returns-2 c =
-    let at-enum-told = to-enum-told c in
-    line-bad _ _ _ _ _ _ _ (at-enum-told .before .before .hear .ensures) (at-enum-told .enum-told .given .1) (c .heads-of .ensures)
-    (c .before .before .before .write-bad .ensures)
+    let at-bad = to-bad c in
+    let at-enum-told = to-enum-told at-bad in
+    line-not (at-enum-told .before .before .hear .ensures) (at-enum-told .enum-told .given .1) (at-bad .write-bad .ensures)
 
 pub answer-line-spec : {M : Type 1} → statement M
 answer-line-spec =
@@ -86,11 +91,11 @@ answer-line-spec =
     (tie.spec
     hear-requires
     enum-known-asked
+    rows-of-requires
     ask-requires
     write-answer-requires
     enum-told
     write-bad-requires
-    heads-of-requires
     same-length
     same-length-2
     same-length-3

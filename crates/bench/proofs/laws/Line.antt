@@ -31,14 +31,13 @@ module _ {limits : Bool} {l o : List ℕ} {s : QueueWords} {at : ℕ} {o′ : Li
         bad = λ f. absurd (f c y);
       }
 
--- it asks no call
-pub line-bad : {limits : Bool} {l o o′ : List ℕ} {at end : ℕ} {r : Line} (w : Wheel) {hh hh′ : List (List ℕ)} (vs ds ns ps ts ms : List ℕ)
-    → Heard limits l r → r ≡ L.Bad → hh′ ≡ hh
-    → BadClaim o at end o′ → LineClaim limits l (words w hh vs ds ns ps ts ms) o at (words w hh′ vs ds ns ps ts ms) o′ end
-line-bad w vs ds ns ps ts ms H e q x =
-    record { asks = λ c z. absurd (heard-bad H e c z); bad = λ f. (λ i. words w (q i) vs ds ns ps ts ms, x) }
+-- the heads, handed on as their rows
+pub line-rows : {limits : Bool} {l o o′ : List ℕ} {at end : ℕ} {s′ : QueueWords} (w : Wheel) {hh hh′ : List (List ℕ)} (vs ds ns ps ts ms : List ℕ) → hh ≡ hh′
+    → LineClaim limits l (words w hh vs ds ns ps ts ms) o at s′ o′ end → LineClaim limits l (words w hh′ vs ds ns ps ts ms) o at s′ o′ end
+line-rows {limits} {l} {o} {o′} {at} {end} {s′} w vs ds ns ps ts ms e C =
+    subst (λ (h : List (List ℕ)). LineClaim limits l (words w h vs ds ns ps ts ms) o at s′ o′ end) e C
 
--- the same, where nothing is handed back
+-- it asks no call
 pub line-not : {limits : Bool} {l o o′ : List ℕ} {at end : ℕ} {r : Line} {s : QueueWords} → Heard limits l r → r ≡ L.Bad → BadClaim o at end o′
     → LineClaim limits l s o at s o′ end
 line-not H e x = record { asks = λ c z. absurd (heard-bad H e c z); bad = λ f. (refl, x) }

@@ -13,6 +13,9 @@ Inv-loop out₀ heads nexts n tops p₀ place₀ out p place = (place ≤ expire
 abbrev μ-loop : tie.MeasureT-loop
 μ-loop out₀ heads nexts n tops p₀ place₀ out p place = expired - place
 
+tops-of-requires : tie.Need-tops-of-requires Inv-loop μ-loop
+tops-of-requires c κs = search needs
+
 loop-holds : tie.Need-loop-holds Inv-loop μ-loop
 loop-holds c = search needs
 
@@ -49,6 +52,7 @@ slots-spec =
     (tie.spec
     Inv-loop
     μ-loop
+    tops-of-requires
     loop-holds
     head-of-requires
     level-of-requires

@@ -1,16 +1,21 @@
 -- `clear` meets its claim: the judge's answer decides, and on a sound store it is what `queue::clear` does.
 use borrow.Author.Needs.{needs}
+use Rattle.links.specs.Lists.{nobody}
+use Rattle.records.specs.Words.{Standing}
+use Rattle.records.proofs.laws.Lent.{lent-as}
 use Rattle.queue.specs.Calls.{ClearOn}
 use Rattle.records.proofs.laws.Inner.{standing-hold}
-use Rattle.delay_queue.proofs.laws.Back.{back, turned-down, is-sound, taken-up}
+use Rattle.delay_queue.proofs.laws.Back.{back, turned-down, is-sound, taken-clear}
 use Rattle.delay_queue.proofs.clear.Statement.{statement}
 use Rattle.delay_queue.proofs.clear.Tie as tie
 
-abbrev to-else1 : tie.After-clear-arg4 → tie.Else1
-to-else1 c =
+abbrev to-else1 : tie.After-tops-of → tie.Else1
+to-else1 c = c .before .before
+
+abbrev to-tops : tie.After-clear-arg4 → tie.After-tops-of
+to-tops c =
     let a = c .before .before .before .before in
-    let b = a .before .before .before .before in
-    b .before
+    a .before .before .before
 
 abbrev to-clear : tie.After-packed → tie.After-clear
 to-clear c =
@@ -40,10 +45,15 @@ returns : tie.Need-returns
 returns c =
     turned-down _ _ _ _ _ _ (c .before .before .is-sound .ensures) (c .before .if1 .taken) (c .refused .ensures)
 
+tops-of-requires : tie.Need-tops-of-requires
+tops-of-requires c κs = search needs
+
 clear-requires : tie.Need-clear-requires
 clear-requires c κs =
-    let else1 = to-else1 c in
-    standing-hold (is-sound (else1 .before .is-sound .ensures) (else1 .if1 .left) .standing) _ _
+    let at-tops = to-tops c in
+    let else1 = to-else1 at-tops in
+    lent-as Standing (at-tops .tops-of .ensures)
+    (standing-hold (is-sound (else1 .before .is-sound .ensures) (else1 .if1 .left) .standing) nobody 0)
 
 packed-requires : tie.Need-packed-requires
 packed-requires c κs = search needs
@@ -63,8 +73,9 @@ same-length-8 c = search needs
 returns-2 : tie.Need-returns-2
 returns-2 c =
     let at-clear = to-clear c in
-    let else1 = to-else1 (at-clear .before) in
-    taken-up (is-sound (else1 .before .is-sound .ensures) (else1 .if1 .left))
+    let at-tops = to-tops (at-clear .before) in
+    let else1 = to-else1 at-tops in
+    taken-clear (is-sound (else1 .before .is-sound .ensures) (else1 .if1 .left)) (at-tops .tops-of .ensures)
     (back _ _ _ _ _ _ (c .packed .ensures) (ClearOn _) (at-clear .clear .ensures _ _))
 
 pub clear-spec : {M : Type 1} → statement M
@@ -78,6 +89,7 @@ clear-spec =
     same-length-3
     same-length-4
     returns
+    tops-of-requires
     clear-requires
     packed-requires
     same-length-5

@@ -1,15 +1,19 @@
 -- `insert` meets its claim: the judge's answer decides, and on a sound store it is what `queue::insert` does.
 use borrow.Author.Needs.{needs}
+use Rattle.records.specs.Words.{Sound}
+use Rattle.records.proofs.laws.Lent.{lent-as}
 use Rattle.queue.specs.Calls.{InsertOn}
 use Rattle.delay_queue.proofs.laws.Back.{back, turned-away, parted, taken-insert}
 use Rattle.delay_queue.proofs.insert.Statement.{statement}
 use Rattle.delay_queue.proofs.insert.Tie as tie
 
-abbrev to-else1 : tie.After-insert-arg5 → tie.Else1
-to-else1 c =
+abbrev to-else1 : tie.After-tops-of → tie.Else1
+to-else1 c = c .before .before
+
+abbrev to-tops : tie.After-insert-arg5 → tie.After-tops-of
+to-tops c =
     let a = c .before .before .before .before in
-    let b = a .before .before .before .before in
-    b .before .before
+    a .before .before .before .before
 
 abbrev to-insert : tie.After-packed → tie.After-insert
 to-insert c =
@@ -42,10 +46,15 @@ returns : tie.Need-returns
 returns c =
     turned-away _ _ _ _ _ _ (c .before .before .free-no .ensures) (c .before .if1 .taken) (c .refused .ensures)
 
+tops-of-requires : tie.Need-tops-of-requires
+tops-of-requires c κs = search needs
+
 insert-requires : tie.Need-insert-requires
 insert-requires c κs =
-    let else1 = to-else1 c in
-    parted (else1 .before .free-no .ensures .taken (else1 .if1 .left))
+    let at-tops = to-tops c in
+    let else1 = to-else1 at-tops in
+    lent-as Sound (at-tops .tops-of .ensures)
+    (parted (else1 .before .free-no .ensures .taken (else1 .if1 .left)))
 
 packed-requires : tie.Need-packed-requires
 packed-requires c κs = search needs
@@ -68,8 +77,9 @@ same-length-10 c = search needs
 returns-2 : tie.Need-returns-2
 returns-2 c =
     let at-insert = to-insert c in
-    let else1 = to-else1 (at-insert .before) in
-    taken-insert (else1 .before .free-no .ensures .taken (else1 .if1 .left))
+    let at-tops = to-tops (at-insert .before) in
+    let else1 = to-else1 at-tops in
+    taken-insert (else1 .before .free-no .ensures .taken (else1 .if1 .left)) (at-tops .tops-of .ensures)
     (back _ _ _ _ _ _ (c .packed .ensures) (InsertOn _ _ _ _) (at-insert .insert .ensures))
 
 pub insert-spec : {M : Type 1} → statement M
@@ -84,6 +94,7 @@ insert-spec =
     same-length-4
     same-length-5
     returns
+    tops-of-requires
     insert-requires
     packed-requires
     same-length-6

@@ -9,6 +9,7 @@ use lib.ListN.{length}
 use borrow.Author.Tests.{not-true, not-false}
 use Rattle.links.specs.Lists.{nobody}
 use Rattle.stack.specs.Places.{expired}
+use Rattle.stack.specs.declared.Stacks.{Stacks}
 use Rattle.stack.specs.Words.{headAt}
 use Rattle.stack.proofs.laws.Heads.{head-expired}
 use Rattle.stack.proofs.laws.Whole as stack-laws
@@ -22,14 +23,15 @@ use Rattle.queue.specs.Told.{told, len}
 use Rattle.queue.specs.Told as T
 use Rattle.records.specs.View.{View}
 use Rattle.queue.specs.Steps.{NextWake}
-use Rattle.queue.specs.Calls.{InsertOn, ResetOn, RemoveOn, Freely, WakeOn, LengthOn}
+use Rattle.queue.specs.Calls.{InsertOn, ResetOn, RemoveOn, PollsOn, ClearOn, Freely, WakeOn, LengthOn}
 use Rattle.queue.proofs.laws.Resumed.{polls-whole}
 use Rattle.queue.specs.Inner.{Shows, pendingIn}
 use Rattle.queue.proofs.laws.Polls.{pending-is}
 use Rattle.records.specs.Words.{QueueWords, words, holding, AtRest, MidPoll, Sound, count, elapsed, markOf, view}
+use Rattle.records.proofs.laws.Lent.{stacked, stacked-same, lent-as}
 use Rattle.contracts.specs.Tells.{Tells}
 use Rattle.delay_queue.specs.declared.Call.{Call}
-use Rattle.delay_queue.specs.Claims.{Judging, InsertClaim, ResetClaim, RemoveClaim, PollClaim, PollSomeClaim, CallClaim}
+use Rattle.delay_queue.specs.Claims.{Judging, InsertClaim, ResetClaim, RemoveClaim, PollClaim, PollSomeClaim, ClearClaim, CallClaim}
 use Rattle.delay_queue.specs.Free.{FreeNo}
 
 -- what goes out is a with w and hh
@@ -111,24 +113,37 @@ settled {s} F = λ i. holding (sym (F .1) i) (sym (F .0 .no-now (F .1)) i) s
 pub parted : {s : QueueWords} → Sound s × AtRest s → Sound (holding nobody 0 s)
 parted F = subst Sound (sym (settled F)) (F .0)
 
-taken-free : {s s′ : QueueWords} {a : Answer} (On : QueueWords → Type 0) → Sound s × AtRest s → On (holding nobody 0 s)
-    → Judging s a s′ (Freely s a s′ (On s))
-taken-free On F x =
+-- the call was asked of the stacks st, lent
+taken-free : {s s′ : QueueWords} {a : Answer} {st : Stacks} (On : QueueWords → Type 0) → Sound s × AtRest s → st ≡ s .wheel .stack .stacks
+    → On (holding nobody 0 (stacked st s)) → Judging s a s′ (Freely s a s′ (On s))
+taken-free {s} On F q x =
     record {
       bad = λ f. absurd (f (F .0));
-      good = λ S. record { held = λ d. absurd (d (F .1)); free = λ _. subst On (settled F) x };
+      good = λ S. record { held = λ d. absurd (d (F .1)); free = λ _. subst On (settled F) (subst (λ s. On (holding nobody 0 s)) (stacked-same {s = s} q) x) };
     }
 
-pub taken-insert : {s s′ : QueueWords} {a : Answer} {value when period : ℕ} → Sound s × AtRest s
-    → InsertOn (holding nobody 0 s) value when period a s′ → InsertClaim s value when period a s′
-taken-insert {s′ = s′} {a} {value} {when} {period} F x = taken-free (λ s. InsertOn s value when period a s′) F x
+module _ {s s′ : QueueWords} {a : Answer} {st : Stacks} where
+  module _ (F : Sound s × AtRest s) (q : st ≡ s .wheel .stack .stacks) where
+    pub taken-insert : {value when period : ℕ} → InsertOn (holding nobody 0 (stacked st s)) value when period a s′ → InsertClaim s value when period a s′
+    taken-insert {value} {when} {period} x = taken-free (λ s. InsertOn s value when period a s′) F q x
 
-pub taken-reset : {s s′ : QueueWords} {a : Answer} {key when : ℕ} → Sound s × AtRest s → ResetOn (holding nobody 0 s) key when a s′
-    → ResetClaim s key when a s′
-taken-reset {s′ = s′} {a} {key} {when} F x = taken-free (λ s. ResetOn s key when a s′) F x
+    pub taken-reset : {key when : ℕ} → ResetOn (holding nobody 0 (stacked st s)) key when a s′ → ResetClaim s key when a s′
+    taken-reset {key} {when} x = taken-free (λ s. ResetOn s key when a s′) F q x
 
-pub taken-remove : {s s′ : QueueWords} {a : Answer} {key : ℕ} → Sound s × AtRest s → RemoveOn (holding nobody 0 s) key a s′ → RemoveClaim s key a s′
-taken-remove {s′ = s′} {a} {key} F x = taken-free (λ s. RemoveOn s key a s′) F x
+    pub taken-remove : {key : ℕ} → RemoveOn (holding nobody 0 (stacked st s)) key a s′ → RemoveClaim s key a s′
+    taken-remove {key} x = taken-free (λ s. RemoveOn s key a s′) F q x
+
+  -- polls and clears judge a poll in hand themselves
+  module _ (S : Sound s) (q : st ≡ s .wheel .stack .stacks) where
+    pub taken-poll : {now limit : ℕ} → PollsOn (stacked st s) now limit a s′ → PollSomeClaim s now limit a s′
+    taken-poll {now} {limit} x = taken-up S (subst (λ s. PollsOn s now limit a s′) (stacked-same q) x)
+
+    pub taken-clear : ClearOn (stacked st s) a s′ → ClearClaim s a s′
+    taken-clear x = taken-up S (subst (λ s. ClearOn s a s′) (stacked-same q) x)
+
+-- asked of the stacks st, lent
+pub tells-lent : {s : QueueWords} {st : Stacks} {b : Bool} → st ≡ s .wheel .stack .stacks → Tells (Sound s) b → Tells (Sound (stacked st s)) b
+tells-lent {b = b} q T = lent-as (λ s. Tells (Sound s) b) q T
 
 pub taken-alone : {s : QueueWords} {a : Answer} {On : Type 0} → Sound s × AtRest s → On → Judging s a s (Freely s a s On)
 taken-alone F x = record { bad = λ f. absurd (f (F .0)); good = λ S. record { held = λ d. absurd (d (F .1)); free = λ _. x } }
@@ -161,9 +176,10 @@ shows {s} F =
       first = λ d. rw head at (stack-laws.list-cons W expired (λ z. d (sym head ∙ z)));
     }
 
-pub wake-done : {s : QueueWords} {a : Answer} → Sound s × AtRest s
-    → ((v : View) → ShowsOf s v → NextWake v (told a)) → WakeOn s a
-wake-done {s} F f = record { done = f (view s) (shows F) }
+-- x and p are the heads as they were read
+pub wake-done : {s : QueueWords} {a : Answer} {x p : ℕ} → x ≡ s .wheel .stack .stacks .expired → p ≡ s .wheel .stack .stacks .parking
+    → Sound s × AtRest s → ((v : View) → Shows (elapsed s) (s .wheel .occupied) (s .deadlines) x p v → NextWake v (told a)) → WakeOn s a
+wake-done {s} ex ep F f = record { done = f (view s) (rw (ex, ep) (shows F)) }
 
 pub marks-long : {s : QueueWords} → Sound s → count s ≤ length (s .wheel .stack .links .marks)
 marks-long S = stack-laws.room (S .standing .whole .stack) .marks

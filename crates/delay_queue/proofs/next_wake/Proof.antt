@@ -1,5 +1,6 @@
 -- `next_wake` meets its claim: the judge's answer decides, and on a sound store it is what `queue::next_wake` answers.
 use borrow.Author.Needs.{needs}
+use mathlib.Core.Path.{refl}
 use Rattle.delay_queue.proofs.laws.Back.{no-free, taken-alone, can-look, wake-done}
 use Rattle.delay_queue.proofs.next_wake.Statement.{statement}
 use Rattle.delay_queue.proofs.next_wake.Tie as tie
@@ -22,7 +23,7 @@ returns-2 : tie.Need-returns-2
 returns-2 c =
     let else1 = to-else1 (c .before) in
     let F = else1 .before .free-no .ensures .taken (else1 .if1 .left) in
-    taken-alone F (wake-done F (c .next-wake .ensures))
+    taken-alone F (wake-done refl refl F (c .next-wake .ensures))
 
 pub next-wake-spec : {M : Type 1} → statement M
 next-wake-spec = tie.close (tie.spec free-no-requires returns next-wake-requires returns-2)

@@ -1,15 +1,19 @@
 -- `poll_some` meets its claim: the judge's answer decides, and on a sound store it is what `queue::poll` does.
 use borrow.Author.Needs.{needs}
+use Rattle.records.specs.Words.{Sound}
+use Rattle.records.proofs.laws.Lent.{lent-as}
 use Rattle.queue.specs.Calls.{PollsOn}
-use Rattle.delay_queue.proofs.laws.Back.{back, turned-down, is-sound, taken-up}
+use Rattle.delay_queue.proofs.laws.Back.{back, turned-down, is-sound, taken-poll}
 use Rattle.delay_queue.proofs.poll_some.Statement.{statement}
 use Rattle.delay_queue.proofs.poll_some.Tie as tie
 
-abbrev to-else1 : tie.After-poll-arg5 → tie.Else1
-to-else1 c =
+abbrev to-else1 : tie.After-tops-of → tie.Else1
+to-else1 c = c .before .before
+
+abbrev to-tops : tie.After-poll-arg5 → tie.After-tops-of
+to-tops c =
     let a = c .before .before .before .before in
-    let b = a .before .before .before .before in
-    b .before .before
+    a .before .before .before .before
 
 abbrev to-poll : tie.After-packed → tie.After-poll
 to-poll c =
@@ -42,10 +46,15 @@ returns : tie.Need-returns
 returns c =
     turned-down _ _ _ _ _ _ (c .before .before .is-sound .ensures) (c .before .if1 .taken) (c .refused .ensures)
 
+tops-of-requires : tie.Need-tops-of-requires
+tops-of-requires c κs = search needs
+
 poll-requires : tie.Need-poll-requires
 poll-requires c κs =
-    let else1 = to-else1 c in
-    is-sound (else1 .before .is-sound .ensures) (else1 .if1 .left)
+    let at-tops = to-tops c in
+    let else1 = to-else1 at-tops in
+    lent-as Sound (at-tops .tops-of .ensures)
+    (is-sound (else1 .before .is-sound .ensures) (else1 .if1 .left))
 
 packed-requires : tie.Need-packed-requires
 packed-requires c κs = search needs
@@ -68,8 +77,9 @@ same-length-10 c = search needs
 returns-2 : tie.Need-returns-2
 returns-2 c =
     let at-poll = to-poll c in
-    let else1 = to-else1 (at-poll .before) in
-    taken-up (is-sound (else1 .before .is-sound .ensures) (else1 .if1 .left))
+    let at-tops = to-tops (at-poll .before) in
+    let else1 = to-else1 at-tops in
+    taken-poll (is-sound (else1 .before .is-sound .ensures) (else1 .if1 .left)) (at-tops .tops-of .ensures)
     (back _ _ _ _ _ _ (c .packed .ensures) (PollsOn _ _ _) (at-poll .poll .ensures))
 
 pub poll-some-spec : {M : Type 1} → statement M
@@ -84,6 +94,7 @@ poll-some-spec =
     same-length-4
     same-length-5
     returns
+    tops-of-requires
     poll-requires
     packed-requires
     same-length-6

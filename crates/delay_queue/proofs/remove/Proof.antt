@@ -1,15 +1,19 @@
 -- `remove` meets its claim: the judge's answer decides, and on a sound store it is what `queue::remove` does.
 use borrow.Author.Needs.{needs}
+use Rattle.records.specs.Words.{Sound}
+use Rattle.records.proofs.laws.Lent.{lent-as}
 use Rattle.queue.specs.Calls.{RemoveOn}
 use Rattle.delay_queue.proofs.laws.Back.{back, turned-away, parted, taken-remove}
 use Rattle.delay_queue.proofs.remove.Statement.{statement}
 use Rattle.delay_queue.proofs.remove.Tie as tie
 
-abbrev to-else1 : tie.After-remove-arg4 → tie.Else1
-to-else1 c =
+abbrev to-else1 : tie.After-tops-of → tie.Else1
+to-else1 c = c .before .before
+
+abbrev to-tops : tie.After-remove-arg4 → tie.After-tops-of
+to-tops c =
     let a = c .before .before .before .before in
-    let b = a .before .before .before .before in
-    b .before
+    a .before .before .before
 
 abbrev to-remove : tie.After-packed → tie.After-remove
 to-remove c =
@@ -39,10 +43,15 @@ returns : tie.Need-returns
 returns c =
     turned-away _ _ _ _ _ _ (c .before .before .free-no .ensures) (c .before .if1 .taken) (c .refused .ensures)
 
+tops-of-requires : tie.Need-tops-of-requires
+tops-of-requires c κs = search needs
+
 remove-requires : tie.Need-remove-requires
 remove-requires c κs =
-    let else1 = to-else1 c in
-    parted (else1 .before .free-no .ensures .taken (else1 .if1 .left))
+    let at-tops = to-tops c in
+    let else1 = to-else1 at-tops in
+    lent-as Sound (at-tops .tops-of .ensures)
+    (parted (else1 .before .free-no .ensures .taken (else1 .if1 .left)))
 
 packed-requires : tie.Need-packed-requires
 packed-requires c κs = search needs
@@ -62,8 +71,9 @@ same-length-8 c = search needs
 returns-2 : tie.Need-returns-2
 returns-2 c =
     let at-remove = to-remove c in
-    let else1 = to-else1 (at-remove .before) in
-    taken-remove (else1 .before .free-no .ensures .taken (else1 .if1 .left))
+    let at-tops = to-tops (at-remove .before) in
+    let else1 = to-else1 at-tops in
+    taken-remove (else1 .before .free-no .ensures .taken (else1 .if1 .left)) (at-tops .tops-of .ensures)
     (back _ _ _ _ _ _ (c .packed .ensures) (RemoveOn _ _) (at-remove .remove .ensures))
 
 pub remove-spec : {M : Type 1} → statement M
@@ -77,6 +87,7 @@ remove-spec =
     same-length-3
     same-length-4
     returns
+    tops-of-requires
     remove-requires
     packed-requires
     same-length-5

@@ -1,15 +1,19 @@
 -- `reset` meets its claim: the judge's answer decides, and on a sound store it is what `queue::reset` does.
 use borrow.Author.Needs.{needs}
+use Rattle.records.specs.Words.{Sound}
+use Rattle.records.proofs.laws.Lent.{lent-as}
 use Rattle.queue.specs.Calls.{ResetOn}
 use Rattle.delay_queue.proofs.laws.Back.{back, turned-away, parted, taken-reset}
 use Rattle.delay_queue.proofs.reset.Statement.{statement}
 use Rattle.delay_queue.proofs.reset.Tie as tie
 
-abbrev to-else1 : tie.After-reset-arg4 → tie.Else1
-to-else1 c =
+abbrev to-else1 : tie.After-tops-of → tie.Else1
+to-else1 c = c .before .before
+
+abbrev to-tops : tie.After-reset-arg4 → tie.After-tops-of
+to-tops c =
     let a = c .before .before .before .before in
-    let b = a .before .before .before .before in
-    b .before
+    a .before .before .before
 
 abbrev to-reset : tie.After-packed → tie.After-reset
 to-reset c =
@@ -39,10 +43,15 @@ returns : tie.Need-returns
 returns c =
     turned-away _ _ _ _ _ _ (c .before .before .free-no .ensures) (c .before .if1 .taken) (c .refused .ensures)
 
+tops-of-requires : tie.Need-tops-of-requires
+tops-of-requires c κs = search needs
+
 reset-requires : tie.Need-reset-requires
 reset-requires c κs =
-    let else1 = to-else1 c in
-    parted (else1 .before .free-no .ensures .taken (else1 .if1 .left))
+    let at-tops = to-tops c in
+    let else1 = to-else1 at-tops in
+    lent-as Sound (at-tops .tops-of .ensures)
+    (parted (else1 .before .free-no .ensures .taken (else1 .if1 .left)))
 
 packed-requires : tie.Need-packed-requires
 packed-requires c κs = search needs
@@ -62,8 +71,9 @@ same-length-8 c = search needs
 returns-2 : tie.Need-returns-2
 returns-2 c =
     let at-reset = to-reset c in
-    let else1 = to-else1 (at-reset .before) in
-    taken-reset (else1 .before .free-no .ensures .taken (else1 .if1 .left))
+    let at-tops = to-tops (at-reset .before) in
+    let else1 = to-else1 at-tops in
+    taken-reset (else1 .before .free-no .ensures .taken (else1 .if1 .left)) (at-tops .tops-of .ensures)
     (back _ _ _ _ _ _ (c .packed .ensures) (ResetOn _ _ _) (at-reset .reset .ensures))
 
 pub reset-spec : {M : Type 1} → statement M
@@ -77,6 +87,7 @@ reset-spec =
     same-length-3
     same-length-4
     returns
+    tops-of-requires
     reset-requires
     packed-requires
     same-length-5

@@ -1,7 +1,7 @@
 -- `answer_last` meets its claim: nothing is kept (`last-none`), or it is answered as a line (`last-line`).
 use borrow.Author.Needs.{needs}
 use native.Mathlib.Omega.{arith}
-use Rattle.feed.proofs.laws.Turns.{line-rows, last-none, last-line}
+use Rattle.feed.proofs.laws.Turns.{last-none, last-line}
 use Rattle.feed.proofs.answer_last.Statement.{statement}
 use Rattle.feed.proofs.answer_last.Tie as tie
 
@@ -12,16 +12,13 @@ to-answer-line c =
     let d = b .before .before .before .before in
     d .before .before
 
-abbrev to-rows-of : tie.After-answer-line → tie.After-rows-of
-to-rows-of c =
+abbrev to-else1 : tie.After-answer-line → tie.Else1
+to-else1 c =
     let a = c .before .before .before .before in
     a .before .before .before .before
 
 returns : tie.Need-returns
 returns c = last-none (omega (arith, c .if1 .taken))
-
-rows-of-requires : tie.Need-rows-of-requires
-rows-of-requires c κs = search needs
 
 answer-line-requires : tie.Need-answer-line-requires
 answer-line-requires c κs = search needs
@@ -50,16 +47,13 @@ same-length-7 c = search needs
 returns-2 : tie.Need-returns-2
 returns-2 c =
     let at-answer-line = to-answer-line c in
-    let at-rows-of = to-rows-of at-answer-line in
-    last-line (omega (arith, at-rows-of .before .if1 .left))
-    (line-rows _ _ _ _ _ _ _ (at-rows-of .rows-of .ensures) (at-answer-line .answer-line .ensures))
+    last-line (omega (arith, to-else1 at-answer-line .if1 .left)) (at-answer-line .answer-line .ensures)
 
 pub answer-last-spec : {M : Type 1} → statement M
 answer-last-spec =
     tie.close
     (tie.spec
     returns
-    rows-of-requires
     answer-line-requires
     same-length
     same-length-2

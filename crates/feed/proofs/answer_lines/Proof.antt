@@ -1,5 +1,6 @@
 -- `answer_lines` meets its claim: judged once, and then `answer_parts`.
 use borrow.Author.Needs.{needs}
+use Rattle.delay_queue.proofs.laws.Back.{tells-lent}
 use Rattle.feed.proofs.laws.Turns.{feed-rows}
 use Rattle.feed.proofs.answer_lines.Statement.{statement}
 use Rattle.feed.proofs.answer_lines.Tie as tie
@@ -10,16 +11,28 @@ to-parts c =
     let b = a .before .before .before .before in
     let d = b .before .before .before .before in
     let e = d .before .before .before .before in
-    e .before
+    e .before .before
 
-abbrev to-rows-of : tie.After-answer-parts → tie.After-rows-of
+abbrev to-sound : tie.After-tops-of → tie.After-is-sound
+to-sound c = c .before .before
+
+abbrev to-lent : tie.After-answer-parts-arg8 → tie.After-tops-of
+to-lent c =
+    let a = c .before .before .before .before in
+    let b = a .before .before .before .before in
+    b .before .before .before
+
+abbrev to-tops : tie.After-answer-parts → tie.After-tops-of
+to-tops c =
+    let a = c .before .before .before .before in
+    let b = a .before .before .before .before in
+    b .before .before .before .before
+
+abbrev to-rows-of : tie.After-tops-of → tie.After-rows-of
 to-rows-of c =
     let a = c .before .before .before .before in
     let b = a .before .before .before .before in
-    let d = b .before .before .before .before in
-    let e = d .before .before .before .before in
-    let f = e .before .before .before .before in
-    f .before
+    b .before
 
 rows-of-requires : tie.Need-rows-of-requires
 rows-of-requires c κs = search needs
@@ -27,20 +40,16 @@ rows-of-requires c κs = search needs
 is-sound-requires : tie.Need-is-sound-requires
 is-sound-requires c κs = search needs
 
+tops-of-requires : tie.Need-tops-of-requires
+tops-of-requires c κs = search needs
+
 answer-parts-requires : tie.Need-answer-parts-requires
-answer-parts-requires c κs = search needs
+answer-parts-requires c κs =
+    let at-tops = to-lent c in
+    tells-lent (at-tops .tops-of .ensures) (to-sound at-tops .is-sound .ensures)
 
-array-read-t58 : tie.Need-array-read-t58
-array-read-t58 c = search needs
-
-array-read-t61 : tie.Need-array-read-t61
-array-read-t61 c = search needs
-
-array-read-t64 : tie.Need-array-read-t64
-array-read-t64 c = search needs
-
-array-read-t67 : tie.Need-array-read-t67
-array-read-t67 c = search needs
+wheel-of-requires : tie.Need-wheel-of-requires
+wheel-of-requires c κs = search needs
 
 heads-of-requires : tie.Need-heads-of-requires
 heads-of-requires c κs = search needs
@@ -72,7 +81,9 @@ same-length-8 c = search needs
 returns : tie.Need-returns
 returns c =
     let at-parts = to-parts c in
-    rw (c .heads-of .ensures) (feed-rows _ _ _ _ _ _ _ (to-rows-of at-parts .rows-of .ensures) (at-parts .answer-parts .ensures))
+    let at-tops = to-tops at-parts in
+    rw (c .heads-of .ensures, c .before .wheel-of .ensures)
+    (feed-rows _ _ _ _ _ _ _ (at-tops .tops-of .ensures) (to-rows-of at-tops .rows-of .ensures) (at-parts .answer-parts .ensures))
 
 pub answer-lines-spec : {M : Type 1} → statement M
 answer-lines-spec =
@@ -80,11 +91,9 @@ answer-lines-spec =
     (tie.spec
     rows-of-requires
     is-sound-requires
+    tops-of-requires
     answer-parts-requires
-    array-read-t58
-    array-read-t61
-    array-read-t64
-    array-read-t67
+    wheel-of-requires
     heads-of-requires
     same-length
     same-length-2

@@ -7,7 +7,9 @@ use Prim.Native.Nat.{ℕ, _+_, _≤_, _<_}
 use native.Mathlib.Decide.{decLt}
 use native.Mathlib.Omega.{arith}
 use lib.ListN.{length, take}
+use Rattle.stack.specs.declared.Stacks.{Stacks}
 use Rattle.wheel.specs.declared.Wheel.{Wheel}
+use Rattle.records.proofs.laws.Lent.{stacked, stacked-same}
 use Rattle.records.specs.Words.{QueueWords, words}
 use Rattle.bench.specs.Line.{LineClaim}
 use Rattle.bench.proofs.laws.Line.{line-within}
@@ -16,16 +18,13 @@ use Rattle.lines.proofs.laws.Once.{take-forth}
 use Rattle.feed.specs.Feed.{Stand, stand, answerRoom, Goes, Turn, answered, goes-on, FeedClaim, stops, turns, LastClaim}
 use Rattle.feed.proofs.laws.Wrote.{reply-room, reply-size}
 
--- the heads, handed on as their rows
-pub line-rows : {limits : Bool} {l o o′ : List ℕ} {at end : ℕ} {s′ : QueueWords} (w : Wheel) {hh hh′ : List (List ℕ)} (vs ds ns ps ts ms : List ℕ) → hh ≡ hh′
-    → LineClaim limits l (words w hh vs ds ns ps ts ms) o at s′ o′ end → LineClaim limits l (words w hh′ vs ds ns ps ts ms) o at s′ o′ end
-line-rows {limits} {l} {o} {o′} {at} {end} {s′} w vs ds ns ps ts ms e C =
-    subst (λ (h : List (List ℕ)). LineClaim limits l (words w h vs ds ns ps ts ms) o at s′ o′ end) e C
-
-pub feed-rows : {limits : Bool} {got line o : List ℕ} {i n at : ℕ} {c : Stand} (w : Wheel) {hh hh′ : List (List ℕ)} (vs ds ns ps ts ms : List ℕ) → hh ≡ hh′
-    → FeedClaim limits got (stand i line n (words w hh vs ds ns ps ts ms) o at) c → FeedClaim limits got (stand i line n (words w hh′ vs ds ns ps ts ms) o at) c
-feed-rows {limits} {got} {line} {o} {i} {n} {at} {c} w vs ds ns ps ts ms e C =
-    subst (λ (h : List (List ℕ)). FeedClaim limits got (stand i line n (words w h vs ds ns ps ts ms) o at) c) e C
+-- the heads, handed on as their rows, and the stacks, lent
+pub feed-rows : {limits : Bool} {got line o : List ℕ} {i n at : ℕ} {c : Stand} (w : Wheel) {st : Stacks} {hh hh′ : List (List ℕ)} (vs ds ns ps ts ms : List ℕ)
+    → st ≡ w .stacks → hh ≡ hh′ → FeedClaim limits got (stand i line n (stacked st (words w hh vs ds ns ps ts ms)) o at) c
+    → FeedClaim limits got (stand i line n (words w hh′ vs ds ns ps ts ms) o at) c
+feed-rows {limits} {got} {line} {o} {i} {n} {at} {c} w vs ds ns ps ts ms q e C =
+    subst (λ (h : List (List ℕ)). FeedClaim limits got (stand i line n (words w h vs ds ns ps ts ms) o at) c) e
+    (subst (λ s. FeedClaim limits got (stand i line n s o at) c) (stacked-same q) C)
 
 module _ {limits : Bool} {got : List ℕ} {from : ℕ} {line : List ℕ} {n : ℕ} {w : QueueWords} {o : List ℕ} {at : ℕ} where
   module _ {i k : ℕ} {ended : Bool} {l : List ℕ} (T : TakeClaim got from line n i k ended l) where

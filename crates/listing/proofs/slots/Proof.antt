@@ -13,8 +13,8 @@ Inv-loop out₀ tops heads nexts n p₀ place₀ out p place = (place ≤ slots)
 abbrev μ-loop : tie.MeasureT-loop
 μ-loop out₀ tops heads nexts n p₀ place₀ out p place = slots - place
 
-element-copy-out-n : tie.Need-element-copy-out-n Inv-loop μ-loop
-element-copy-out-n c = search needs
+count-of-requires : tie.Need-count-of-requires Inv-loop μ-loop
+count-of-requires c κs = search needs
 
 loop-holds : tie.Need-loop-holds Inv-loop μ-loop
 loop-holds c = search needs
@@ -52,7 +52,7 @@ slots-spec =
     (tie.spec
     Inv-loop
     μ-loop
-    element-copy-out-n
+    count-of-requires
     loop-holds
     head-of-requires
     level-of-requires

@@ -1,6 +1,6 @@
 -- `clear` meets its contract: the records passed are done (`clear-turn`), and then all are (`clear-done`).
 use borrow.Author.Needs.{needs}
-use mathlib.Core.Path.{_≡_, refl}
+use mathlib.Core.Path.{_≡_}
 use Prim.Native.Nat.{_≤_, _-_}
 use native.Mathlib.Omega.{arith}
 use Rattle.records.specs.Words.{parts, count}
@@ -18,10 +18,10 @@ Inv-loop elapsed rows₀ tops₀ heads₀ values deadlines nexts₀ prevs₀ tur
 abbrev μ-loop : tie.MeasureT-loop
 μ-loop elapsed rows₀ tops₀ heads₀ values deadlines nexts₀ prevs₀ turns₀ marks₀ n i₀ rows tops heads nexts prevs turns marks i = n - i
 
-abbrev to-start : tie.After-n Inv-loop μ-loop → tie.Start Inv-loop μ-loop
+abbrev to-start : tie.After-count-of Inv-loop μ-loop → tie.Start Inv-loop μ-loop
 to-start c =
     let a = c .before .before .before .before in
-    a .before .before .before
+    a .before .before .before .before
 
 abbrev to-clear-one : tie.After-slice-known8 Inv-loop μ-loop → tie.After-clear-one Inv-loop μ-loop
 to-clear-one c =
@@ -34,8 +34,11 @@ to-at-loop c =
     let b = a .before .before .before .before in
     b .before
 
+count-of-requires : tie.Need-count-of-requires Inv-loop μ-loop
+count-of-requires c κs = search needs
+
 loop-holds : tie.Need-loop-holds Inv-loop μ-loop
-loop-holds c = (omega arith, refl, clear-none (to-start c .pre))
+loop-holds c = (omega arith, c .count-of .ensures, clear-none (to-start c .pre))
 
 clear-one-requires : tie.Need-clear-one-requires Inv-loop μ-loop
 clear-one-requires c κs = search needs
@@ -70,16 +73,13 @@ same-length-4 c = search needs
 returns : tie.Need-returns Inv-loop μ-loop
 returns c = λ h u. clear-done (c .before .loop .inv .2) (omega arith) h u
 
-element-copy-out-n : tie.Need-element-copy-out-n Inv-loop μ-loop
-element-copy-out-n c = search needs
-
 pub clear-spec : {M : Type 1} → statement M
 clear-spec =
     tie.close
     (tie.spec
     Inv-loop
     μ-loop
-    element-copy-out-n
+    count-of-requires
     loop-holds
     clear-one-requires
     add-i

@@ -1,5 +1,7 @@
 -- `hand_out` meets its contract: the answer is read before the record is freed (`out-done`, `out-last`) or placed again (`out-again`).
 use borrow.Author.Needs.{needs}
+use native.Mathlib.Omega.{arith}
+use mathlib.Core.Path.{sym, _∙_}
 use Rattle.records.proofs.laws.Again.{again-at, again-never}
 use Rattle.queue.proofs.laws.Polls.{out-words, out-frees, out-places, out-done, out-again, out-last}
 use Rattle.queue.proofs.hand_out.Statement.{statement}
@@ -54,26 +56,15 @@ key-of-requires c κs =
     let start = to-start c in
     out-words (start .pre .0) (start .pre .1) .3
 
-mul-value : tie.Need-mul-value
-mul-value c = search needs
+value-of-requires : tie.Need-value-of-requires
+value-of-requires c κs =
+    let start = to-start (c .before) in
+    omega (arith, out-words (start .pre .0) (start .pre .1) .0)
 
-mul-value-2 : tie.Need-mul-value-2
-mul-value-2 c = search needs
-
-shared-slice-read-value : tie.Need-shared-slice-read-value
-shared-slice-read-value c = search needs
-
-mul-period : tie.Need-mul-period
-mul-period c = search needs
-
-add-period : tie.Need-add-period
-add-period c = search needs
-
-mul-period-2 : tie.Need-mul-period-2
-mul-period-2 c = search needs
-
-shared-slice-read-period : tie.Need-shared-slice-read-period
-shared-slice-read-period c = search needs
+period-of-requires : tie.Need-period-of-requires
+period-of-requires c κs =
+    let start = to-start (c .before .before) in
+    out-words (start .pre .0) (start .pre .1) .0
 
 mul-deadline : tie.Need-mul-deadline
 mul-deadline c = search needs
@@ -102,9 +93,12 @@ returns : tie.Need-returns
 returns c =
     let at-leave = to-leave c in
     let then1 = to-then1 (at-leave .before) in
+    let at-period = then1 .before .before in
     let at-key-of = to-key-of (then1 .before) in
     let start = to-start (at-key-of .before) in
-    out-done (start .pre .0) (start .pre .1) _ _ (at-key-of .key-of .ensures) (then1 .if1 .taken) (at-leave .leave .ensures)
+    rw (at-period .before .value-of .ensures)
+    (out-done (start .pre .0) (start .pre .1) _ _ (at-key-of .key-of .ensures) (sym (at-period .period-of .ensures) ∙ then1 .if1 .taken)
+    (at-leave .leave .ensures))
 
 next-time-requires : tie.Need-next-time-requires
 next-time-requires c κs = search needs
@@ -139,17 +133,22 @@ returns-2 c =
     let at-told = to-told (at-leave .before) in
     let at-next-time = at-told .before .before in
     let else1 = at-next-time .before in
+    let at-period = else1 .before .before in
     let at-key-of = to-key-of (else1 .before) in
     let start = to-start (at-key-of .before) in
-    out-last (start .pre .0) (start .pre .1) _ _ (at-key-of .key-of .ensures) (else1 .if1 .left)
-    (again-never (at-next-time .next-time .ensures) (at-told .enum-told .given .1)) (at-leave .leave2 .ensures)
+    rw (at-period .before .value-of .ensures)
+    (out-last (start .pre .0) (start .pre .1) _ _ (at-key-of .key-of .ensures) (λ z. else1 .if1 .left (at-period .period-of .ensures ∙ z))
+    (again-never _ (at-period .period-of .ensures) (at-next-time .next-time .ensures) (at-told .enum-told .given .1))
+    (at-leave .leave2 .ensures))
 
 place-requires : tie.Need-place-requires
 place-requires c κs =
     let at-next = to-next c in
     let at-next-time = at-next .before .before in
+    let at-period = at-next-time .before .before .before in
     let start = to-start (to-key-of (at-next-time .before .before) .before) in
-    out-places (start .pre .0) (start .pre .1) (again-at (at-next-time .next-time .ensures) _ (at-next .next .given .1))
+    out-places (start .pre .0) (start .pre .1)
+    (again-at _ (at-period .period-of .ensures) (at-next-time .next-time .ensures) _ (at-next .next .given .1))
 
 same-length-9 : tie.Need-same-length-9
 same-length-9 c = search needs
@@ -169,10 +168,13 @@ returns-3 c =
     let at-next = to-next (at-place .before) in
     let at-next-time = at-next .before .before in
     let else1 = at-next-time .before in
+    let at-period = else1 .before .before in
     let at-key-of = to-key-of (else1 .before) in
     let start = to-start (at-key-of .before) in
-    out-again (start .pre .0) (start .pre .1) _ _ (at-key-of .key-of .ensures) (else1 .if1 .left)
-    (again-at (at-next-time .next-time .ensures) _ (at-next .next .given .1)) (at-place .place .ensures)
+    rw (at-period .before .value-of .ensures)
+    (out-again (start .pre .0) (start .pre .1) _ _ (at-key-of .key-of .ensures) (λ z. else1 .if1 .left (at-period .period-of .ensures ∙ z))
+    (again-at _ (at-period .period-of .ensures) (at-next-time .next-time .ensures) _ (at-next .next .given .1))
+    (at-place .place .ensures))
 
 pub hand-out-spec : {M : Type 1} → statement M
 hand-out-spec =
@@ -181,13 +183,8 @@ hand-out-spec =
     mul-key-of
     slice-read-key-of
     key-of-requires
-    mul-value
-    mul-value-2
-    shared-slice-read-value
-    mul-period
-    add-period
-    mul-period-2
-    shared-slice-read-period
+    value-of-requires
+    period-of-requires
     mul-deadline
     slice-read-deadline
     leave-requires

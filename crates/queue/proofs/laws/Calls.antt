@@ -21,11 +21,11 @@ use Rattle.records.specs.View.{View, withValue, withPeriod, upd}
 use Rattle.records.specs.Records.{packed, Names, Near, taken, left, placed, freed}
 use Rattle.queue.specs.Steps.{kept}
 use Rattle.records.specs.Words.{QueueWords, queueWords, count, elapsed, markOf, view, AtRest, Sound}
-use Rattle.records.proofs.laws.Words.{past-then, given}
+use Rattle.records.proofs.laws.Words.{past-then}
 use Rattle.queue.specs.Calls.{Answered, InsertOn, ResetOn, RemoveOn}
 use Rattle.records.specs.Inner.{StandsBut, GoesBut, Goes, LooseAt, CanPlace, PlacesTo, CanFree, LeavesTo}
 use Rattle.records.proofs.laws.Inner.{rests, sounds, goes-taken, goes-given, can-leave, goes-left, goes-placed, goes-freed}
-use Rattle.records.specs.Slices.{valueAt}
+use Rattle.records.specs.Slices.{valueAt, given}
 use Rattle.records.specs.Found.{DeadlineNo, KeyIs}
 use Rattle.records.proofs.laws.Found.{key-names, names-key}
 

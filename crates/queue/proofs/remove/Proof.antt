@@ -6,11 +6,16 @@ use Rattle.queue.proofs.laws.Calls.{find-room, remove-dead, found-leave
 use Rattle.queue.proofs.remove.Statement.{statement}
 use Rattle.queue.proofs.remove.Tie as tie
 
-abbrev to-start : tie.After-find-arg3 → tie.Start
+abbrev to-start : tie.After-find-arg2 → tie.Start
 to-start c =
     let a = c .before .before .before .before in
     let b = a .before .before .before .before in
-    b .before
+    b .before .before
+
+abbrev to-value : tie.After-remove-arg6 → tie.After-value-of
+to-value c =
+    let a = c .before .before .before .before in
+    a .before .before .before
 
 abbrev to-found : tie.After-remove-arg6 → tie.After-found
 to-found c =
@@ -30,11 +35,11 @@ to-leave c =
     let a = c .before .before .before .before in
     a .before .before .before .before
 
-element-copy-out-find : tie.Need-element-copy-out-find
-element-copy-out-find c = search needs
+count-of-requires : tie.Need-count-of-requires
+count-of-requires c κs = search needs
 
 find-requires : tie.Need-find-requires
-find-requires c κs = find-room (to-start c .pre)
+find-requires c κs = rw (c .before .before .count-of .ensures) (find-room (to-start c .pre))
 
 enum-known-found : tie.Need-enum-known-found
 enum-known-found c = search needs
@@ -50,22 +55,19 @@ same-length-2 c = search needs
 
 returns : tie.Need-returns
 returns c =
-    remove-dead (to-start (c .before .before .before) .pre) refl _ 0 (find-nowhere (c .before .before .find .ensures) (c .enum-told .given .1))
+    let at-find = c .before .before in
+    remove-dead (to-start (at-find .before) .pre) refl _ 0
+    (find-nowhere (at-find .before .before .before .count-of .ensures) (at-find .find .ensures) (c .enum-told .given .1))
 
-cast-k : tie.Need-cast-k
-cast-k c = search needs
-
-mul-value : tie.Need-mul-value
-mul-value c = search needs
-
-mul-value-2 : tie.Need-mul-value-2
-mul-value-2 c = search needs
-
-shared-slice-read-value : tie.Need-shared-slice-read-value
-shared-slice-read-value c =
-    let at-found = c .before .before in
+value-of-requires : tie.Need-value-of-requires
+value-of-requires c κs =
+    let at-found = c .before in
     let at-find = at-found .before .before in
-    found-words (to-start (at-find .before) .pre) refl _ 0 (find-at (at-find .find .ensures) _ (at-found .found .given .1)) .0
+    found-words (to-start (at-find .before) .pre) refl _ 0
+    (find-at (at-find .before .before .before .count-of .ensures) (at-find .find .ensures) _ (at-found .found .given .1)) .0
+
+cast-deadline : tie.Need-cast-deadline
+cast-deadline c = search needs
 
 mul-deadline : tie.Need-mul-deadline
 mul-deadline c = search needs
@@ -74,20 +76,23 @@ shared-slice-read-deadline : tie.Need-shared-slice-read-deadline
 shared-slice-read-deadline c =
     let at-found = c .before .before .before in
     let at-find = at-found .before .before in
-    found-words (to-start (at-find .before) .pre) refl _ 0 (find-at (at-find .find .ensures) _ (at-found .found .given .1)) .1
+    found-words (to-start (at-find .before) .pre) refl _ 0
+    (find-at (at-find .before .before .before .count-of .ensures) (at-find .find .ensures) _ (at-found .found .given .1)) .1
 
 remove-requires : tie.Need-remove-requires
 remove-requires c κs =
     let at-found = to-found c in
     let at-find = at-found .before .before in
-    found-leaves (to-start (at-find .before) .pre) refl _ 0 (find-at (at-find .find .ensures) _ (at-found .found .given .1))
+    found-leaves (to-start (at-find .before) .pre) refl _ 0
+    (find-at (at-find .before .before .before .count-of .ensures) (at-find .find .ensures) _ (at-found .found .given .1))
 
 leave-requires : tie.Need-leave-requires
 leave-requires c κs =
     let at-remove = to-remove c in
     let at-found = to-found (at-remove .before) in
     let at-find = at-found .before .before in
-    remove-frees (to-start (at-find .before) .pre) refl _ 0 (find-at (at-find .find .ensures) _ (at-found .found .given .1)) (at-remove .remove .ensures)
+    remove-frees (to-start (at-find .before) .pre) refl _ 0
+    (find-at (at-find .before .before .before .count-of .ensures) (at-find .find .ensures) _ (at-found .found .given .1)) (at-remove .remove .ensures)
 
 same-length-3 : tie.Need-same-length-3
 same-length-3 c = search needs
@@ -105,26 +110,26 @@ returns-2 : tie.Need-returns-2
 returns-2 c =
     let at-leave = to-leave c in
     let at-remove = to-remove (at-leave .before) in
-    let at-found = to-found (at-remove .before) in
+    let at-value = to-value (at-remove .before) in
+    let at-found = at-value .before .before in
     let at-find = at-found .before .before in
-    remove-done (to-start (at-find .before) .pre) refl _ 0 (find-at (at-find .find .ensures) _ (at-found .found .given .1))
-    (at-remove .remove .ensures) _ _ refl refl (at-leave .leave .ensures)
+    remove-done (to-start (at-find .before) .pre) refl _ 0
+    (find-at (at-find .before .before .before .count-of .ensures) (at-find .find .ensures) _ (at-found .found .given .1))
+    (at-remove .remove .ensures) _ _ (at-value .value-of .ensures) refl (at-leave .leave .ensures)
 
 pub remove-spec : {M : Type 1} → statement M
 remove-spec =
     tie.close
     (tie.spec
-    element-copy-out-find
+    count-of-requires
     find-requires
     enum-known-found
     enum-told
     same-length
     same-length-2
     returns
-    cast-k
-    mul-value
-    mul-value-2
-    shared-slice-read-value
+    value-of-requires
+    cast-deadline
     mul-deadline
     shared-slice-read-deadline
     remove-requires

@@ -6,10 +6,11 @@ use Rattle.queue.proofs.laws.Calls.{find-room, reset-dead, found-leaves
 use Rattle.queue.proofs.reset.Statement.{statement}
 use Rattle.queue.proofs.reset.Tie as tie
 
-abbrev to-start : tie.After-find-arg2 → tie.Start
+abbrev to-start : tie.After-find-arg → tie.Start
 to-start c =
     let a = c .before .before .before .before in
-    a .before .before .before .before
+    let b = a .before .before .before .before in
+    b .before
 
 abbrev to-find : tie.After-found → tie.After-find
 to-find c = c .before .before
@@ -31,8 +32,11 @@ to-place c =
     let a = c .before .before .before .before in
     a .before .before .before .before
 
+count-of-requires : tie.Need-count-of-requires
+count-of-requires c κs = search needs
+
 find-requires : tie.Need-find-requires
-find-requires c κs = find-room (to-start c .pre)
+find-requires c κs = rw (c .before .count-of .ensures) (find-room (to-start c .pre))
 
 enum-known-found : tie.Need-enum-known-found
 enum-known-found c = search needs
@@ -45,7 +49,9 @@ same-length c = search needs
 
 returns : tie.Need-returns
 returns c =
-    reset-dead (to-start (c .before .before .before) .pre) refl _ _ (find-nowhere (c .before .before .find .ensures) (c .enum-told .given .1))
+    let at-find = c .before .before in
+    reset-dead (to-start (at-find .before) .pre) refl _ _
+    (find-nowhere (at-find .before .before .count-of .ensures) (at-find .find .ensures) (c .enum-told .given .1))
 
 deadline-no-requires : tie.Need-deadline-no-requires
 deadline-no-requires c κs = search needs
@@ -56,14 +62,16 @@ same-length-2 c = search needs
 returns-2 : tie.Need-returns-2
 returns-2 c =
     let at-find = to-find (c .before .before .before) in
-    reset-refused (to-start (at-find .before) .pre) refl _ _ (find-at (at-find .find .ensures) _ (c .before .before .before .found .given .1))
+    reset-refused (to-start (at-find .before) .pre) refl _ _
+    (find-at (at-find .before .before .count-of .ensures) (at-find .find .ensures) _ (c .before .before .before .found .given .1))
     (c .before .deadline-no .ensures) (c .if1 .taken)
 
 remove-requires : tie.Need-remove-requires
 remove-requires c κs =
     let at-found = to-else1 c .before .before .before in
     let at-find = at-found .before .before in
-    found-leaves (to-start (at-find .before) .pre) refl _ 0 (find-at (at-find .find .ensures) _ (at-found .found .given .1))
+    found-leaves (to-start (at-find .before) .pre) refl _ 0
+    (find-at (at-find .before .before .count-of .ensures) (at-find .find .ensures) _ (at-found .found .given .1))
 
 place-requires : tie.Need-place-requires
 place-requires c κs =
@@ -72,7 +80,8 @@ place-requires c κs =
     let at-deadline-no = else1 .before in
     let at-found = at-deadline-no .before .before in
     let at-find = at-found .before .before in
-    reset-place (to-start (at-find .before) .pre) refl _ _ (find-at (at-find .find .ensures) _ (at-found .found .given .1))
+    reset-place (to-start (at-find .before) .pre) refl _ _
+    (find-at (at-find .before .before .count-of .ensures) (at-find .find .ensures) _ (at-found .found .given .1))
     (at-deadline-no .deadline-no .ensures) (else1 .if1 .left) (at-remove .remove .ensures)
 
 same-length-3 : tie.Need-same-length-3
@@ -95,17 +104,15 @@ returns-3 c =
     let at-deadline-no = else1 .before in
     let at-found = at-deadline-no .before .before in
     let at-find = at-found .before .before in
-    reset-done (to-start (at-find .before) .pre) refl _ _ (find-at (at-find .find .ensures) _ (at-found .found .given .1))
+    reset-done (to-start (at-find .before) .pre) refl _ _
+    (find-at (at-find .before .before .count-of .ensures) (at-find .find .ensures) _ (at-found .found .given .1))
     (at-deadline-no .deadline-no .ensures) (else1 .if1 .left) (at-remove .remove .ensures) (at-place .place .ensures)
-
-element-copy-out-find : tie.Need-element-copy-out-find
-element-copy-out-find c = search needs
 
 pub reset-spec : {M : Type 1} → statement M
 reset-spec =
     tie.close
     (tie.spec
-    element-copy-out-find
+    count-of-requires
     find-requires
     enum-known-found
     enum-told

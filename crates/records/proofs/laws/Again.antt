@@ -1,7 +1,7 @@
 -- When a timer is set again, and when no more: the laws that the proof of `next_time` cites, and the two cases of its answer.
 use mathlib.Core.Path.{_≡_, subst}
 use mathlib.Core.Logic.{_≢_, inl, inr, ⊎-elim, by-cases}
-use Prim.Native.Nat.{ℕ, _^_, _<_}
+use Prim.Native.Nat.{ℕ, _+_, _^_, _<_}
 use native.Mathlib.Decide.{decLt}
 use native.Mathlib.Omega.{arith}
 use Rattle.records.specs.declared.Again.{Again}
@@ -19,13 +19,6 @@ module _ {e w : ℕ} where
     pub set-again : w < 2 ^ 64 → n ≡ 0 → NoMore e w → ⊥
     set-again h z = ⊎-elim (λ f. omega arith) (λ f. omega (arith, D .far f))
 
-  -- by the answer's case
-  pub again-never : {r : Again} → AgainIs e w r → r ≡ G.Never → NoMore e w
-  again-never A q = subst (AgainIs e w) q A
-
-  pub again-at : {r : Again} → AgainIs e w r → (t : ℕ) → r ≡ G.At t → (t ≡ w) × (NoMore e w → ⊥)
-  again-at A t q = subst (AgainIs e w) q A
-
   -- it is one or the other
   pub by-next : {P : Type 0} → (NoMore e w → P) → ((NoMore e w → ⊥) → P) → P
   by-next f g =
@@ -39,3 +32,11 @@ module _ {e w : ℕ} where
   -- such a deadline may be placed
   pub again-near : (NoMore e w → ⊥) → Near e w
   again-near f = by-ahead e w (λ x. absurd (f (inr x))) (λ n. n)
+
+-- by the answer's case, a period q, which is p, after d
+module _ {e : ℕ} (d : ℕ) {p q : ℕ} (is : q ≡ p) {r : Again} (A : AgainIs e (d + q) r) where
+  pub again-never : r ≡ G.Never → NoMore e (d + p)
+  again-never z = subst (λ y. NoMore e (d + y)) is (subst (AgainIs e (d + q)) z A)
+
+  pub again-at : (t : ℕ) → r ≡ G.At t → (t ≡ d + p) × (NoMore e (d + p) → ⊥)
+  again-at t z = subst (λ y. (t ≡ d + y) × (NoMore e (d + y) → ⊥)) is (subst (AgainIs e (d + q)) z A)

@@ -86,9 +86,9 @@ module _ {n : ℕ} {ts ms : List ℕ} {key : ℕ} where
     pub found : {b : Bool} {c : ℕ} → i < n → b ≡ ltb (at ms i) free → not b ≡ false → c ≡ turnIn key → at ts i ≡ c → KeyIs n ts ms key i
     found l f h g k = record { number = e; below = l; pending = is-below f h; turn = k ∙ g }
 
-  -- by the answer's case
-  pub find-at : {r : Found} → FindIs n ts ms key r → (i : ℕ) → r ≡ F.At i → KeyIs n ts ms key i
-  find-at G i e = subst (FindIs n ts ms key) e G
+  -- by the answer's case, found among m, which is n
+  pub find-at : {m : ℕ} {r : Found} → m ≡ n → FindIs m ts ms key r → (i : ℕ) → r ≡ F.At i → KeyIs n ts ms key i
+  find-at {m} q G i e = subst (λ k. KeyIs k ts ms key i) q (subst (FindIs m ts ms key) e G)
 
-  pub find-nowhere : {r : Found} → FindIs n ts ms key r → r ≡ F.Nowhere → (i : ℕ) → KeyIs n ts ms key i → ⊥
-  find-nowhere G e = subst (FindIs n ts ms key) e G
+  pub find-nowhere : {m : ℕ} {r : Found} → m ≡ n → FindIs m ts ms key r → r ≡ F.Nowhere → (i : ℕ) → KeyIs n ts ms key i → ⊥
+  find-nowhere {m} q G e = subst (λ k. (i : ℕ) → KeyIs k ts ms key i → ⊥) q (subst (FindIs m ts ms key) e G)

@@ -29,10 +29,10 @@ use Rattle.wheel.specs.Words.{WheelWords, wheelWords, WheelWhole, Becomes, CanP
 use Rattle.wheel.specs.Turns.{CanInsert}
 use Rattle.records.specs.View.{View, viewOf, withElapsed, withLists, withValue, withPeriod, withHand, upd}
 use Rattle.records.proofs.laws.View.{view-eq}
-use Rattle.records.specs.Slices.{valueAt, periodAt}
+use Rattle.records.specs.Slices.{valueAt, periodAt, given}
 use Rattle.records.specs.Records.{lastTurn, At, Near, taken, left, target, placed, freed}
 use Rattle.records.specs.Words.{QueueWords, queueWords, holding, count, elapsed, markOf, view, StandingBut, Standing, SoundBut, AtRest, Sound}
-use Rattle.records.proofs.laws.Words.{upd-same, upd-other, at-set, given, given-value, given-period}
+use Rattle.records.proofs.laws.Words.{upd-same, upd-other, at-set, given-value, given-period}
 use Rattle.records.specs.Inner.{StandsBut, Stands, GoesBut, Goes, LooseAt, HasSlot, PlacesTo, CanPlace, LeavesTo, CanFree}
 
 pub with-rule : {item : ℕ} {s s′ : QueueWords} {v : View} → StandsBut item s v s′ → Rule (v .deadline) (v .elapsed) (v .lists)

@@ -15,7 +15,7 @@ use Rattle.stack.proofs.laws.Whole as stack-laws
 use Rattle.wheel.proofs.laws.Rows.{rows-fixed}
 use Rattle.wheel.specs.Words.{wheelWords, lists as listsIn}
 use Rattle.records.specs.View.{upd}
-use Rattle.records.specs.Slices.{valueAt, periodAt}
+use Rattle.records.specs.Slices.{valueAt, periodAt, given}
 use Rattle.records.specs.Words.{QueueWords, queueWords, count, elapsed, view, Sound, PastKept}
 
 pub past-refl : (n : ℕ) (s : QueueWords) → PastKept n s s
@@ -61,10 +61,6 @@ set-at g l i x own h =
 
 pub at-set : (l : List ℕ) (i x : ℕ) → i < length l → at (set l i x) ≡ upd (at l) i x
 at-set l i x h = set-at (λ j. j) l i x (λ j e. e) h
-
--- a record's two words become x and y
-abbrev pub given : List ℕ → ℕ → ℕ → ℕ → List ℕ
-given l i x y = set (set l (2 * i) x) (2 * i + 1) y
 
 module _ (l : List ℕ) (i x y : ℕ) (h : 2 * i + 1 < length l) where
   pub given-value : valueAt (given l i x y) ≡ upd (valueAt l) i x

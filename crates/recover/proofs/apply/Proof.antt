@@ -1,5 +1,6 @@
 -- `apply` meets its claim: judged once, and then `apply_parts`.
 use borrow.Author.Needs.{needs}
+use Rattle.delay_queue.proofs.laws.Back.{tells-lent}
 use Rattle.recover.proofs.laws.Parts.{applies-rows}
 use Rattle.recover.proofs.apply.Statement.{statement}
 use Rattle.recover.proofs.apply.Tie as tie
@@ -9,15 +10,28 @@ to-parts c =
     let a = c .before .before .before .before in
     let b = a .before .before .before .before in
     let d = b .before .before .before .before in
-    d .before
+    d .before .before
 
-abbrev to-rows-of : tie.After-apply-parts → tie.After-rows-of
+abbrev to-sound : tie.After-tops-of → tie.After-is-sound
+to-sound c = c .before .before
+
+abbrev to-lent : tie.After-apply-parts-arg6 → tie.After-tops-of
+to-lent c =
+    let a = c .before .before .before .before in
+    let b = a .before .before .before .before in
+    b .before
+
+abbrev to-tops : tie.After-apply-parts → tie.After-tops-of
+to-tops c =
+    let a = c .before .before .before .before in
+    let b = a .before .before .before .before in
+    b .before .before
+
+abbrev to-rows-of : tie.After-tops-of → tie.After-rows-of
 to-rows-of c =
     let a = c .before .before .before .before in
     let b = a .before .before .before .before in
-    let d = b .before .before .before .before in
-    let e = d .before .before .before .before in
-    e .before .before .before
+    b .before
 
 rows-of-requires : tie.Need-rows-of-requires
 rows-of-requires c κs = search needs
@@ -25,20 +39,16 @@ rows-of-requires c κs = search needs
 is-sound-requires : tie.Need-is-sound-requires
 is-sound-requires c κs = search needs
 
+tops-of-requires : tie.Need-tops-of-requires
+tops-of-requires c κs = search needs
+
 apply-parts-requires : tie.Need-apply-parts-requires
-apply-parts-requires c κs = search needs
+apply-parts-requires c κs =
+    let at-tops = to-lent c in
+    tells-lent (at-tops .tops-of .ensures) (to-sound at-tops .is-sound .ensures)
 
-array-read-t49 : tie.Need-array-read-t49
-array-read-t49 c = search needs
-
-array-read-t52 : tie.Need-array-read-t52
-array-read-t52 c = search needs
-
-array-read-t55 : tie.Need-array-read-t55
-array-read-t55 c = search needs
-
-array-read-t58 : tie.Need-array-read-t58
-array-read-t58 c = search needs
+wheel-of-requires : tie.Need-wheel-of-requires
+wheel-of-requires c κs = search needs
 
 heads-of-requires : tie.Need-heads-of-requires
 heads-of-requires c κs = search needs
@@ -64,7 +74,9 @@ same-length-6 c = search needs
 returns : tie.Need-returns
 returns c =
     let at-parts = to-parts c in
-    rw (c .heads-of .ensures) (applies-rows _ _ _ _ _ _ _ (to-rows-of at-parts .rows-of .ensures) (at-parts .apply-parts .ensures))
+    let at-tops = to-tops at-parts in
+    rw (c .heads-of .ensures, c .before .wheel-of .ensures)
+    (applies-rows _ _ _ _ _ _ _ (at-tops .tops-of .ensures) (to-rows-of at-tops .rows-of .ensures) (at-parts .apply-parts .ensures))
 
 pub apply-spec : {M : Type 1} → statement M
 apply-spec =
@@ -72,11 +84,9 @@ apply-spec =
     (tie.spec
     rows-of-requires
     is-sound-requires
+    tops-of-requires
     apply-parts-requires
-    array-read-t49
-    array-read-t52
-    array-read-t55
-    array-read-t58
+    wheel-of-requires
     heads-of-requires
     same-length
     same-length-2

@@ -7,7 +7,9 @@ use native.Mathlib.Omega.{arith}
 use borrow.Author.Tests.{lt-ltb, le-ltb, not-true, not-false}
 use lib.ListN.{length, take}
 use Rattle.contracts.specs.Tells.{Tells}
+use Rattle.stack.specs.declared.Stacks.{Stacks}
 use Rattle.wheel.specs.declared.Wheel.{Wheel}
+use Rattle.records.proofs.laws.Lent.{stacked, stacked-same}
 use Rattle.queue.specs.declared.Answer.{Answer}
 use Rattle.records.specs.Slices.{Slices, slicesOf, Room, Fits}
 use Rattle.records.specs.Words.{QueueWords, words, Sound}
@@ -114,9 +116,10 @@ pub closed-makes : {s : QueueWords} {x : Step} → x ≡ S.Close → Makes x s s
 closed-makes {s} e = subst (λ (y : Step). Makes y s s) (sym e) closed
 
 -- the heads, handed on as their rows
-pub applies-rows : {l : List ℕ} {n : ℕ} {s′ : QueueWords} (w : Wheel) {hh hh′ : List (List ℕ)} (vs ds ns ps ts ms : List ℕ) → hh′ ≡ hh
-    → Applies l (words w hh′ vs ds ns ps ts ms) n s′ → Applies l (words w hh vs ds ns ps ts ms) n s′
-applies-rows {l} {n} {s′} w vs ds ns ps ts ms e A = subst (λ (h : List (List ℕ)). Applies l (words w h vs ds ns ps ts ms) n s′) e A
+pub applies-rows : {l : List ℕ} {n : ℕ} {s′ : QueueWords} (w : Wheel) {st : Stacks} {hh hh′ : List (List ℕ)} (vs ds ns ps ts ms : List ℕ)
+    → st ≡ w .stacks → hh′ ≡ hh → Applies l (stacked st (words w hh′ vs ds ns ps ts ms)) n s′ → Applies l (words w hh vs ds ns ps ts ms) n s′
+applies-rows {l} {n} {s′} w vs ds ns ps ts ms q e A =
+    subst (λ (h : List (List ℕ)). Applies l (words w h vs ds ns ps ts ms) n s′) e (subst (λ s. Applies l s n s′) (stacked-same q) A)
 
 -- ---- no store
 

@@ -1,5 +1,8 @@
 -- `formats` meets its claim: that of `delay_queue::format`, with the heads that `rows_of` takes out of its reply.
 use borrow.Author.Needs.{needs}
+use Rattle.records.proofs.laws.Lent.{lent-as}
+use Rattle.delay_queue.specs.Claims.{FormatClaim}
+use Rattle.run.proofs.laws.Run.{format-made}
 use Rattle.run.proofs.formats.Statement.{statement}
 use Rattle.run.proofs.formats.Tie as tie
 
@@ -9,22 +12,24 @@ to-format c =
     let b = a .before .before .before .before in
     let d = b .before .before .before .before in
     let e = d .before .before .before .before in
-    e .before .before
+    e .before
 
-element-copy-out-t29 : tie.Need-element-copy-out-t29
-element-copy-out-t29 c = search needs
+abbrev to-tops : tie.After-rows-of → tie.After-tops-of
+to-tops c = c .before
 
-element-copy-out-t32 : tie.Need-element-copy-out-t32
-element-copy-out-t32 c = search needs
+abbrev to-wheel : tie.After-format → tie.After-wheel-of
+to-wheel c =
+    let a = c .before .before .before .before in
+    a .before .before .before .before
 
-element-copy-out-t35 : tie.Need-element-copy-out-t35
-element-copy-out-t35 c = search needs
-
-element-copy-out-t38 : tie.Need-element-copy-out-t38
-element-copy-out-t38 c = search needs
+wheel-of-requires : tie.Need-wheel-of-requires
+wheel-of-requires c κs = search needs
 
 format-requires : tie.Need-format-requires
 format-requires c κs = search needs
+
+tops-of-requires : tie.Need-tops-of-requires
+tops-of-requires c κs = search needs
 
 rows-of-requires : tie.Need-rows-of-requires
 rows-of-requires c κs = search needs
@@ -48,17 +53,18 @@ same-length-6 : tie.Need-same-length-6
 same-length-6 c = search needs
 
 returns : tie.Need-returns
-returns c = rw (c .rows-of .ensures) (to-format c .format .ensures)
+returns c =
+    let at-format = to-format c in
+    rw (c .rows-of .ensures)
+    (lent-as (FormatClaim _ _ _ _) (to-tops c .tops-of .ensures) (format-made (to-wheel at-format .wheel-of .ensures) (at-format .format .ensures)))
 
 pub formats-spec : {M : Type 1} → statement M
 formats-spec =
     tie.close
     (tie.spec
-    element-copy-out-t29
-    element-copy-out-t32
-    element-copy-out-t35
-    element-copy-out-t38
+    wheel-of-requires
     format-requires
+    tops-of-requires
     rows-of-requires
     same-length
     same-length-2

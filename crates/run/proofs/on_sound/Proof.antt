@@ -1,6 +1,7 @@
 -- `on_sound` meets the claim of each call: on a sound store it is what the function of `queue` does (`taken-up`), or 12 while a poll is in hand (`held-up`).
 use borrow.Author.Needs.{needs}
-use mathlib.Core.Path.{refl}
+use mathlib.Core.Path.{refl, ap, _∙_}
+use Rattle.queue.specs.Inner.{pendingIn}
 use Rattle.records.proofs.laws.Inner.{standing-hold}
 use Rattle.delay_queue.proofs.laws.Back.{by-call, taken-up, taken-insert, taken-reset, taken-remove, taken-alone, parted, whole-claim}
 use Rattle.delay_queue.proofs.laws.Back.{can-look, wake-done, length-done}
@@ -50,7 +51,7 @@ to-call3 c =
     b .before .before .before
 
 abbrev to-enum-told : tie.After-length → tie.After-enum-told
-to-enum-told c = c .before .before .before
+to-enum-told c = c .before .before .before .before
 
 abbrev to-clear : tie.After-slice-known26 → tie.After-clear
 to-clear c =
@@ -97,8 +98,17 @@ to-call6 c =
     let b = a .before .before .before .before in
     b .before .before
 
-abbrev to-enum-told3 : tie.After-next-wake-arg4 → tie.After-enum-told3
-to-enum-told3 c = c .before .before .before .before
+abbrev to-count : tie.After-length → tie.After-count-of
+to-count c = c .before .before
+
+abbrev to-parked : tie.After-next-wake-arg2 → tie.After-first-parked
+to-parked c = c .before .before
+
+abbrev to-expired : tie.After-first-parked → tie.After-first-expired
+to-expired c = c .before .before
+
+abbrev to-enum-told3 : tie.After-first-expired → tie.After-enum-told3
+to-enum-told3 c = c .before .before
 
 must-wait-requires : tie.Need-must-wait-requires
 must-wait-requires c κs = search needs
@@ -127,8 +137,8 @@ poll-requires-2 c κs = search needs
 enum-told : tie.Need-enum-told
 enum-told c = search needs
 
-element-copy-out-length : tie.Need-element-copy-out-length
-element-copy-out-length c = search needs
+count-of-requires : tie.Need-count-of-requires
+count-of-requires c κs = search needs
 
 length-requires : tie.Need-length-requires
 length-requires c κs = search needs
@@ -175,19 +185,20 @@ remove-requires c κs =
 enum-told-3 : tie.Need-enum-told-3
 enum-told-3 c = search needs
 
-element-copy-out-next-wake : tie.Need-element-copy-out-next-wake
-element-copy-out-next-wake c = search needs
+first-expired-requires : tie.Need-first-expired-requires
+first-expired-requires c κs = search needs
 
-element-copy-out-next-wake-2 : tie.Need-element-copy-out-next-wake-2
-element-copy-out-next-wake-2 c = search needs
+first-parked-requires : tie.Need-first-parked-requires
+first-parked-requires c κs = search needs
 
 next-wake-requires : tie.Need-next-wake-requires
 next-wake-requires c κs =
-    let told = to-enum-told3 c in
+    let at-parked = to-parked c in
+    let told = to-enum-told3 (to-expired at-parked) in
     let else1 = told .before .before in
     let S = to-start (else1 .before) .pre in
     let z = at-rest (else1 .before .must-wait .ensures) (else1 .if1 .left) (told .enum-told3 .given .1) tt in
-    can-look (S, z)
+    rw (at-parked .first-parked .ensures) (can-look (S, z))
 
 same-length : tie.Need-same-length
 same-length c = search needs
@@ -267,7 +278,7 @@ returns-5 : tie.Need-returns-5
 returns-5 c =
     let told = to-enum-told c in
     let S = to-start (told .before .before .before) .pre in
-    by-call _ _ _ (told .enum-told .given .1) (taken-up S (length-done S (c .length .ensures)), refl)
+    by-call _ _ _ (told .enum-told .given .1) (taken-up S (length-done S (c .length .ensures ∙ ap (pendingIn _) (to-count c .count-of .ensures))), refl)
 
 same-length-20 : tie.Need-same-length-20
 same-length-20 c = search needs
@@ -318,7 +329,7 @@ returns-7 c =
     let else1 = at-call .before .before in
     let S = to-start (else1 .before) .pre in
     let z = at-rest (else1 .before .must-wait .ensures) (else1 .if1 .left) (at-call .call4 .given .1) tt in
-    by-call _ _ _ (at-call .call4 .given .1) (taken-insert (S, z) (at-insert .insert .ensures))
+    by-call _ _ _ (at-call .call4 .given .1) (taken-insert (S, z) refl (at-insert .insert .ensures))
 
 same-length-32 : tie.Need-same-length-32
 same-length-32 c = search needs
@@ -345,7 +356,7 @@ returns-8 c =
     let else1 = at-call .before .before in
     let S = to-start (else1 .before) .pre in
     let z = at-rest (else1 .before .must-wait .ensures) (else1 .if1 .left) (at-call .call5 .given .1) tt in
-    by-call _ _ _ (at-call .call5 .given .1) (taken-reset (S, z) (at-reset .reset .ensures))
+    by-call _ _ _ (at-call .call5 .given .1) (taken-reset (S, z) refl (at-reset .reset .ensures))
 
 same-length-38 : tie.Need-same-length-38
 same-length-38 c = search needs
@@ -372,18 +383,23 @@ returns-9 c =
     let else1 = at-call .before .before in
     let S = to-start (else1 .before) .pre in
     let z = at-rest (else1 .before .must-wait .ensures) (else1 .if1 .left) (at-call .call6 .given .1) tt in
-    by-call _ _ _ (at-call .call6 .given .1) (taken-remove (S, z) (at-remove .remove .ensures))
+    by-call _ _ _ (at-call .call6 .given .1) (taken-remove (S, z) refl (at-remove .remove .ensures))
 
 same-length-44 : tie.Need-same-length-44
 same-length-44 c = search needs
 
 returns-10 : tie.Need-returns-10
 returns-10 c =
-    let told = to-enum-told3 (c .before) in
+    let at-parked = to-parked (c .before) in
+    let at-expired = to-expired at-parked in
+    let told = to-enum-told3 at-expired in
     let else1 = told .before .before in
     let S = to-start (else1 .before) .pre in
     let z = at-rest (else1 .before .must-wait .ensures) (else1 .if1 .left) (told .enum-told3 .given .1) tt in
-    by-call _ _ _ (told .enum-told3 .given .1) (taken-alone (S, z) (wake-done (S, z) (c .next-wake .ensures)), refl)
+    by-call _ _ _ (told .enum-told3 .given .1) (
+      taken-alone (S, z) (wake-done (at-expired .first-expired .ensures) (at-parked .first-parked .ensures) (S, z) (c .next-wake .ensures)),
+      refl,
+    )
 
 pub on-sound-spec : {M : Type 1} → statement M
 on-sound-spec =
@@ -398,7 +414,7 @@ on-sound-spec =
     enum-known-call-3
     poll-requires-2
     enum-told
-    element-copy-out-length
+    count-of-requires
     length-requires
     enum-told-2
     clear-requires
@@ -409,8 +425,8 @@ on-sound-spec =
     enum-known-call-6
     remove-requires
     enum-told-3
-    element-copy-out-next-wake
-    element-copy-out-next-wake-2
+    first-expired-requires
+    first-parked-requires
     next-wake-requires
     same-length
     same-length-2

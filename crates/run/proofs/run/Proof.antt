@@ -1,5 +1,7 @@
 -- `run` meets its claim: judged once, and then `answer_all`.
 use borrow.Author.Needs.{needs}
+use Rattle.delay_queue.proofs.laws.Back.{tells-lent}
+use Rattle.run.proofs.laws.Run.{run-lent}
 use Rattle.run.proofs.run.Statement.{statement}
 use Rattle.run.proofs.run.Tie as tie
 
@@ -8,25 +10,36 @@ to-answer-all c =
     let a = c .before .before .before .before in
     let b = a .before .before .before .before in
     let d = b .before .before .before .before in
-    d .before .before .before
+    d .before .before .before .before
+
+abbrev to-sound : tie.After-tops-of → tie.After-is-sound
+to-sound c = c .before .before
+
+abbrev to-lent : tie.After-answer-all-arg7 → tie.After-tops-of
+to-lent c =
+    let a = c .before .before .before .before in
+    let b = a .before .before .before .before in
+    b .before .before
+
+abbrev to-tops : tie.After-answer-all → tie.After-tops-of
+to-tops c =
+    let a = c .before .before .before .before in
+    let b = a .before .before .before .before in
+    b .before .before .before
 
 is-sound-requires : tie.Need-is-sound-requires
 is-sound-requires c κs = search needs
 
+tops-of-requires : tie.Need-tops-of-requires
+tops-of-requires c κs = search needs
+
 answer-all-requires : tie.Need-answer-all-requires
-answer-all-requires c κs = search needs
+answer-all-requires c κs =
+    let at-tops = to-lent c in
+    tells-lent (at-tops .tops-of .ensures) (to-sound at-tops .is-sound .ensures)
 
-array-read-t52 : tie.Need-array-read-t52
-array-read-t52 c = search needs
-
-array-read-t55 : tie.Need-array-read-t55
-array-read-t55 c = search needs
-
-array-read-t58 : tie.Need-array-read-t58
-array-read-t58 c = search needs
-
-array-read-t61 : tie.Need-array-read-t61
-array-read-t61 c = search needs
+wheel-of-requires : tie.Need-wheel-of-requires
+wheel-of-requires c κs = search needs
 
 heads-of-requires : tie.Need-heads-of-requires
 heads-of-requires c κs = search needs
@@ -53,18 +66,18 @@ same-length-7 : tie.Need-same-length-7
 same-length-7 c = search needs
 
 returns : tie.Need-returns
-returns c = rw (c .heads-of .ensures) (to-answer-all c .answer-all .ensures .run)
+returns c =
+    let at-all = to-answer-all c in
+    rw (c .heads-of .ensures, c .before .wheel-of .ensures) (run-lent (to-tops at-all .tops-of .ensures) (at-all .answer-all .ensures .run))
 
 pub run-spec : {M : Type 1} → statement M
 run-spec =
     tie.close
     (tie.spec
     is-sound-requires
+    tops-of-requires
     answer-all-requires
-    array-read-t52
-    array-read-t55
-    array-read-t58
-    array-read-t61
+    wheel-of-requires
     heads-of-requires
     same-length
     same-length-2

@@ -22,11 +22,11 @@ start c =
 abbrev given : tie.After-struct-known Inv-loop μ-loop → tie.After-walk Inv-loop μ-loop
 given c = c .before .before .before
 
-element-copy-out-left : tie.Need-element-copy-out-left Inv-loop μ-loop
-element-copy-out-left c = search needs
+count-of-requires : tie.Need-count-of-requires Inv-loop μ-loop
+count-of-requires c κs = search needs
 
 loop-holds : tie.Need-loop-holds Inv-loop μ-loop
-loop-holds c = judge-begun _
+loop-holds c = rw (c .count-of .ensures) (judge-begun _)
 
 walk-level-requires : tie.Need-walk-level-requires Inv-loop μ-loop
 walk-level-requires c κs = search needs
@@ -80,7 +80,7 @@ is-whole-spec =
     (tie.spec
     Inv-loop
     μ-loop
-    element-copy-out-left
+    count-of-requires
     loop-holds
     walk-level-requires
     enum-known-walk

@@ -525,7 +525,11 @@ module _ {t₀ : WheelWords} {ds : List ℕ} {hand now : ℕ} (C : CanPoll t₀ 
         held = λ z. let H = S .passing .inside z in (H .below, omega (arith, f, H .due));
       }
 
-  module _ {r : Next} (G : GoesTo (at ds) (t .elapsed) (t .occupied) (t .stack .stacks .parking) place r) where
+  module _ {parked : ℕ} (first : parked ≡ t .stack .stacks .parking) {r : Next}
+      (F : GoesTo (at ds) (t .elapsed) (t .occupied) parked place r) where
+    G : GoesTo (at ds) (t .elapsed) (t .occupied) (t .stack .stacks .parking) place r
+    G = subst (λ y. GoesTo (at ds) (t .elapsed) (t .occupied) y place r) first F
+
     -- nothing waits: nothing is in hand
     pub next-idle : r ≡ Nothing → PollsTo (at ds) now limit hand t₀ nobody place count drains (wheelWords now (t .occupied) (t .stack))
     next-idle e =

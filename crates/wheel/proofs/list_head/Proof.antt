@@ -1,6 +1,6 @@
 -- `list_head` meets its contract: a slot's head (`slot-head`), and above the six levels only the parking list is left.
 use borrow.Author.Needs.{needs}
-use mathlib.Core.Path.{_≡_, refl}
+use mathlib.Core.Path.{_≡_}
 use native.Mathlib.Omega.{arith}
 use Rattle.stack.specs.Places.{slotPlace, parking}
 use Rattle.stack.proofs.laws.Heads.{slot-head, head-parking}
@@ -22,14 +22,14 @@ index-2-result c = search needs
 returns : tie.Need-returns
 returns c = slot-head _ _ (c .before .if1 .taken) (c .before .before .pre .0) _ _
 
-element-copy-out-result : tie.Need-element-copy-out-result
-element-copy-out-result c = search needs
+first-parked-requires : tie.Need-first-parked-requires
+first-parked-requires c κs = search needs
 
 returns-2 : tie.Need-returns-2
 returns-2 c =
     let e = c .before in
     let z : slotPlace (e .before .args .level) (e .before .args .slot) ≡ parking = omega (arith, e .if1 .left, e .before .pre .1) in
-    rw (z, head-parking) refl
+    rw (z, head-parking) (c .first-parked .ensures)
 
 pub list-head-spec : {M : Type 1} → statement M
 list-head-spec =
@@ -40,5 +40,5 @@ list-head-spec =
     index-1-result
     index-2-result
     returns
-    element-copy-out-result
+    first-parked-requires
     returns-2)

@@ -31,7 +31,7 @@ start c =
     a .before
 
 abbrev turn : tie.After-next-list Inv-loop μ-loop → tie.At-loop Inv-loop μ-loop
-turn c = c .before .before .before
+turn c = c .before .before .before .before
 
 abbrev found : tie.After-known-told Inv-loop μ-loop → tie.After-next-list Inv-loop μ-loop
 found c = c .before .before .before
@@ -62,13 +62,13 @@ headed c = c .before .before .before
 loop-holds : tie.Need-loop-holds Inv-loop μ-loop
 loop-holds c = poll-start (c .before .before .before .before .pre) _
 
-element-copy-out-next-list : tie.Need-element-copy-out-next-list Inv-loop μ-loop
-element-copy-out-next-list c = search needs
+first-parked-requires : tie.Need-first-parked-requires Inv-loop μ-loop
+first-parked-requires c κs = search needs
 
 next-list-requires : tie.Need-next-list-requires Inv-loop μ-loop
 next-list-requires c κs =
-    let t = c .before .before in
-    next-asks (start t .pre) _ (t .loop .inv) (start t .fits .time .fits)
+    let t = c .before .before .before in
+    rw (c .first-parked .ensures) (next-asks (start t .pre) _ (t .loop .inv) (start t .fits .time .fits))
 
 enum-known-next : tie.Need-enum-known-next Inv-loop μ-loop
 enum-known-next c = search needs
@@ -82,7 +82,7 @@ pop-entry-requires c κs =
     let k = o .before .before in
     let n = found k in
     let t = turn n in
-    next-pops (start t .pre) _ (t .loop .inv) (n .next-list .ensures) _ (k .before .next .given .1) (o .if2 .taken)
+    next-pops (start t .pre) _ (t .loop .inv) (n .before .first-parked .ensures) (n .next-list .ensures) _ (k .before .next .given .1) (o .if2 .taken)
 
 poll-expiration-requires : tie.Need-poll-expiration-requires Inv-loop μ-loop
 poll-expiration-requires c κs =
@@ -90,7 +90,8 @@ poll-expiration-requires c κs =
     let k = d .before .before in
     let n = found k in
     let t = turn n in
-    next-can (start t .pre) _ (t .loop .inv) (n .next-list .ensures) _ (k .before .next .given .1) (d .if2 .left) (d .before .if1 .left)
+    next-can (start t .pre) _ (t .loop .inv) (n .before .first-parked .ensures) (n .next-list .ensures)
+    _ (k .before .next .given .1) (d .if2 .left) (d .before .if1 .left)
 
 sub-moves : tie.Need-sub-moves Inv-loop μ-loop
 sub-moves c =
@@ -105,7 +106,8 @@ parts c =
     let k = d .before .before in
     let n = found k in
     let t = turn n in
-    next-parts (start t .pre) _ (t .loop .inv) (n .next-list .ensures) _ (k .before .next .given .1) (d .if2 .left) (d .before .if1 .left)
+    next-parts (start t .pre) _ (t .loop .inv) (n .before .first-parked .ensures) (n .next-list .ensures)
+    _ (k .before .next .given .1) (d .if2 .left) (d .before .if1 .left)
 
 list-head-requires : tie.Need-list-head-requires Inv-loop μ-loop
 list-head-requires c κs = parts (c .before .before)
@@ -126,7 +128,8 @@ loop-less c =
     let k = d .before .before in
     let n = found k in
     let t = turn n in
-    next-drained (start t .pre) _ (t .loop .inv) (n .next-list .ensures) _ (k .before .next .given .1) (d .if2 .left) (d .before .if1 .left)
+    next-drained (start t .pre) _ (t .loop .inv) (n .before .first-parked .ensures) (n .next-list .ensures)
+    _ (k .before .next .given .1) (d .if2 .left) (d .before .if1 .left)
     _ (p .poll-expiration .ensures) _ refl _ refl (sym (h .list-head .ensures) ∙ c .if3 .left) .1
 
 loop-again : tie.Need-loop-again Inv-loop μ-loop
@@ -137,14 +140,15 @@ loop-again c =
     let k = d .before .before in
     let n = found k in
     let t = turn n in
-    next-drained (start t .pre) _ (t .loop .inv) (n .next-list .ensures) _ (k .before .next .given .1) (d .if2 .left) (d .before .if1 .left)
+    next-drained (start t .pre) _ (t .loop .inv) (n .before .first-parked .ensures) (n .next-list .ensures)
+    _ (k .before .next .given .1) (d .if2 .left) (d .before .if1 .left)
     _ (p .poll-expiration .ensures) _ refl _ refl (sym (h .list-head .ensures) ∙ c .if3 .left) .0
 
 returns : tie.Need-returns Inv-loop μ-loop
 returns c =
     let n = c .before .before in
     let t = turn n in
-    next-idle (start t .pre) _ (t .loop .inv) (n .next-list .ensures) (c .enum-told .given .1)
+    next-idle (start t .pre) _ (t .loop .inv) (n .before .first-parked .ensures) (n .next-list .ensures) (c .enum-told .given .1)
 
 same-length : tie.Need-same-length Inv-loop μ-loop
 same-length c = returns c .kept .links .nexts .size
@@ -160,7 +164,7 @@ returns-2 c =
     let k = c .before in
     let n = found k in
     let t = turn n in
-    next-early (start t .pre) _ (t .loop .inv) (n .next-list .ensures) _ (k .before .next .given .1) (c .if1 .taken)
+    next-early (start t .pre) _ (t .loop .inv) (n .before .first-parked .ensures) (n .next-list .ensures) _ (k .before .next .given .1) (c .if1 .taken)
 
 same-length-4 : tie.Need-same-length-4 Inv-loop μ-loop
 same-length-4 c = returns-2 c .kept .links .nexts .size
@@ -178,7 +182,8 @@ returns-3 c =
     let k = o .before .before in
     let n = found k in
     let t = turn n in
-    next-out (start t .pre) _ (t .loop .inv) (n .next-list .ensures) _ (k .before .next .given .1) (o .if2 .taken) (o .before .if1 .left)
+    next-out (start t .pre) _ (t .loop .inv) (n .before .first-parked .ensures) (n .next-list .ensures)
+    _ (k .before .next .given .1) (o .if2 .taken) (o .before .if1 .left)
     _ (p .pop-entry .ensures)
 
 same-length-7 : tie.Need-same-length-7 Inv-loop μ-loop
@@ -199,7 +204,8 @@ returns-4 c =
     let k = d .before .before in
     let n = found k in
     let t = turn n in
-    next-yet (start t .pre) _ (t .loop .inv) (n .next-list .ensures) _ (k .before .next .given .1) (d .if2 .left) (d .before .if1 .left)
+    next-yet (start t .pre) _ (t .loop .inv) (n .before .first-parked .ensures) (n .next-list .ensures)
+    _ (k .before .next .given .1) (d .if2 .left) (d .before .if1 .left)
     _ (p .poll-expiration .ensures) _ refl _ (c .list-place .ensures)
     (λ z. y .if3 .taken (h .list-head .ensures ∙ ap (headOf _ _) (sym (c .list-place .ensures)) ∙ z))
 
@@ -219,7 +225,7 @@ poll-spec =
     Inv-loop
     μ-loop
     loop-holds
-    element-copy-out-next-list
+    first-parked-requires
     next-list-requires
     enum-known-next
     enum-told
