@@ -325,194 +325,60 @@ fn key(item: u64) -> u64
     records::LAST_TURN * 65536 + item
 }
 
-// A store of n records at elapsed 100. Record 0 is retired, the others are free. The words behind them are x.
-pub fn begun(n: u64, x: u64) -> Image {
+// A call that makes a store: its kind, as in a run, and its numbers.
+pub const INSERT: u64 = 2;
+
+pub const REMOVE: u64 = 4;
+
+pub const POLL: u64 = 5;
+
+pub const POLL_SOME: u64 = 11;
+
+fn made_by(row: [u64; 3]) -> Call {
+    match row[0] {
+        INSERT => Call::Insert(row[1], row[2], 0),
+        REMOVE => Call::Remove(row[1]),
+        POLL_SOME => Call::PollSome(row[1], row[2]),
+        _ => Call::Poll(row[1]),
+    }
+}
+
+// The store after the calls of the table.
+pub fn after(store: Image, calls: &[[u64; 3]]) -> Image {
+    let mut image = store;
+    let mut i: usize = 0;
+    while i < calls.len() {
+        let row = calls[i];
+        ask(&mut image, whole(), made_by(row));
+        i += 1;
+    }
+    image
+}
+
+fn put(image: &mut Image, at: u64, x: u64) {
+    let at = at as usize;
+    if at < REST {
+        image[at] = x;
+    }
+}
+
+// The store with the words of the table changed, each a word and what it becomes.
+pub fn altered(store: Image, table: &[[u64; 2]]) -> Image {
+    let mut image = store;
+    let mut i: usize = 0;
+    while i < table.len() {
+        let row = table[i];
+        put(&mut image, row[0], row[1]);
+        i += 1;
+    }
+    image
+}
+
+// A store of n free records. The words behind them are x.
+pub fn formatted(n: u64, turn: u64, x: u64) -> Image {
     let mut image = blank(x);
     image[REST] = 0;
-    ask(&mut image, whole(), Call::Format(n, records::LAST_TURN));
-    ask(&mut image, whole(), Call::Insert(10, 50, 0));
-    ask(&mut image, whole(), Call::Remove(key(0)));
-    ask(&mut image, whole(), Call::Poll(100));
-    image
-}
-
-// Nine records. 0 is retired; 1 is at level 0, 2 and then 3 in one slot of level 1, 4 at level 2, 5 at level 5; 6 is on the expired
-// stack; 7 and then 8 are free.
-pub fn store(x: u64) -> Image {
-    let mut image = begun(9, x);
-    ask(&mut image, whole(), Call::Insert(11, 105, 0));
-    ask(&mut image, whole(), Call::Insert(12, 200, 0));
-    ask(&mut image, whole(), Call::Insert(13, 210, 0));
-    ask(&mut image, whole(), Call::Insert(14, 5000, 0));
-    ask(&mut image, whole(), Call::Insert(15, 2000000000, 0));
-    ask(&mut image, whole(), Call::Insert(16, 60, 0));
-    image
-}
-
-// The same, with words of retired records behind the nine.
-pub fn filled() -> Image {
-    let mut image = store(records::LAST_TURN);
-    image[MARKS + 9] = wide(stack::RETIRED);
-    image[MARKS + 10] = wide(stack::RETIRED);
-    image[MARKS + 11] = wide(stack::RETIRED);
-    image
-}
-
-// The store of nine once the expired one is handed out.
-pub fn polled(x: u64) -> Image {
-    let mut image = store(x);
-    ask(&mut image, whole(), Call::Poll(100));
-    image
-}
-
-// A poll at 210 in hand, after the first of two moves out of slot 3 of level 1: 2 is at level 0, and 3 still there. 4 is at level 2, 5 at
-// level 5; 7 and then 8 are free, the others retired.
-pub fn held(x: u64) -> Image {
-    let mut image = polled(x);
-    ask(&mut image, whole(), Call::Poll(105));
-    ask(&mut image, whole(), Call::PollSome(210, 1));
-    image
-}
-
-// The same with 2 on the expired stack.
-pub fn expired(x: u64) -> Image {
-    let mut image = held(x);
-    image[HEADS + 8] = wide(links::NOBODY);
-    image[OCCUPIED] = 0;
-    image[EXPIRED] = 2;
-    image[MARKS + 2] = wide(stack::EXPIRED);
-    image[DEADLINES + 2] = image[ELAPSED];
-    image
-}
-
-// The same with no poll in hand: 2 lies too low.
-pub fn let_go(x: u64) -> Image {
-    let mut image = held(x);
-    image[HAND] = wide(links::NOBODY);
-    image
-}
-
-// A poll at 5000 in hand, after the first of two moves out of slot 1 of level 2: 1 is in slot 14 of level 1, and 2 still there.
-pub fn high() -> Image {
-    let mut image = begun(3, 77);
-    ask(&mut image, whole(), Call::Insert(11, 5000, 0));
-    ask(&mut image, whole(), Call::Insert(12, 5001, 0));
-    ask(&mut image, whole(), Call::PollSome(5000, 1));
-    image
-}
-
-// The same with 1 moved on to level 0, which is filled too early.
-pub fn too_low() -> Image {
-    let mut image = high();
-    image[HEADS + 78] = wide(links::NOBODY);
-    image[OCCUPIED + 1] = 0;
-    image[HEADS + 8] = 1;
-    image[OCCUPIED] = 1 << 8;
-    image[MARKS + 1] = 8;
-    image
-}
-
-// Both drained, and the poll between two drains: it goes on in slot 14 of level 1, which starts after elapsed.
-pub fn between() -> Image {
-    let mut image = high();
-    ask(&mut image, whole(), Call::PollSome(5000, 1));
-    image
-}
-
-// The store of nine with 2 and then 3 parked, at the next block's start and 50 later.
-pub fn parked(x: u64) -> Image {
-    let mut image = begun(9, x);
-    ask(&mut image, whole(), Call::Insert(11, 105, 0));
-    ask(&mut image, whole(), Call::Insert(12, 1 << 36, 0));
-    ask(&mut image, whole(), Call::Insert(13, (1 << 36) + 50, 0));
-    ask(&mut image, whole(), Call::Insert(14, 5000, 0));
-    ask(&mut image, whole(), Call::Insert(15, 2000000000, 0));
-    ask(&mut image, whole(), Call::Insert(16, 60, 0));
-    image
-}
-
-// The same with 2 cut out of its list: its mark says that it is parked, and it is in no list.
-pub fn unparked() -> Image {
-    let mut image = parked(77);
-    image[PARKING] = 3;
-    image[PREVS + 3] = 3;
-    image[NEXTS + 2] = wide(links::NOBODY);
-    image[PREVS + 2] = wide(links::NOBODY);
-    image
-}
-
-// The store with two parked, once the expired one is handed out, with a poll at the next block's start in hand: it drains the parking list
-// before the rest is out.
-pub fn hasty() -> Image {
-    let mut image = parked(77);
-    ask(&mut image, whole(), Call::Poll(100));
-    image[HAND] = wide(stack::PARKING);
-    image[UNTIL] = 1 << 36;
-    image
-}
-
-// A poll 50 after the next block's start in hand, after the first of two moves out of the parking list: 1 is in slot 0 of level 5, and 2 still
-// there. 3 is free.
-pub fn parking() -> Image {
-    let mut image = begun(4, 77);
-    ask(&mut image, whole(), Call::Insert(11, 1 << 36, 0));
-    ask(&mut image, whole(), Call::Insert(12, (1 << 36) + 50, 0));
-    ask(&mut image, whole(), Call::PollSome((1 << 36) + 50, 1));
-    image
-}
-
-// Both moved, and the poll between two drains: it goes on in slot 0 of level 5, which starts at elapsed, the block's start.
-pub fn crossed() -> Image {
-    let mut image = parking();
-    ask(&mut image, whole(), Call::PollSome((1 << 36) + 50, 1));
-    image
-}
-
-// The same with 3 parked, in the block after: no poll would have drained the parking list and left one there.
-pub fn parked_too() -> Image {
-    let mut image = crossed();
-    image[FREE] = wide(links::NOBODY);
-    image[PARKING] = 3;
-    image[DEADLINES + 3] = 1 << 37;
-    image[NEXTS + 3] = wide(links::NOBODY);
-    image[PREVS + 3] = 3;
-    image[MARKS + 3] = wide(stack::PARKING);
-    image
-}
-
-// Three timers at 70 in one slot of level 1: 0, then 1, then 2.
-fn three() -> Image {
-    let mut image = blank(77);
-    image[REST] = 0;
-    ask(&mut image, whole(), Call::Format(3, 1));
-    ask(&mut image, whole(), Call::Insert(10, 70, 0));
-    ask(&mut image, whole(), Call::Insert(11, 70, 0));
-    ask(&mut image, whole(), Call::Insert(12, 70, 0));
-    image
-}
-
-// The same with the middle one cut out of its list, as the first half of a reset leaves it: in no list, at turn 1.
-pub fn cut() -> Image {
-    let mut image = three();
-    image[NEXTS] = 2;
-    image[PREVS + 2] = 0;
-    image[NEXTS + 1] = wide(links::NOBODY);
-    image[PREVS + 1] = wide(links::NOBODY);
-    image[MARKS + 1] = wide(links::NOBODY);
-    image
-}
-
-// One timer at 70, at the last turn, cut out of its list by half a reset.
-pub fn half() -> Image {
-    let mut image = blank(77);
-    image[REST] = 0;
-    ask(&mut image, whole(), Call::Format(1, records::LAST_TURN));
-    ask(&mut image, whole(), Call::Insert(7, 70, 0));
-    image[NEXTS] = wide(links::NOBODY);
-    image[PREVS] = wide(links::NOBODY);
-    image[MARKS] = wide(links::NOBODY);
-    image[HEADS + 65] = wide(links::NOBODY);
-    image[OCCUPIED + 1] = 0;
+    ask(&mut image, whole(), Call::Format(n, turn));
     image
 }
 

@@ -3,10 +3,18 @@
 // is still sound gets it from none, and all but next wake and length change words. While a poll is in hand clear alone does.
 mod image;
 
+use image::INSERT;
 use image::Image;
+use image::POLL;
+use image::POLL_SOME;
+use image::REMOVE;
+use image::after;
+use image::altered;
+use image::say;
 use image::show_all;
 use image::show_each;
 use image::show_lent;
+use image::show_whole;
 
 // Where the words begin, as the tables name them: a row of a table is a word and what it becomes.
 const VALUES: u64 = image::VALUES as u64;
@@ -44,6 +52,145 @@ const NOBODY: u64 = links::NOBODY as u64;
 const LAST_TURN: u64 = records::LAST_TURN;
 
 const RETIRED: u64 = stack::RETIRED as u64;
+
+// ---- stores, by the calls and the changes that make them
+
+// At elapsed 100 record 0 is retired.
+const BEGUN: [[u64; 3]; 3] = [
+    [INSERT, 10, 50],
+    [REMOVE, LAST_TURN << 16, 0],
+    [POLL, 100, 0],
+];
+
+// A store of n records at elapsed 100. Record 0 is retired, the others are free. The words behind them are x.
+fn begun(n: u64, x: u64) -> Image {
+    after(image::formatted(n, LAST_TURN, x), &BEGUN)
+}
+
+// Nine records. 0 is retired; 1 is at level 0, 2 and then 3 in one slot of level 1, 4 at level 2, 5 at level 5; 6 is on the expired
+// stack; 7 and then 8 are free.
+const NINE: [[u64; 3]; 6] = [
+    [INSERT, 11, 105],
+    [INSERT, 12, 200],
+    [INSERT, 13, 210],
+    [INSERT, 14, 5000],
+    [INSERT, 15, 2000000000],
+    [INSERT, 16, 60],
+];
+
+fn nine(x: u64) -> Image {
+    after(begun(9, x), &NINE)
+}
+
+// The expired one is handed out.
+const OUT: [[u64; 3]; 1] = [[POLL, 100, 0]];
+
+// Then a poll at 210 in hand, after the first of two moves out of slot 3 of level 1: 2 is at level 0, and 3 still there. 4 is at level 2,
+// 5 at level 5; 7 and then 8 are free, the others retired.
+const HELD: [[u64; 3]; 2] = [[POLL, 105, 0], [POLL_SOME, 210, 1]];
+
+// The same with 2 on the expired stack.
+const EXPIRED_TOO: [[u64; 2]; 5] = [
+    [HEADS + 8, NOBODY],
+    [OCCUPIED, 0],
+    [EXPIRED, 2],
+    [MARKS + 2, stack::EXPIRED as u64],
+    [DEADLINES + 2, 100],
+];
+
+// The same with no poll in hand: 2 lies too low.
+const LET_GO: [[u64; 2]; 1] = [[HAND, NOBODY]];
+
+// Of three records, a poll at 5000 in hand, after the first of two moves out of slot 1 of level 2: 1 is in slot 14 of level 1, and 2 still
+// there.
+const HIGH: [[u64; 3]; 3] = [[INSERT, 11, 5000], [INSERT, 12, 5001], [POLL_SOME, 5000, 1]];
+
+// The same with 1 moved on to level 0, which is filled too early.
+const TOO_LOW: [[u64; 2]; 5] = [
+    [HEADS + 78, NOBODY],
+    [OCCUPIED + 1, 0],
+    [HEADS + 8, 1],
+    [OCCUPIED, 1 << 8],
+    [MARKS + 1, 8],
+];
+
+// Both drained, and the poll between two drains: it goes on in slot 14 of level 1, which starts after elapsed.
+const BETWEEN: [[u64; 3]; 1] = [[POLL_SOME, 5000, 1]];
+
+// The store of nine with 2 and then 3 parked, at the next block's start and 50 later.
+const PARKED: [[u64; 3]; 6] = [
+    [INSERT, 11, 105],
+    [INSERT, 12, 1 << 36],
+    [INSERT, 13, (1 << 36) + 50],
+    [INSERT, 14, 5000],
+    [INSERT, 15, 2000000000],
+    [INSERT, 16, 60],
+];
+
+// The same with 2 cut out of its list: its mark says that it is parked, and it is in no list.
+const UNPARKED: [[u64; 2]; 4] = [
+    [PARKING, 3],
+    [PREVS + 3, 3],
+    [NEXTS + 2, NOBODY],
+    [PREVS + 2, NOBODY],
+];
+
+// The store with two parked, once the expired one is handed out, with a poll at the next block's start in hand: it drains the parking list
+// before the rest is out.
+const HASTY: [[u64; 2]; 2] = [[HAND, stack::PARKING as u64], [UNTIL, 1 << 36]];
+
+// Of four records, a poll 50 after the next block's start in hand, after the first of two moves out of the parking list: 1 is in slot 0 of
+// level 5, and 2 still there. 3 is free.
+const DRAINED: [[u64; 3]; 3] = [
+    [INSERT, 11, 1 << 36],
+    [INSERT, 12, (1 << 36) + 50],
+    [POLL_SOME, (1 << 36) + 50, 1],
+];
+
+// Both moved, and the poll between two drains: it goes on in slot 0 of level 5, which starts at elapsed, the block's start.
+const CROSSED: [[u64; 3]; 1] = [[POLL_SOME, (1 << 36) + 50, 1]];
+
+// The same with 3 parked, in the block after: no poll would have drained the parking list and left one there.
+const PARKED_TOO: [[u64; 2]; 6] = [
+    [FREE, NOBODY],
+    [PARKING, 3],
+    [DEADLINES + 3, 1 << 37],
+    [NEXTS + 3, NOBODY],
+    [PREVS + 3, 3],
+    [MARKS + 3, stack::PARKING as u64],
+];
+
+// Three timers at 70 in one slot of level 1: 0, then 1, then 2.
+const THREE: [[u64; 3]; 3] = [[INSERT, 10, 70], [INSERT, 11, 70], [INSERT, 12, 70]];
+
+// The same with the middle one cut out of its list, as the first half of a reset leaves it: in no list, at turn 1.
+const CUT: [[u64; 2]; 5] = [
+    [NEXTS, 2],
+    [PREVS + 2, 0],
+    [NEXTS + 1, NOBODY],
+    [PREVS + 1, NOBODY],
+    [MARKS + 1, NOBODY],
+];
+
+// One timer at 70, and the same cut out of its list by half a reset.
+const ONE: [[u64; 3]; 1] = [[INSERT, 7, 70]];
+
+const HALF: [[u64; 2]; 5] = [
+    [NEXTS, NOBODY],
+    [PREVS, NOBODY],
+    [MARKS, NOBODY],
+    [HEADS + 65, NOBODY],
+    [OCCUPIED + 1, 0],
+];
+
+// The words of retired records behind the nine.
+const FILLED: [[u64; 2]; 3] = [
+    [MARKS + 9, RETIRED],
+    [MARKS + 10, RETIRED],
+    [MARKS + 11, RETIRED],
+];
+
+// ---- what is tried of each
 
 // Slices one word too short.
 fn short(image: &Image) {
@@ -244,7 +391,7 @@ const MORE_RETIRED: [[u64; 2]; 5] = [[N, 10], [N, 1024], [N, 1025], [N, 1026], [
 
 // Every record behind the nine would be a retired one. As many as the slices have words for are sound, and one more is not.
 fn retired(image: &Image) {
-    image::say(b"the words behind the nine records are those of retired ones:\n");
+    say(b"the words behind the nine records are those of retired ones:\n");
     show_all(image, &MORE_RETIRED);
 }
 
@@ -252,8 +399,8 @@ const NO_RECORD: [[u64; 2]; 1] = [[N, 0]];
 
 // No list has a member, so that nothing but n itself is against none.
 fn single(image: &Image) {
-    image::say(b"one record, and it is retired:\n");
-    image::show_whole(image);
+    say(b"one record, and it is retired:\n");
+    show_whole(image);
     show_all(image, &NO_RECORD);
 }
 
@@ -267,8 +414,8 @@ const OTHER_CLOCKS: [[u64; 2]; 5] = [
 
 // Elapsed may be anything in its row of 64 that is not past the first timer. The poll at 100 changes it, or is refused by number 7.
 fn quiet(image: &Image) {
-    image::say(b"nothing on the expired stack:\n");
-    image::show_whole(image);
+    say(b"nothing on the expired stack:\n");
+    show_whole(image);
     show_all(image, &OTHER_CLOCKS);
 }
 
@@ -278,13 +425,16 @@ const MARKED: [[u64; 2]; 1] = [[MARKS, RETIRED]];
 
 // A timer that a reset has unlinked and not placed: it is in no list, and its mark is nobody, at whatever turn. Only one with the mark
 // of the retired is retired.
-fn lost(image: &Image) {
-    image::say(b"three timers at 70, the middle one cut out of its list:\n");
-    image::show_whole(image);
-    show_all(image, &LAST_TURNS);
-    image::say(b"one timer at 70, at the last turn, cut out of its list:\n");
-    let half = image::half();
-    image::show_whole(&half);
+fn lost() {
+    let three = after(image::formatted(3, 1, 77), &THREE);
+    let image = altered(three, &CUT);
+    say(b"three timers at 70, the middle one cut out of its list:\n");
+    show_whole(&image);
+    show_all(&image, &LAST_TURNS);
+    let one = after(image::formatted(1, LAST_TURN, 77), &ONE);
+    let half = altered(one, &HALF);
+    say(b"one timer at 70, at the last turn, cut out of its list:\n");
+    show_whole(&half);
     show_all(&half, &MARKED);
 }
 
@@ -315,9 +465,9 @@ const WHILE_HELD: [[u64; 2]; 19] = [
 ];
 
 // A poll in hand, whose next move is the head of slot 3 of level 1.
-fn held(image: &Image) {
-    image::say(b"a poll at 210 in hand, inside its drain:\n");
-    image::show_whole(image);
+fn in_hand(image: &Image) {
+    say(b"a poll at 210 in hand, inside its drain:\n");
+    show_whole(image);
     show_all(image, &WHILE_HELD);
     show_each(image, image::N, 13);
 }
@@ -355,15 +505,15 @@ const WHILE_PARKED: [[u64; 2]; 23] = [
 ];
 
 // Two timers parked, 2 and then 3.
-fn parked(image: &Image) {
-    image::say(b"two timers parked:\n");
-    image::show_whole(image);
-    show_all(image, &WHILE_PARKED);
-    show_each(image, image::N, 13);
-    image::say(b"one cut out of the parking list, its mark left:\n");
-    image::show_whole(&image::unparked());
-    image::say(b"the parking list in hand at the next block's start, while slots are filled:\n");
-    image::show_whole(&image::hasty());
+fn parked(image: Image) {
+    say(b"two timers parked:\n");
+    show_whole(&image);
+    show_all(&image, &WHILE_PARKED);
+    show_each(&image, image::N, 13);
+    say(b"one cut out of the parking list, its mark left:\n");
+    show_whole(&altered(image, &UNPARKED));
+    say(b"the parking list in hand at the next block's start, while slots are filled:\n");
+    show_whole(&altered(after(image, &OUT), &HASTY));
 }
 
 const WHILE_PARKING: [[u64; 2]; 15] = [
@@ -389,9 +539,9 @@ const WHILE_PARKING: [[u64; 2]; 15] = [
 ];
 
 // A poll in hand, whose next move is the head of the parking list: elapsed lies in the block before.
-fn parking(image: &Image) {
-    image::say(b"a poll in hand, inside the drain of the parking list:\n");
-    image::show_whole(image);
+fn draining(image: &Image) {
+    say(b"a poll in hand, inside the drain of the parking list:\n");
+    show_whole(image);
     show_all(image, &WHILE_PARKING);
     show_each(image, image::N, 13);
 }
@@ -406,58 +556,62 @@ const WHILE_CROSSED: [[u64; 2]; 5] = [
 ];
 
 // The poll between two drains at the block's start: it goes on in elapsed's own slot.
-fn crossed(image: &Image) {
-    image::say(b"the parking list drained, the poll in hand at the block's start:\n");
-    image::show_whole(image);
-    show_all(image, &WHILE_CROSSED);
-    show_each(image, image::N, 13);
-    image::say(b"the same with one parked:\n");
-    image::show_whole(&image::parked_too());
+fn crossed(image: Image) {
+    say(b"the parking list drained, the poll in hand at the block's start:\n");
+    show_whole(&image);
+    show_all(&image, &WHILE_CROSSED);
+    show_each(&image, image::N, 13);
+    say(b"the same with one parked:\n");
+    show_whole(&altered(image, &PARKED_TOO));
 }
 
-const LET_GO: [[u64; 2]; 1] = [[UNTIL, 0]];
+const NO_NOW: [[u64; 2]; 1] = [[UNTIL, 0]];
 
-const BETWEEN: [[u64; 2]; 2] = [
+const WHILE_BETWEEN: [[u64; 2]; 2] = [
     // any clock of its turn before the slot's start; the turn before
     [ELAPSED, 4991],
     [ELAPSED, 4095],
 ];
 
 // Damages of more than one word.
-fn midway() {
-    image::say(b"the poll let go, and then its now:\n");
-    let gone = image::let_go(77);
-    image::show_whole(&gone);
-    show_all(&gone, &LET_GO);
-    image::say(b"a timer on the expired stack while a poll is in hand:\n");
-    image::show_whole(&image::expired(77));
-    image::say(b"a poll at 5000 in hand, inside a drain of level 2:\n");
-    image::show_whole(&image::high());
-    image::say(b"the same with a timer moved on to level 0:\n");
-    image::show_whole(&image::too_low());
-    image::say(b"a poll at 5000 in hand, between two drains:\n");
-    let between = image::between();
-    image::show_whole(&between);
-    show_all(&between, &BETWEEN);
+fn midway(held: Image) {
+    say(b"the poll let go, and then its now:\n");
+    let gone = altered(held, &LET_GO);
+    show_whole(&gone);
+    show_all(&gone, &NO_NOW);
+    say(b"a timer on the expired stack while a poll is in hand:\n");
+    show_whole(&altered(held, &EXPIRED_TOO));
+    say(b"a poll at 5000 in hand, inside a drain of level 2:\n");
+    let high = after(begun(3, 77), &HIGH);
+    show_whole(&high);
+    say(b"the same with a timer moved on to level 0:\n");
+    show_whole(&altered(high, &TOO_LOW));
+    say(b"a poll at 5000 in hand, between two drains:\n");
+    let between = after(high, &BETWEEN);
+    show_whole(&between);
+    show_all(&between, &WHILE_BETWEEN);
 }
 
 fn main() {
-    let image = image::store(77);
-    image::say(b"not sound:\n");
+    let image = nine(77);
+    say(b"not sound:\n");
     short(&image);
     of_records(&image);
     of_state(&image);
-    image::say(b"sound:\n");
-    image::show_whole(&image);
+    say(b"sound:\n");
+    show_whole(&image);
     show_all(&image, &STILL_SOUND);
     enough(&image);
-    quiet(&image::polled(77));
-    retired(&image::filled());
-    single(&image::begun(1, 77));
-    lost(&image::cut());
-    held(&image::held(77));
-    midway();
-    parked(&image::parked(77));
-    parking(&image::parking());
-    crossed(&image::crossed());
+    let polled = after(image, &OUT);
+    quiet(&polled);
+    retired(&altered(nine(LAST_TURN), &FILLED));
+    single(&begun(1, 77));
+    lost();
+    let held = after(polled, &HELD);
+    in_hand(&held);
+    midway(held);
+    parked(after(begun(9, 77), &PARKED));
+    let parking = after(begun(4, 77), &DRAINED);
+    draining(&parking);
+    crossed(after(parking, &CROSSED));
 }
