@@ -112,6 +112,23 @@ fn look(
     acted(r)
 }
 
+// Cancels the timer of a key.
+fn cancel(
+    store: Reply,
+    values: &mut Pairs,
+    deadlines: &mut Words,
+    nexts: &mut Numbers,
+    prevs: &mut Numbers,
+    turns: &mut Words,
+    marks: &mut Numbers,
+    key: u64,
+) -> Reply {
+    let s = store.state;
+    let h = heads_in(store);
+    let r = remove(s, h, values, deadlines, nexts, prevs, turns, marks, key);
+    acted(r)
+}
+
 // Two cows, in milliseconds since the first came in. What a call hands back goes into the next.
 fn milk(
     values: &mut Pairs,
@@ -136,10 +153,7 @@ fn milk(
     // The second cow's cut-off takes the record of the first, under a key of its own. So a late cancel by the first key does not
     // reach it: number 6. That is so for every key whose timer has left, whatever was called since; `lending` cites it.
     let two = cut_at(cut, values, deadlines, nexts, prevs, turns, marks, 900_000);
-    let s = two.state;
-    let h = heads_in(two);
-    let r = remove(s, h, values, deadlines, nexts, prevs, turns, marks, key);
-    let late = acted(r);
+    let late = cancel(two, values, deadlines, nexts, prevs, turns, marks, key);
     look(late, values, deadlines, nexts, prevs, turns, marks, 900_000);
 }
 

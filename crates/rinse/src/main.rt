@@ -1,11 +1,10 @@
 // The rinse pump, which runs every 40 minutes: a timer that repeats. It is set once. Each poll that hands it out sets it
-// again under the same key, so that this key cancels it whenever that is. How a store is lent is shown by `morning`.
+// again under the same key, so that this key cancels it whenever that is. How a store is lent is shown by `morning`;
+// here one function lends it, for any call.
+use delay_queue::Call;
 use delay_queue::Reply;
 use delay_queue::format;
-use delay_queue::insert;
 use delay_queue::no_store;
-use delay_queue::poll;
-use delay_queue::remove;
 use libc::STDOUT_FILENO;
 use queue::Answer;
 
@@ -51,13 +50,6 @@ fn act(answer: Answer) {
     say(b"\n");
 }
 
-// Acts on what a call answered, and hands on what it handed back.
-fn acted(reply: Reply) -> Reply {
-    let answer = reply.answer;
-    act(answer);
-    reply
-}
-
 // The slot heads that a call handed back, for the next.
 fn heads_in(reply: Reply) -> [[u16; 64]; 6] {
     let heads = reply.heads;
@@ -73,8 +65,8 @@ fn key_in(reply: Reply) -> u64 {
     }
 }
 
-// Looks whether it is time to rinse.
-fn look(
+// Makes a call and acts on its answer.
+fn ask(
     store: Reply,
     values: &mut Pairs,
     deadlines: &mut Words,
@@ -82,12 +74,14 @@ fn look(
     prevs: &mut Numbers,
     turns: &mut Words,
     marks: &mut Numbers,
-    now: u64,
+    call: Call,
 ) -> Reply {
     let s = store.state;
     let h = heads_in(store);
-    let r = poll(s, h, values, deadlines, nexts, prevs, turns, marks, now);
-    acted(r)
+    let reply = any_call::ask(s, h, values, deadlines, nexts, prevs, turns, marks, call);
+    let answer = reply.answer;
+    act(answer);
+    reply
 }
 
 // Two hours of rinsing, in milliseconds since the pump was switched on.
@@ -102,65 +96,26 @@ fn rinse(
     let s = no_store();
     let h = [[links::NOBODY; 64]; 6];
     let made = format(s, h, values, deadlines, nexts, prevs, turns, marks, 4, 1);
-    let s = made.state;
-    let h = heads_in(made);
-    let r = insert(
-        s,
-        h,
-        values,
-        deadlines,
-        nexts,
-        prevs,
-        turns,
-        marks,
-        RINSE,
-        EVERY,
-        EVERY,
-    );
-    let set = acted(r);
+    let call = Call::Insert(RINSE, EVERY, EVERY);
+    let set = ask(made, values, deadlines, nexts, prevs, turns, marks, call);
     let key = key_in(set);
     if key == 0 {
         // it was refused, and said so: there is nothing to wait for
         return;
     }
-    let one = look(set, values, deadlines, nexts, prevs, turns, marks, EVERY);
-    let early = look(one, values, deadlines, nexts, prevs, turns, marks, EVERY);
-    let two = look(
-        early,
-        values,
-        deadlines,
-        nexts,
-        prevs,
-        turns,
-        marks,
-        2 * EVERY,
-    );
-    let three = look(
-        two,
-        values,
-        deadlines,
-        nexts,
-        prevs,
-        turns,
-        marks,
-        3 * EVERY,
-    );
+    let call = Call::Poll(EVERY);
+    let one = ask(set, values, deadlines, nexts, prevs, turns, marks, call);
+    let early = ask(one, values, deadlines, nexts, prevs, turns, marks, call);
+    let call = Call::Poll(2 * EVERY);
+    let two = ask(early, values, deadlines, nexts, prevs, turns, marks, call);
+    let call = Call::Poll(3 * EVERY);
+    let three = ask(two, values, deadlines, nexts, prevs, turns, marks, call);
 
     // It waits for the fourth time, still under the key that the insert answered.
-    let s = three.state;
-    let h = heads_in(three);
-    let r = remove(s, h, values, deadlines, nexts, prevs, turns, marks, key);
-    let off = acted(r);
-    look(
-        off,
-        values,
-        deadlines,
-        nexts,
-        prevs,
-        turns,
-        marks,
-        4 * EVERY,
-    );
+    let call = Call::Remove(key);
+    let off = ask(three, values, deadlines, nexts, prevs, turns, marks, call);
+    let call = Call::Poll(4 * EVERY);
+    ask(off, values, deadlines, nexts, prevs, turns, marks, call);
 }
 
 fn main() {
