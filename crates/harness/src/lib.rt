@@ -1,6 +1,6 @@
 // What the benchmark (speed/) and the comparison at scale (oracle/scale) call: one call, a run of calls, the judge, the gauge, and
-// recovery. A store crosses in parts of their own types, each lent by its address: elapsed, the occupied bits, `tops` (n, then the heads
-// of the expired stack, of the free list and of the parking list), the place in hand, the time of its poll, the slot heads, and six slices.
+// recovery. A store crosses in parts of their own types, each lent by its address: elapsed, the occupied bits, `tops` (how many
+// records there are, and the heads of the lists that are no slot), the place in hand, the time of its poll, the slot heads, and six slices.
 // So every word that is handed over fits, and none is bent on the way.
 use delay_queue::Call;
 use entries::Ending;
@@ -8,30 +8,12 @@ use gauge::Light;
 use gauge::Reading;
 use queue::Answer;
 use run::Why;
-use stack::Stacks;
 use wheel::Wheel;
 
 // What four words ask: a call, or nothing that is one.
 enum Asked {
     Call(Call),
     None,
-}
-
-// The parts put together.
-fn wheel_of(elapsed: u64, occupied: [u64; 6], tops: [u16; 4], hand: u16, until: u64) -> Wheel {
-    let stacks = Stacks {
-        n: tops[0],
-        expired: tops[1],
-        free: tops[2],
-        parking: tops[3],
-    };
-    Wheel {
-        elapsed,
-        occupied,
-        stacks,
-        hand,
-        until,
-    }
 }
 
 // What a call handed back goes where it came from.
@@ -47,7 +29,7 @@ fn keep(
     let stacks = state.stacks;
     *elapsed = state.elapsed;
     *occupied = bits;
-    *tops = [stacks.n, stacks.expired, stacks.free, stacks.parking];
+    *tops = stack::tops_of(stacks);
     *hand = state.hand;
     *until = state.until;
 }
@@ -122,7 +104,7 @@ pub extern "C" fn harness_judge(
     marks: &[u16],
 ) -> bool {
     judge::is_sound(
-        wheel_of(*elapsed, *occupied, *tops, *hand, *until),
+        records::wheel_of(*elapsed, *occupied, *tops, *hand, *until),
         *heads,
         values,
         deadlines,
@@ -161,7 +143,7 @@ pub extern "C" fn harness_call(
         return false;
     }
     let reply = any_call::ask(
-        wheel_of(*elapsed, *occupied, *tops, *hand, *until),
+        records::wheel_of(*elapsed, *occupied, *tops, *hand, *until),
         *heads,
         values,
         deadlines,
@@ -209,7 +191,7 @@ pub extern "C" fn harness_run(
     told: &mut [u64; 2],
 ) {
     let ran = run::run(
-        wheel_of(*elapsed, *occupied, *tops, *hand, *until),
+        records::wheel_of(*elapsed, *occupied, *tops, *hand, *until),
         *heads,
         values,
         deadlines,
