@@ -21,7 +21,7 @@ pub fn ask(
         call
         (before state heads values deadlines nexts prevs turns marks)
         (r .answer)
-        (after (r .state) (r .heads .rows) values deadlines nexts prevs turns marks) ⌝ }
+        (after (r .state) (r .heads .heads) values deadlines nexts prevs turns marks) ⌝ }
 {
     match call {
         Call::Format(n, turn) => delay_queue::format(

@@ -86,7 +86,7 @@ fn act(answer: Answer) {
 // The slot heads that a call handed back, for the next.
 fn heads_in(reply: Reply) -> [[u16; 64]; 6] {
     let heads = reply.heads;
-    delay_queue::rows_of(heads)
+    delay_queue::heads_in(heads)
 }
 
 // Sets a timer, which does not repeat.

@@ -13,7 +13,7 @@ ghost use Rattle.bench.specs.Line.{LineClaim};
 ghost use Rattle.bench.specs.Parts.{Heard, LineKnown};
 
 // Where the answer ends in what is written, and the state and the heads after it.
-pub struct Answered {
+pub struct LineDone {
     pub at: usize,
     pub state: Wheel,
     pub heads: Heads,
@@ -50,15 +50,15 @@ pub fn answer_line(
     marks: &mut [u16],
     out: &mut [u8],
     at: usize,
-) -> Answered
+) -> LineDone
     ensures { λ r. ⌜
         LineClaim
         limits
         (old line)
-        (before state (heads .rows) values deadlines nexts prevs turns marks)
+        (before state (heads .heads) values deadlines nexts prevs turns marks)
         (old out)
         at
-        (after (r .state) (r .heads .rows) values deadlines nexts prevs turns marks)
+        (after (r .state) (r .heads .heads) values deadlines nexts prevs turns marks)
         (new out)
         (r .at) ⌝ }
 {
@@ -67,7 +67,7 @@ pub fn answer_line(
         Line::Asks(call) => {
             let reply = any_call::ask(
                 state,
-                delay_queue::rows_of(heads),
+                delay_queue::heads_in(heads),
                 values,
                 deadlines,
                 nexts,
@@ -80,7 +80,7 @@ pub fn answer_line(
             let after = reply.state;
             let left = reply.heads;
             let end = write_answer(out, at, answer);
-            Answered {
+            LineDone {
                 at: end,
                 state: after,
                 heads: left,
@@ -88,7 +88,7 @@ pub fn answer_line(
         }
         Line::Bad => {
             let end = write_bad(out, at);
-            Answered {
+            LineDone {
                 at: end,
                 state,
                 heads,
@@ -112,7 +112,7 @@ pub fn answer_known(
     line: &[u8],
     sound: bool,
     elapsed: u64,
-    rows: &mut [u64; 6],
+    occupied: &mut [u64; 6],
     tops: &mut [u16; 4],
     heads: &mut [[u16; 64]; 6],
     values: &mut [u64],
@@ -128,15 +128,15 @@ pub fn answer_known(
 ) -> Found
     requires { ⌜
         Tells (Sound (holding hand until
-        (lent elapsed rows tops heads values deadlines nexts prevs turns marks))) sound ⌝ }
+        (lent elapsed occupied tops heads values deadlines nexts prevs turns marks))) sound ⌝ }
     ensures { λ r. ⌜
         LineKnown
         limits
         (old line)
-        (holding hand until (given elapsed rows tops heads values deadlines nexts prevs turns marks))
+        (holding hand until (given elapsed occupied tops heads values deadlines nexts prevs turns marks))
         (old out)
         at
-        (holding (r .hand) (r .until) (left (r .elapsed) rows tops heads values deadlines nexts prevs turns marks))
+        (holding (r .hand) (r .until) (left (r .elapsed) occupied tops heads values deadlines nexts prevs turns marks))
         (new out)
         (r .at)
         (r .sound) ⌝ }
@@ -147,7 +147,7 @@ pub fn answer_known(
             let said = run::known(
                 sound,
                 elapsed,
-                rows,
+                occupied,
                 tops,
                 heads,
                 values,

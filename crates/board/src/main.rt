@@ -8,7 +8,7 @@ use delay_queue::no_store;
 use libc::STDOUT_FILENO;
 use queue::Answer;
 use tick::Front;
-use tick::Polled;
+use tick::TickReply;
 
 // Room for four records: an array for the values and periods, and one for each other field.
 type Pairs = [u64; 8];
@@ -41,7 +41,7 @@ fn act(answer: Answer) {
 // The slot heads that a call handed back, for the next.
 fn heads_in(reply: Reply) -> [[u16; 64]; 6] {
     let heads = reply.heads;
-    delay_queue::rows_of(heads)
+    delay_queue::heads_in(heads)
 }
 
 // The time that lies so much ahead, or the last there is.
@@ -55,7 +55,7 @@ fn ahead(time: u64, by: u32) -> u64 {
 
 // Sets the cut-off, so many milliseconds from now.
 fn cut_in(
-    board: Polled,
+    board: TickReply,
     values: &mut Pairs,
     deadlines: &mut Words,
     nexts: &mut Numbers,
@@ -63,7 +63,7 @@ fn cut_in(
     turns: &mut Words,
     marks: &mut Numbers,
     by: u32,
-) -> Polled {
+) -> TickReply {
     let front = board.front;
     let store = board.reply;
     let s = store.state;
@@ -84,12 +84,12 @@ fn cut_in(
     );
     let answer = reply.answer;
     act(answer);
-    Polled { reply, front }
+    TickReply { reply, front }
 }
 
 // Takes out a timer that is due at the tick.
 fn look(
-    board: Polled,
+    board: TickReply,
     values: &mut Pairs,
     deadlines: &mut Words,
     nexts: &mut Numbers,
@@ -97,7 +97,7 @@ fn look(
     turns: &mut Words,
     marks: &mut Numbers,
     now: u32,
-) -> Polled {
+) -> TickReply {
     let front = board.front;
     let store = board.reply;
     let s = store.state;
@@ -126,7 +126,7 @@ fn look(
 // The same with at most `limit` moves, so that the arm is not held up. A poll that paused is gone on with, whatever the tick
 // is by then.
 fn look_for(
-    board: Polled,
+    board: TickReply,
     values: &mut Pairs,
     deadlines: &mut Words,
     nexts: &mut Numbers,
@@ -135,7 +135,7 @@ fn look_for(
     marks: &mut Numbers,
     now: u32,
     limit: u64,
-) -> Polled {
+) -> TickReply {
     let front = board.front;
     let store = board.reply;
     let s = store.state;
@@ -165,7 +165,7 @@ fn look_for(
 // Two cut-offs for one time, and a poll that may make one move a call. It pauses while the tick moves on: a whole poll at
 // another time is refused meanwhile, and the next with a limit goes on with it.
 fn pause(
-    board: Polled,
+    board: TickReply,
     values: &mut Pairs,
     deadlines: &mut Words,
     nexts: &mut Numbers,
@@ -195,7 +195,7 @@ fn milk(
     let h = [[links::NOBODY; 64]; 6];
     let reply = format(s, h, values, deadlines, nexts, prevs, turns, marks, 4, 1);
     let front = tick::start();
-    let made = Polled { reply, front };
+    let made = TickReply { reply, front };
     let in_one = look(
         made,
         values,

@@ -55,15 +55,15 @@ fn slot(out: &mut [u8], pen: Pen, nexts: &[u16], n: u16, k: u64, s: u64, h: u16)
 
 // All slots, levels and slots rising, and behind them the parking list as slot 0 of level 6.
 fn slots(out: &mut [u8], pen: Pen, state: Wheel, heads: &[[u16; 64]; 6], nexts: &[u16]) -> Pen {
-    let stacks = state.stacks;
-    let n = stacks.n;
-    let tops = stack::tops_of(stacks);
+    let top = state.tops;
+    let n = top.n;
+    let tops = places::tops_in(top);
     let mut p = pen;
     let mut place = 0u16;
-    while place <= stack::PARKING {
-        let h = stack::head_of(&tops, heads, place);
-        let level = stack::level_of(place);
-        let s = stack::slot_of(place);
+    while place <= places::PARKING {
+        let h = places::head_of(&tops, heads, place);
+        let level = places::level_of(place);
+        let s = places::slot_of(place);
         p = slot(out, p, nexts, n, level as u64, s as u64, h);
         place += 1;
     }
@@ -87,9 +87,9 @@ pub fn write_lists(
 ) -> Pen
     ensures { λ r. ⌜ r .at ≤ length (old out) ⌝ }
 {
-    let stacks = state.stacks;
+    let top = state.tops;
     let p = opening(out, pen, state.elapsed);
-    let q = list(out, p, nexts, stacks.n, stacks.expired);
+    let q = list(out, p, nexts, top.n, top.expired);
     let r = slots(out, q, state, &heads, nexts);
     pen::byte(out, r, b'\n')
 }

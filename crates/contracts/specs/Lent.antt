@@ -6,11 +6,11 @@ use denote.Triple.Both.{Both}
 abbrev pub Lent : Type 0 → Type 0
 Lent A = RefT A
 
-abbrev pub Turned : Type 0 → Type 0
-Turned A = Both (RefT A) (RefT A)
+abbrev pub Returned : Type 0 → Type 0
+Returned A = Both (RefT A) (RefT A)
 
-abbrev pub old : {A : Type 0} → Turned A → A
+abbrev pub old : {A : Type 0} → Returned A → A
 old x = x .entry .now
 
-abbrev pub new : {A : Type 0} → Turned A → A
+abbrev pub new : {A : Type 0} → Returned A → A
 new x = x .exit .now

@@ -1,13 +1,13 @@
 // Every word of a store in one row, so that a damage is one number changed, and one comparison tells what a call changed.
 use delay_queue::Call;
 use libc::STDOUT_FILENO;
+use places::Tops;
 use queue::Answer;
-use stack::Stacks;
 use wheel::Wheel;
 ghost use mathlib.Core.Path.{_≡_};
 ghost use Prim.Native.Nat.{_+_, _-_, _≤_, _<_};
 ghost use lib.ListN.{length};
-ghost use Rattle.stack.specs.Places.{slots};
+ghost use Rattle.places.specs.Places.{slots};
 
 // Where each part begins in the row. Each slice lends the words of 1,025 records, and the row has those of the first 12; the store
 // has 9. Of values a record has two words, its value and its period, and of each other slice one.
@@ -41,7 +41,7 @@ pub const OCCUPIED: usize = 91;
 
 pub const HEADS: usize = 97;
 
-pub const SLOTS: usize = stack::SLOTS as usize;
+pub const SLOTS: usize = places::SLOTS as usize;
 
 // One number for the words of the slices that the row does not have: 0 while they are as they were made.
 const REST: usize = 481;
@@ -155,7 +155,7 @@ fn state_in(image: &Image) -> Wheel {
     take_words(&mut occupied, image, OCCUPIED, 6);
     let mut tops = [0u16; 5];
     take_numbers(&mut tops, image, N, 5);
-    let stacks = Stacks {
+    let top = Tops {
         n: tops[0],
         expired: tops[1],
         free: tops[2],
@@ -164,7 +164,7 @@ fn state_in(image: &Image) -> Wheel {
     Wheel {
         elapsed: image[ELAPSED],
         occupied,
-        stacks,
+        tops: top,
         hand: tops[4],
         until: image[UNTIL],
     }
@@ -219,11 +219,11 @@ fn note_state(image: &mut Image, state: Wheel) {
     image[OCCUPIED + 3] = occupied[3];
     image[OCCUPIED + 4] = occupied[4];
     image[OCCUPIED + 5] = occupied[5];
-    let stacks = state.stacks;
-    image[N] = wide(stacks.n);
-    image[EXPIRED] = wide(stacks.expired);
-    image[FREE] = wide(stacks.free);
-    image[PARKING] = wide(stacks.parking);
+    let top = state.tops;
+    image[N] = wide(top.n);
+    image[EXPIRED] = wide(top.expired);
+    image[FREE] = wide(top.free);
+    image[PARKING] = wide(top.parking);
     image[HAND] = wide(state.hand);
     image[ELAPSED] = state.elapsed;
     image[UNTIL] = state.until;
@@ -280,7 +280,7 @@ fn ask(image: &mut Image, part: Part, call: Call) -> bool {
     let mut nexts = numbers_in(image, NEXTS, links::NOBODY);
     let mut prevs = numbers_in(image, PREVS, links::NOBODY);
     let mut turns = words_in(image, TURNS, 12);
-    let mut marks = numbers_in(image, MARKS, stack::RETIRED);
+    let mut marks = numbers_in(image, MARKS, places::RETIRED);
     let reply = any_call::ask(
         state_in(image),
         heads_in(image),
@@ -297,12 +297,12 @@ fn ask(image: &mut Image, part: Part, call: Call) -> bool {
     note_numbers(image, NEXTS, &nexts, links::NOBODY);
     note_numbers(image, PREVS, &prevs, links::NOBODY);
     note_words(image, TURNS, &turns, 12);
-    note_numbers(image, MARKS, &marks, stack::RETIRED);
+    note_numbers(image, MARKS, &marks, places::RETIRED);
     let state = reply.state;
     note_state(image, state);
     let heads = reply.heads;
-    let rows = delay_queue::rows_of(heads);
-    note_heads(image, &rows);
+    let grid = delay_queue::heads_in(heads);
+    note_heads(image, &grid);
     let answer = reply.answer;
     is_no_2(answer)
 }
@@ -566,7 +566,7 @@ fn ask_raised(image: &Image, at: usize) -> Seen
     ask_all(&changed, whole())
 }
 
-// The store with one word raised by one: each of the `count` words from `from` on in turn.
+// The store with one word raised by one: each of the `count` words from `from` on, one after the other.
 pub fn show_each(image: &Image, from: usize, count: usize)
     requires { ⌜ (from ≤ 481) × (count ≤ 481 - from) ⌝ }
 {

@@ -51,7 +51,7 @@ const NOBODY: u64 = links::NOBODY as u64;
 
 const LAST_TURN: u64 = records::LAST_TURN;
 
-const RETIRED: u64 = stack::RETIRED as u64;
+const RETIRED: u64 = places::RETIRED as u64;
 
 // ---- stores, by the calls and the changes that make them
 
@@ -94,7 +94,7 @@ const EXPIRED_TOO: [[u64; 2]; 5] = [
     [HEADS + 8, NOBODY],
     [OCCUPIED, 0],
     [EXPIRED, 2],
-    [MARKS + 2, stack::EXPIRED as u64],
+    [MARKS + 2, places::EXPIRED as u64],
     [DEADLINES + 2, 100],
 ];
 
@@ -137,7 +137,7 @@ const UNPARKED: [[u64; 2]; 4] = [
 
 // The store with two parked, once the expired one is handed out, with a poll at the next block's start in hand: it drains the parking list
 // before the rest is out.
-const HASTY: [[u64; 2]; 2] = [[HAND, stack::PARKING as u64], [UNTIL, 1 << 36]];
+const HASTY: [[u64; 2]; 2] = [[HAND, places::PARKING as u64], [UNTIL, 1 << 36]];
 
 // Of four records, a poll 50 after the next block's start in hand, after the first of two moves out of the parking list: 1 is in slot 0 of
 // level 5, and 2 still there. 3 is free.
@@ -157,7 +157,7 @@ const PARKED_TOO: [[u64; 2]; 6] = [
     [DEADLINES + 3, 1 << 37],
     [NEXTS + 3, NOBODY],
     [PREVS + 3, 3],
-    [MARKS + 3, stack::PARKING as u64],
+    [MARKS + 3, places::PARKING as u64],
 ];
 
 // Three timers at 70 in one slot of level 1: 0, then 1, then 2.
@@ -260,19 +260,19 @@ const WRONG_TURNS: [[u64; 2]; 8] = [
 const WRONG_MARKS: [[u64; 2]; 13] = [
     // a pending one: another slot, the expired stack, the parking list, free, nobody
     [MARKS + 1, 42],
-    [MARKS + 1, stack::EXPIRED as u64],
-    [MARKS + 1, stack::PARKING as u64],
-    [MARKS + 2, stack::FREE as u64],
+    [MARKS + 1, places::EXPIRED as u64],
+    [MARKS + 1, places::PARKING as u64],
+    [MARKS + 2, places::FREE as u64],
     [MARKS + 4, NOBODY],
     // the slot of the same number at another level; an expired one as free
     [MARKS + 5, 257],
-    [MARKS + 6, stack::FREE as u64],
+    [MARKS + 6, places::FREE as u64],
     // a free one: expired, nobody, retired
-    [MARKS + 8, stack::EXPIRED as u64],
+    [MARKS + 8, places::EXPIRED as u64],
     [MARKS + 8, NOBODY],
     [MARKS + 8, RETIRED],
     // a retired one: free, no place at all, nobody
-    [MARKS, stack::FREE as u64],
+    [MARKS, places::FREE as u64],
     [MARKS, RETIRED + 1],
     [MARKS, NOBODY],
 ];
@@ -455,7 +455,7 @@ const WHILE_HELD: [[u64; 2]; 19] = [
     [HAND, 68],
     [HAND, 129],
     [HAND, image::SLOTS as u64],
-    [HAND, stack::FREE as u64],
+    [HAND, places::FREE as u64],
     [HAND, NOBODY - 1],
     [HAND, NOBODY],
     // one of the slot in hand, and one moved out of it, that are another slot's
@@ -496,12 +496,12 @@ const WHILE_PARKED: [[u64; 2]; 23] = [
     [PREVS + 3, 4],
     // marks: a slot, the expired stack, free, nobody; one of a slot says that it is parked
     [MARKS + 2, 320],
-    [MARKS + 2, stack::EXPIRED as u64],
-    [MARKS + 3, stack::FREE as u64],
+    [MARKS + 2, places::EXPIRED as u64],
+    [MARKS + 3, places::FREE as u64],
     [MARKS + 3, NOBODY],
-    [MARKS + 1, stack::PARKING as u64],
+    [MARKS + 1, places::PARKING as u64],
     // in hand, with no now
-    [HAND, stack::PARKING as u64],
+    [HAND, places::PARKING as u64],
 ];
 
 // Two timers parked, 2 and then 3.
@@ -529,7 +529,7 @@ const WHILE_PARKING: [[u64; 2]; 15] = [
     [ELAPSED, 1 << 37],
     // the slot that is filled, the expired stack, nobody
     [HAND, 320],
-    [HAND, stack::EXPIRED as u64],
+    [HAND, places::EXPIRED as u64],
     [HAND, NOBODY],
     // one still parked, and one moved, of another block
     [DEADLINES + 2, (1 << 36) - 1],
@@ -568,7 +568,7 @@ fn crossed(image: Image) {
 const NO_NOW: [[u64; 2]; 1] = [[UNTIL, 0]];
 
 const WHILE_BETWEEN: [[u64; 2]; 2] = [
-    // any clock of its turn before the slot's start; the turn before
+    // any clock of its lap before the slot's start; the lap before
     [ELAPSED, 4991],
     [ELAPSED, 4095],
 ];

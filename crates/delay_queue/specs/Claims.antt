@@ -6,8 +6,8 @@ use mathlib.Core.List.{[]}
 use Prim.Native.Nat.{ℕ, _^_, _<_}
 use lib.Dec.{ltb}
 use Rattle.links.specs.Lists.{nobody, change}
-use Rattle.stack.specs.Places.{free}
-use Rattle.stack.specs.Format.{range}
+use Rattle.places.specs.Places.{free}
+use Rattle.places.specs.Format.{range}
 use Rattle.queue.specs.Told.{told, ok}
 use Rattle.records.specs.View.{View, viewOf}
 use Rattle.queue.specs.declared.Answer.{Answer}

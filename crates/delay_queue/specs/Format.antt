@@ -3,9 +3,9 @@ use mathlib.Core.Path.{_≡_}
 use mathlib.Core.List.{List}
 use Prim.Native.Nat.{ℕ, _*_}
 use lib.ListN.{replicate}
-use Rattle.contracts.specs.Lent.{Turned, new as left}
+use Rattle.contracts.specs.Lent.{Returned, new as left}
 use Rattle.links.specs.Lists.{nobody}
-use Rattle.stack.specs.Format.{over, range, formatted}
+use Rattle.places.specs.Format.{over, range, formatted}
 use Rattle.wheel.specs.Words.{wheelWords}
 use Rattle.records.specs.Slices.{Slices, before as given}
 use Rattle.records.specs.Words.{QueueWords, parts}
@@ -31,8 +31,8 @@ pub record Makes (n turn : ℕ) (l : Slices) (s′ : QueueWords) : Type 0 where
   pub until : s′ .until ≡ 0
 
 -- of the words that `make` is lent
-module _ (n turn : ℕ) (tops : Turned (List ℕ)) (heads : Turned (List (List ℕ)))
-    (values deadlines nexts prevs turns marks : Turned (List ℕ)) where
+module _ (n turn : ℕ) (tops : Returned (List ℕ)) (heads : Returned (List (List ℕ)))
+    (values deadlines nexts prevs turns marks : Returned (List ℕ)) where
   abbrev pub MakesOf : Type 0
   MakesOf =
       Makes n turn (given values deadlines nexts prevs turns marks)

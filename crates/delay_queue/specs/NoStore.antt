@@ -10,9 +10,9 @@ use Rattle.wheel.specs.declared.Wheel.{Wheel}
 pub record NoStoreClaim (w : Wheel) : Type 0 where
   pub elapsed : w .elapsed ≡ 0
   pub occupied : w .occupied ≡ replicate {A = ℕ} 6 0
-  pub records : w .stacks .n ≡ 0
-  pub expired : w .stacks .expired ≡ nobody
-  pub free : w .stacks .free ≡ nobody
-  pub parking : w .stacks .parking ≡ nobody
+  pub records : w .tops .n ≡ 0
+  pub expired : w .tops .expired ≡ nobody
+  pub free : w .tops .free ≡ nobody
+  pub parking : w .tops .parking ≡ nobody
   pub hand : w .hand ≡ nobody
   pub until : w .until ≡ 0

@@ -1,11 +1,11 @@
 // The delay queue: what users call. Whoever lends whatever gets an answer; an unsound store gets number 2 from every call but format.
+use places::Tops;
 use queue::Answer;
-use stack::Stacks;
 use wheel::Wheel;
 ghost use mathlib.Core.Path.{_≡_};
 ghost use Prim.Native.Nat.{_≤_, _<_};
 ghost use lib.ListN.{length};
-ghost use Rattle.stack.specs.Format.{over};
+ghost use Rattle.places.specs.Format.{over};
 ghost use Rattle.contracts.specs.Lent.{old, new};
 ghost use Rattle.records.specs.Slices.{Fits, lent, before as slices};
 ghost use Rattle.records.specs.Store.{before, after, wheelOf};
@@ -34,9 +34,9 @@ pub enum Call {
     Clear,
 }
 
-// The heads of the slots, six rows of 64, as a call hands them back.
+// The heads of the slots, 64 of each level, as a call hands them back.
 pub struct Heads {
-    pub rows: [[u16; 64]; 6],
+    pub heads: [[u16; 64]; 6],
 }
 
 // An answer, and the state and the heads after the call.
@@ -46,16 +46,16 @@ pub struct Reply {
     pub heads: Heads,
 }
 
-pub fn heads_of(rows: [[u16; 64]; 6]) -> Heads
-    ensures { λ r. ⌜ r .rows ≡ rows ⌝ }
+pub fn heads_of(heads: [[u16; 64]; 6]) -> Heads
+    ensures { λ r. ⌜ r .heads ≡ heads ⌝ }
 {
-    Heads { rows }
+    Heads { heads }
 }
 
-pub fn rows_of(heads: Heads) -> [[u16; 64]; 6]
-    ensures { λ r. ⌜ r ≡ heads .rows ⌝ }
+pub fn heads_in(heads: Heads) -> [[u16; 64]; 6]
+    ensures { λ r. ⌜ r ≡ heads .heads ⌝ }
 {
-    heads.rows
+    heads.heads
 }
 
 // No store yet, for the first format, which does not look at it. It has no record, so every other call answers number 2.
@@ -63,7 +63,7 @@ pub fn no_store() -> Wheel
     ensures { λ r. ⌜ NoStoreClaim r ⌝ }
 {
     let occupied = [0u64; 6];
-    let stacks = Stacks {
+    let top = Tops {
         n: 0,
         expired: links::NOBODY,
         free: links::NOBODY,
@@ -72,7 +72,7 @@ pub fn no_store() -> Wheel
     Wheel {
         elapsed: 0,
         occupied,
-        stacks,
+        tops: top,
         hand: links::NOBODY,
         until: 0,
     }
@@ -80,7 +80,7 @@ pub fn no_store() -> Wheel
 
 // The number alone, and everything handed back as it is.
 fn refused(number: u64, state: Wheel, heads: [[u16; 64]; 6]) -> Reply
-    ensures { λ r. ⌜ (r .answer ≡ Answer.No number) × (r .state ≡ state) × (r .heads .rows ≡ heads) ⌝ }
+    ensures { λ r. ⌜ (r .answer ≡ Answer.No number) × (r .state ≡ state) × (r .heads .heads ≡ heads) ⌝ }
 {
     let answer = Answer::No(number);
     unchanged(answer, state, heads)
@@ -88,7 +88,7 @@ fn refused(number: u64, state: Wheel, heads: [[u16; 64]; 6]) -> Reply
 
 // An answer, and everything handed back as it is.
 pub fn unchanged(answer: Answer, state: Wheel, heads: [[u16; 64]; 6]) -> Reply
-    ensures { λ r. ⌜ (r .answer ≡ answer) × (r .state ≡ state) × (r .heads .rows ≡ heads) ⌝ }
+    ensures { λ r. ⌜ (r .answer ≡ answer) × (r .state ≡ state) × (r .heads .heads ≡ heads) ⌝ }
 {
     let h = heads_of(heads);
     Reply {
@@ -102,7 +102,7 @@ pub fn unchanged(answer: Answer, state: Wheel, heads: [[u16; 64]; 6]) -> Reply
 fn packed(
     answer: Answer,
     elapsed: u64,
-    rows: [u64; 6],
+    occupied: [u64; 6],
     tops: [u16; 4],
     heads: [[u16; 64]; 6],
     hand: u16,
@@ -110,9 +110,9 @@ fn packed(
 ) -> Reply
     ensures { λ r. ⌜
         (r .answer ≡ answer)
-        × (r .state ≡ wheelOf elapsed rows tops hand until) × (r .heads .rows ≡ heads) ⌝ }
+        × (r .state ≡ wheelOf elapsed occupied tops hand until) × (r .heads .heads ≡ heads) ⌝ }
 {
-    let state = records::wheel_of(elapsed, rows, tops, hand, until);
+    let state = records::wheel_of(elapsed, occupied, tops, hand, until);
     unchanged(answer, state, heads)
 }
 
@@ -198,7 +198,7 @@ fn make(
     requires { ⌜ Fits (lent values deadlines nexts prevs turns marks) n ⌝ }
     ensures { λ _. ⌜ MakesOf n turn tops heads values deadlines nexts prevs turns marks ⌝ }
 {
-    stack::format(tops, heads, nexts, prevs, marks, n);
+    places::format(tops, heads, nexts, prevs, marks, n);
     let k = n as usize;
     fill(values, 2 * k, 0);
     fill(deadlines, k, 0);
@@ -220,7 +220,7 @@ pub fn format(
 ) -> Reply
     ensures { λ r. ⌜
         FormatClaim (before state heads values deadlines nexts prevs turns marks)
-        n turn (r .answer) (after (r .state) (r .heads .rows) values deadlines nexts prevs turns marks) ⌝ }
+        n turn (r .answer) (after (r .state) (r .heads .heads) values deadlines nexts prevs turns marks) ⌝ }
 {
     let number = format_no(values, deadlines, nexts, prevs, turns, marks, n, turn);
     if number != 0 {
@@ -239,8 +239,8 @@ pub fn format(
         n as u16,
         turn,
     );
-    let rows = [0u64; 6];
-    packed(Answer::Done, 0, rows, tops, heads, links::NOBODY, 0)
+    let occupied = [0u64; 6];
+    packed(Answer::Done, 0, occupied, tops, heads, links::NOBODY, 0)
 }
 
 // A timer with the value, at the deadline `when` and then after each period, if it is not 0: its key.
@@ -259,18 +259,18 @@ pub fn insert(
 ) -> Reply
     ensures { λ r. ⌜
         InsertClaim (before state heads values deadlines nexts prevs turns marks)
-        value when period (r .answer) (after (r .state) (r .heads .rows) values deadlines nexts prevs turns marks) ⌝ }
+        value when period (r .answer) (after (r .state) (r .heads .heads) values deadlines nexts prevs turns marks) ⌝ }
 {
     let number = free_no(state, heads, values, deadlines, nexts, prevs, turns, marks);
     if number != 0 {
         return refused(number, state, heads);
     }
     let elapsed = state.elapsed;
-    let mut rows = state.occupied;
-    let mut tops = stack::tops_of(state.stacks);
+    let mut occupied = state.occupied;
+    let mut tops = places::tops_in(state.tops);
     let answer = queue::insert(
         elapsed,
-        &mut rows,
+        &mut occupied,
         &mut tops,
         &mut heads,
         values,
@@ -283,7 +283,7 @@ pub fn insert(
         when,
         period,
     );
-    packed(answer, elapsed, rows, tops, heads, links::NOBODY, 0)
+    packed(answer, elapsed, occupied, tops, heads, links::NOBODY, 0)
 }
 
 // The timer of the key gets the deadline `when`.
@@ -301,18 +301,18 @@ pub fn reset(
 ) -> Reply
     ensures { λ r. ⌜
         ResetClaim (before state heads values deadlines nexts prevs turns marks)
-        key when (r .answer) (after (r .state) (r .heads .rows) values deadlines nexts prevs turns marks) ⌝ }
+        key when (r .answer) (after (r .state) (r .heads .heads) values deadlines nexts prevs turns marks) ⌝ }
 {
     let number = free_no(state, heads, values, deadlines, nexts, prevs, turns, marks);
     if number != 0 {
         return refused(number, state, heads);
     }
     let elapsed = state.elapsed;
-    let mut rows = state.occupied;
-    let mut tops = stack::tops_of(state.stacks);
+    let mut occupied = state.occupied;
+    let mut tops = places::tops_in(state.tops);
     let answer = queue::reset(
         elapsed,
-        &mut rows,
+        &mut occupied,
         &mut tops,
         &mut heads,
         values,
@@ -324,7 +324,7 @@ pub fn reset(
         key,
         when,
     );
-    packed(answer, elapsed, rows, tops, heads, links::NOBODY, 0)
+    packed(answer, elapsed, occupied, tops, heads, links::NOBODY, 0)
 }
 
 // The timer of the key is taken out: its value and deadline.
@@ -341,18 +341,18 @@ pub fn remove(
 ) -> Reply
     ensures { λ r. ⌜
         RemoveClaim (before state heads values deadlines nexts prevs turns marks)
-        key (r .answer) (after (r .state) (r .heads .rows) values deadlines nexts prevs turns marks) ⌝ }
+        key (r .answer) (after (r .state) (r .heads .heads) values deadlines nexts prevs turns marks) ⌝ }
 {
     let number = free_no(state, heads, values, deadlines, nexts, prevs, turns, marks);
     if number != 0 {
         return refused(number, state, heads);
     }
     let elapsed = state.elapsed;
-    let mut rows = state.occupied;
-    let mut tops = stack::tops_of(state.stacks);
+    let mut occupied = state.occupied;
+    let mut tops = places::tops_in(state.tops);
     let answer = queue::remove(
         elapsed,
-        &mut rows,
+        &mut occupied,
         &mut tops,
         &mut heads,
         values,
@@ -363,7 +363,7 @@ pub fn remove(
         marks,
         key,
     );
-    packed(answer, elapsed, rows, tops, heads, links::NOBODY, 0)
+    packed(answer, elapsed, occupied, tops, heads, links::NOBODY, 0)
 }
 
 // A timer that is due at `time`, or nothing, or not yet: it stops before the move that would exceed `limit`, and the next
@@ -382,17 +382,17 @@ pub fn poll_some(
 ) -> Reply
     ensures { λ r. ⌜
         PollSomeClaim (before state heads values deadlines nexts prevs turns marks)
-        time limit (r .answer) (after (r .state) (r .heads .rows) values deadlines nexts prevs turns marks) ⌝ }
+        time limit (r .answer) (after (r .state) (r .heads .heads) values deadlines nexts prevs turns marks) ⌝ }
 {
     if !judge::is_sound(state, heads, values, deadlines, nexts, prevs, turns, marks) {
         return refused(refusals::NOT_SOUND, state, heads);
     }
     let elapsed = state.elapsed;
-    let mut rows = state.occupied;
-    let mut tops = stack::tops_of(state.stacks);
+    let mut occupied = state.occupied;
+    let mut tops = places::tops_in(state.tops);
     let out = queue::poll(
         elapsed,
-        &mut rows,
+        &mut occupied,
         &mut tops,
         &mut heads,
         values,
@@ -410,7 +410,7 @@ pub fn poll_some(
     let e = out.elapsed;
     let hand = out.hand;
     let until = out.until;
-    packed(answer, e, rows, tops, heads, hand, until)
+    packed(answer, e, occupied, tops, heads, hand, until)
 }
 
 // A timer that is due at `time`, or nothing: no store has so many moves to make.
@@ -427,7 +427,7 @@ pub fn poll(
 ) -> Reply
     ensures { λ r. ⌜
         PollClaim (before state heads values deadlines nexts prevs turns marks)
-        time (r .answer) (after (r .state) (r .heads .rows) values deadlines nexts prevs turns marks) ⌝ }
+        time (r .answer) (after (r .state) (r .heads .heads) values deadlines nexts prevs turns marks) ⌝ }
 {
     poll_some(
         state,
@@ -461,14 +461,14 @@ pub fn next_wake(
     if number != 0 {
         return Answer::No(number);
     }
-    let rows = state.occupied;
-    let stacks = state.stacks;
+    let occupied = state.occupied;
+    let top = state.tops;
     queue::next_wake(
         state.elapsed,
-        &rows,
+        &occupied,
         deadlines,
-        stacks.expired,
-        stacks.parking,
+        top.expired,
+        top.parking,
     )
 }
 
@@ -488,8 +488,8 @@ pub fn length(
     if !judge::is_sound(state, heads, values, deadlines, nexts, prevs, turns, marks) {
         return Answer::No(refusals::NOT_SOUND);
     }
-    let stacks = state.stacks;
-    let n = queue::length(stacks.n, marks);
+    let top = state.tops;
+    let n = queue::length(top.n, marks);
     Answer::Length(n)
 }
 
@@ -506,17 +506,17 @@ pub fn clear(
 ) -> Reply
     ensures { λ r. ⌜
         ClearClaim (before state heads values deadlines nexts prevs turns marks)
-        (r .answer) (after (r .state) (r .heads .rows) values deadlines nexts prevs turns marks) ⌝ }
+        (r .answer) (after (r .state) (r .heads .heads) values deadlines nexts prevs turns marks) ⌝ }
 {
     if !judge::is_sound(state, heads, values, deadlines, nexts, prevs, turns, marks) {
         return refused(refusals::NOT_SOUND, state, heads);
     }
     let elapsed = state.elapsed;
-    let mut rows = state.occupied;
-    let mut tops = stack::tops_of(state.stacks);
+    let mut occupied = state.occupied;
+    let mut tops = places::tops_in(state.tops);
     let answer = queue::clear(
         elapsed,
-        &mut rows,
+        &mut occupied,
         &mut tops,
         &mut heads,
         values,
@@ -526,5 +526,5 @@ pub fn clear(
         turns,
         marks,
     );
-    packed(answer, 0, rows, tops, heads, links::NOBODY, 0)
+    packed(answer, 0, occupied, tops, heads, links::NOBODY, 0)
 }

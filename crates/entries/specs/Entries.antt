@@ -21,7 +21,7 @@ insertBytes value when (suc p) = entry 9 value when ++ entry 10 (suc p) 0
 
 -- "Kinds: 1 format (N, turn), 2 insert (value, when), 3 reset (key, when), 4 remove (key, 0), 5 poll (now, 0), 6 clear, 7 open patch,
 -- 8 close patch; 6 to 8 carry two zeros"; 02 [10], of the poll with a limit: "In the journal each such call is kind 11 (now, limit)": the
--- bytes of a step. Next wake and length have none
+-- bytes of a step. NextStep wake and length have none
 abbrev pub stepBytes : Step → List ℕ
 stepBytes (S.Asks (C.Format n turn)) = entry 1 n turn
 stepBytes (S.Asks (C.Insert value when period)) = insertBytes value when period

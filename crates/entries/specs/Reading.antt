@@ -8,8 +8,8 @@ use lib.ListN.{length, take, drop}
 use Rattle.delay_queue.specs.declared.Call.the-variants as C
 use Rattle.entries.specs.declared.Step.the-variants as S
 use Rattle.entries.specs.declared.Ending.the-variants as E
-use Rattle.entries.specs.declared.Next.{Next}
-use Rattle.entries.specs.declared.Next.the-variants as X
+use Rattle.entries.specs.declared.NextStep.{NextStep}
+use Rattle.entries.specs.declared.NextStep.the-variants as X
 use Rattle.entries.specs.declared.Entry.{Entry}
 
 -- ---- bytes
@@ -55,22 +55,22 @@ unfoldable pub zeros : Entry → Bool
 zeros e = eqb (e .spare) 0 && fieldZeros (e .kind) (e .a) (e .b)
 
 -- a bad kind is named before a 1 where zero is due, and both before what the entry says with others
-unfoldable pub checked : Entry → Next → Next
+unfoldable pub checked : Entry → NextStep → NextStep
 checked e x = cond (known (e .kind)) (cond (zeros e) x (X.Ends E.Zero)) (X.Ends E.Kind)
 
 -- ---- a step
 
 -- "A repeating insert is kind 9 (value, when) followed at once by kind 10 (period over 0, 0), one call together": of kind 9 and the entry
 -- behind it
-unfoldable pub pairOf : Entry → Entry → Next
+unfoldable pub pairOf : Entry → Entry → NextStep
 pairOf e p = cond (eqb (p .kind) 10 && ltb 0 (p .a)) (X.One (S.Asks (C.Insert (e .a) (e .b) (p .a)))) (X.Ends E.Pair)
 
 -- "A kind 9 that ends the file without its kind 10 is a cut", as what is left of an entry is
-unfoldable pub repeating : Entry → List ℕ → Next
+unfoldable pub repeating : Entry → List ℕ → NextStep
 repeating e l = cond (ltb (length l) 18) (X.Ends E.Cut) (checked (entryIn l) (pairOf e (entryIn l)))
 
 -- the step of an entry, where l stands behind it. Kind 10 alone is "a broken pair"
-unfoldable pub stepOf : Entry → List ℕ → Next
+unfoldable pub stepOf : Entry → List ℕ → NextStep
 stepOf e l =
     cond (eqb (e .kind) 1) (X.One (S.Asks (C.Format (e .a) (e .b))))
     (cond (eqb (e .kind) 2) (X.One (S.Asks (C.Insert (e .a) (e .b) 0)))
@@ -84,7 +84,7 @@ stepOf e l =
     (cond (eqb (e .kind) 11) (X.One (S.Asks (C.PollSome (e .a) (e .b)))) (X.Ends E.Pair))))))))))
 
 -- what l begins with: fewer than 18 bytes are a cut, whatever they are
-unfoldable pub next : List ℕ → Next
+unfoldable pub next : List ℕ → NextStep
 next l = cond (ltb (length l) 18) (X.Ends E.Cut) (checked (entryIn l) (stepOf (entryIn l) (drop 18 l)))
 
 -- ---- a cut

@@ -29,7 +29,7 @@ pub enum Ending {
 }
 
 // What bytes begin with.
-pub enum Next {
+pub enum NextStep {
     One(Step),
     Ends(Ending),
 }
@@ -216,41 +216,41 @@ fn has_zeros(e: Entry) -> bool
 }
 
 // The damage that an entry shows by itself, else x.
-fn check(e: Entry, x: Next) -> Next
+fn check(e: Entry, x: NextStep) -> NextStep
     ensures { λ r. ⌜ r ≡ checked e x ⌝ }
 {
     if e.kind == 0 {
-        return Next::Ends(Ending::Kind);
+        return NextStep::Ends(Ending::Kind);
     }
     if 11 < e.kind {
-        return Next::Ends(Ending::Kind);
+        return NextStep::Ends(Ending::Kind);
     }
     if !has_zeros(e) {
-        return Next::Ends(Ending::Zero);
+        return NextStep::Ends(Ending::Zero);
     }
     x
 }
 
 // The insert of a kind 9 and the entry behind it.
-fn pair(e: Entry, p: Entry) -> Next
+fn pair(e: Entry, p: Entry) -> NextStep
     ensures { λ r. ⌜ r ≡ pairOf e p ⌝ }
 {
     if p.kind != 10 {
-        return Next::Ends(Ending::Pair);
+        return NextStep::Ends(Ending::Pair);
     }
     if p.a == 0 {
-        return Next::Ends(Ending::Pair);
+        return NextStep::Ends(Ending::Pair);
     }
-    Next::One(Step::Asks(Call::Insert(e.a, e.b, p.a)))
+    NextStep::One(Step::Asks(Call::Insert(e.a, e.b, p.a)))
 }
 
 // The same where the entry behind it begins at at.
-fn repeats(e: Entry, bytes: &[u8], at: usize) -> Next
+fn repeats(e: Entry, bytes: &[u8], at: usize) -> NextStep
     requires { ⌜ at ≤ length (now bytes) ⌝ }
     ensures { λ r. ⌜ r ≡ repeating e (drop at (old bytes)) ⌝ }
 {
     if bytes.len() - at < 18 {
-        return Next::Ends(Ending::Cut);
+        return NextStep::Ends(Ending::Cut);
     }
     let p = entry_at(bytes, at);
     let x = pair(e, p);
@@ -258,35 +258,35 @@ fn repeats(e: Entry, bytes: &[u8], at: usize) -> Next
 }
 
 // The step of an entry, behind which the next begins at at.
-fn step_of(e: Entry, bytes: &[u8], at: usize) -> Next
+fn step_of(e: Entry, bytes: &[u8], at: usize) -> NextStep
     requires { ⌜ at ≤ length (now bytes) ⌝ }
     ensures { λ r. ⌜ r ≡ stepOf e (drop at (old bytes)) ⌝ }
 {
     let kind = e.kind;
     match kind {
-        1 => Next::One(Step::Asks(Call::Format(e.a, e.b))),
-        2 => Next::One(Step::Asks(Call::Insert(e.a, e.b, 0))),
-        3 => Next::One(Step::Asks(Call::Reset(e.a, e.b))),
-        4 => Next::One(Step::Asks(Call::Remove(e.a))),
-        5 => Next::One(Step::Asks(Call::Poll(e.a))),
-        6 => Next::One(Step::Asks(Call::Clear)),
-        7 => Next::One(Step::Open),
-        8 => Next::One(Step::Close),
+        1 => NextStep::One(Step::Asks(Call::Format(e.a, e.b))),
+        2 => NextStep::One(Step::Asks(Call::Insert(e.a, e.b, 0))),
+        3 => NextStep::One(Step::Asks(Call::Reset(e.a, e.b))),
+        4 => NextStep::One(Step::Asks(Call::Remove(e.a))),
+        5 => NextStep::One(Step::Asks(Call::Poll(e.a))),
+        6 => NextStep::One(Step::Asks(Call::Clear)),
+        7 => NextStep::One(Step::Open),
+        8 => NextStep::One(Step::Close),
         9 => repeats(e, bytes, at),
-        11 => Next::One(Step::Asks(Call::PollSome(e.a, e.b))),
-        _ => Next::Ends(Ending::Pair),
+        11 => NextStep::One(Step::Asks(Call::PollSome(e.a, e.b))),
+        _ => NextStep::Ends(Ending::Pair),
     }
 }
 
 // What the bytes from at on begin with: a step, or why there is none. From behind the end on there is nothing, a cut.
-pub fn read_step(bytes: &[u8], at: usize) -> Next
+pub fn read_step(bytes: &[u8], at: usize) -> NextStep
     ensures { λ r. ⌜ r ≡ next (drop at (old bytes)) ⌝ }
 {
     if bytes.len() < at {
-        return Next::Ends(Ending::Cut);
+        return NextStep::Ends(Ending::Cut);
     }
     if bytes.len() - at < 18 {
-        return Next::Ends(Ending::Cut);
+        return NextStep::Ends(Ending::Cut);
     }
     let e = entry_at(bytes, at);
     let x = step_of(e, bytes, at + 18);

@@ -1,4 +1,4 @@
 pub mod Wrote
-pub mod Turns
+pub mod NextLines
 pub mod Serving
 pub mod Once

@@ -26,21 +26,21 @@ abbrev pub stand : ℕ → List ℕ → ℕ → QueueWords → List ℕ → ℕ 
 stand i l k w o e = record { next = i; line = l; kept = k; store = w; out = o; at = e }
 
 -- a byte of the chunk is left, and room for an answer
-abbrev pub Goes : List ℕ → Stand → Type 0
-Goes got a = (a .next < length got) × (a .at + answerRoom ≤ length (a .out))
+abbrev pub CanGoOn : List ℕ → Stand → Type 0
+CanGoOn got a = (a .next < length got) × (a .at + answerRoom ≤ length (a .out))
 
 -- one line is taken: it has ended and is answered, or the chunk has ended and what came of it is kept
-pub data Turn (limits : Bool) (got : List ℕ) (a : Stand) : Stand → Type 0 where
+pub data NextLine (limits : Bool) (got : List ℕ) (a : Stand) : Stand → Type 0 where
   answered : {i k : ℕ} {l : List ℕ} {w : QueueWords} {o : List ℕ} {e : ℕ} → TakeClaim got (a .next) (a .line) (a .kept) i k true l
       → LineClaim limits (take k l) (a .store) (a .out) (a .at) w o e
-      → Turn limits got a (stand i l 0 w o e)
+      → NextLine limits got a (stand i l 0 w o e)
   goes-on : {i k : ℕ} {l : List ℕ} → TakeClaim got (a .next) (a .line) (a .kept) i k false l
-      → Turn limits got a (stand i l k (a .store) (a .out) (a .at))
+      → NextLine limits got a (stand i l k (a .store) (a .out) (a .at))
 
 -- one line after the other, as long as a byte is left and room for an answer
 pub data FeedClaim (limits : Bool) (got : List ℕ) : Stand → Stand → Type 0 where
-  stops : {a : Stand} → (Goes got a → ⊥) → FeedClaim limits got a a
-  turns : {a b c : Stand} → Goes got a → Turn limits got a b → FeedClaim limits got b c → FeedClaim limits got a c
+  stops : {a : Stand} → (CanGoOn got a → ⊥) → FeedClaim limits got a a
+  lines-on : {a b c : Stand} → CanGoOn got a → NextLine limits got a b → FeedClaim limits got b c → FeedClaim limits got a c
 
 -- the input has ended: what was kept, l, is the last line, if it is anything, and is answered at the front of o
 pub record LastClaim (limits : Bool) (l : List ℕ) (w : QueueWords) (o : List ℕ) (w′ : QueueWords) (o′ : List ℕ) (end : ℕ) : Type 0 where

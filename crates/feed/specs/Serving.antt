@@ -7,12 +7,12 @@ use lib.ListN.{length}
 use Rattle.records.specs.Words.{QueueWords}
 use Rattle.lines.specs.Lines.{last}
 use Rattle.lines.specs.Passed.{Passed}
-use Rattle.feed.specs.Replies.{Reply, Replies}
+use Rattle.feed.specs.Replies.{ReplyTo, Replies}
 
 -- the line l is answered, which makes w′ of the store w
-pub record Answered (limits : Bool) (l : List ℕ) (w w′ : QueueWords) : Type 0 where
+pub record LineAnswered (limits : Bool) (l : List ℕ) (w w′ : QueueWords) : Type 0 where
   pub text : List ℕ
-  pub reply : Reply limits l w text w′
+  pub reply : ReplyTo limits l w text w′
 
 -- Of a line k was kept, s was left of the chunk and w was the store; now these are k′, s′ and w′. In between the lines that ended were
 -- answered with t, each seen as its first m bytes: none is left out, and none comes twice.

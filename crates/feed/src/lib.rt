@@ -1,5 +1,5 @@
 // The bench over what was read: the lines of a chunk are answered one after the other, as far as the output has room.
-use bench::Answered;
+use bench::LineDone;
 use delay_queue::Heads;
 use wheel::Wheel;
 ghost use Prim.Native.Nat.{_+_, _≤_, _<_};
@@ -8,7 +8,7 @@ ghost use Rattle.contracts.specs.Tells.{Tells};
 ghost use Rattle.records.specs.Store.{before, after};
 ghost use Rattle.records.specs.Words.{lent, before as given, after as left, holding, Sound};
 ghost use Rattle.feed.specs.Feed.{answerRoom, stand, FeedClaim, LastClaim};
-ghost use Rattle.feed.specs.Parts.{TurnKnown};
+ghost use Rattle.feed.specs.Parts.{NextLineKnown};
 
 // No answer has more bytes, so that one has room in these.
 pub const ANSWER_ROOM: usize = 114;
@@ -38,7 +38,7 @@ fn goes(next: usize, len: usize, at: usize, size: usize) -> bool
 
 // Where to go on in the chunk, how many bytes of an unfinished line are kept, where the answers end, elapsed and the poll in
 // hand after them, and whether the store is sound then.
-struct Turned {
+struct FedParts {
     next: usize,
     kept: usize,
     at: usize,
@@ -49,7 +49,7 @@ struct Turned {
 }
 
 // Takes one line out of the chunk and answers it, or keeps it where it does not end in the chunk. The store is not judged.
-fn turn(
+fn next_line(
     limits: bool,
     got: &[u8],
     from: usize,
@@ -57,7 +57,7 @@ fn turn(
     n: usize,
     sound: bool,
     elapsed: u64,
-    rows: &mut [u64; 6],
+    occupied: &mut [u64; 6],
     tops: &mut [u16; 4],
     heads: &mut [[u16; 64]; 6],
     values: &mut [u64],
@@ -70,22 +70,22 @@ fn turn(
     until: u64,
     out: &mut [u8],
     at: usize,
-) -> Turned
+) -> FedParts
     requires { ⌜
         Tells (Sound (holding hand until
-        (lent elapsed rows tops heads values deadlines nexts prevs turns marks))) sound ⌝ }
+        (lent elapsed occupied tops heads values deadlines nexts prevs turns marks))) sound ⌝ }
     ensures { λ r. ⌜
-        TurnKnown
+        NextLineKnown
         limits
         (old got)
         (stand from (old line) n (holding hand until
-        (given elapsed rows tops heads values deadlines nexts prevs turns marks))
+        (given elapsed occupied tops heads values deadlines nexts prevs turns marks))
         (old out) at)
         (stand
         (r .next)
         (new line)
         (r .kept)
-        (holding (r .hand) (r .until) (left (r .elapsed) rows tops heads values deadlines nexts prevs turns marks))
+        (holding (r .hand) (r .until) (left (r .elapsed) occupied tops heads values deadlines nexts prevs turns marks))
         (new out)
         (r .at))
         (r .sound) ⌝ }
@@ -99,7 +99,7 @@ fn turn(
             &line[..k],
             sound,
             elapsed,
-            rows,
+            occupied,
             tops,
             heads,
             values,
@@ -113,7 +113,7 @@ fn turn(
             out,
             at,
         );
-        return Turned {
+        return FedParts {
             next,
             kept: 0,
             at: done.at,
@@ -123,7 +123,7 @@ fn turn(
             sound: done.sound,
         };
     }
-    Turned {
+    FedParts {
         next,
         kept: k,
         at,
@@ -144,7 +144,7 @@ fn answer_parts(
     n: usize,
     sound: bool,
     elapsed: u64,
-    rows: &mut [u64; 6],
+    occupied: &mut [u64; 6],
     tops: &mut [u16; 4],
     heads: &mut [[u16; 64]; 6],
     values: &mut [u64],
@@ -156,22 +156,22 @@ fn answer_parts(
     hand: u16,
     until: u64,
     out: &mut [u8],
-) -> Turned
+) -> FedParts
     requires { ⌜
         Tells (Sound (holding hand until
-        (lent elapsed rows tops heads values deadlines nexts prevs turns marks))) sound ⌝ }
+        (lent elapsed occupied tops heads values deadlines nexts prevs turns marks))) sound ⌝ }
     ensures { λ r. ⌜
         FeedClaim
         limits
         (old got)
         (stand from (old line) n (holding hand until
-        (given elapsed rows tops heads values deadlines nexts prevs turns marks))
+        (given elapsed occupied tops heads values deadlines nexts prevs turns marks))
         (old out) 0)
         (stand
         (r .next)
         (new line)
         (r .kept)
-        (holding (r .hand) (r .until) (left (r .elapsed) rows tops heads values deadlines nexts prevs turns marks))
+        (holding (r .hand) (r .until) (left (r .elapsed) occupied tops heads values deadlines nexts prevs turns marks))
         (new out)
         (r .at)) ⌝ }
 {
@@ -183,7 +183,7 @@ fn answer_parts(
     let mut u = until;
     let mut fine = sound;
     while goes(i, got.len(), end, out.len()) {
-        let r = turn(
+        let r = next_line(
             limits,
             got,
             i,
@@ -191,7 +191,7 @@ fn answer_parts(
             k,
             fine,
             e,
-            rows,
+            occupied,
             tops,
             heads,
             values,
@@ -213,7 +213,7 @@ fn answer_parts(
         u = r.until;
         fine = r.sound;
     }
-    Turned {
+    FedParts {
         next: i,
         kept: k,
         at: end,
@@ -245,19 +245,19 @@ pub fn answer_lines(
         FeedClaim
         limits
         (old got)
-        (stand from (old line) n (before state (heads .rows) values deadlines nexts prevs turns marks) (old out) 0)
+        (stand from (old line) n (before state (heads .heads) values deadlines nexts prevs turns marks) (old out) 0)
         (stand
         (r .next)
         (new line)
         (r .kept)
-        (after (r .state) (r .heads .rows) values deadlines nexts prevs turns marks)
+        (after (r .state) (r .heads .heads) values deadlines nexts prevs turns marks)
         (new out)
         (r .at)) ⌝ }
 {
-    let mut here = delay_queue::rows_of(heads);
+    let mut here = delay_queue::heads_in(heads);
     let sound = judge::is_sound(state, here, values, deadlines, nexts, prevs, turns, marks);
-    let mut rows = state.occupied;
-    let mut tops = stack::tops_of(state.stacks);
+    let mut occupied = state.occupied;
+    let mut tops = places::tops_in(state.tops);
     let r = answer_parts(
         limits,
         got,
@@ -266,7 +266,7 @@ pub fn answer_lines(
         n,
         sound,
         state.elapsed,
-        &mut rows,
+        &mut occupied,
         &mut tops,
         &mut here,
         values,
@@ -279,7 +279,7 @@ pub fn answer_lines(
         state.until,
         out,
     );
-    let after = records::wheel_of(r.elapsed, rows, tops, r.hand, r.until);
+    let after = records::wheel_of(r.elapsed, occupied, tops, r.hand, r.until);
     let h = delay_queue::heads_of(here);
     Fed {
         next: r.next,
@@ -303,19 +303,19 @@ pub fn answer_last(
     turns: &mut [u64],
     marks: &mut [u16],
     out: &mut [u8],
-) -> Answered
+) -> LineDone
     ensures { λ r. ⌜
         LastClaim
         limits
         (old line)
-        (before state (heads .rows) values deadlines nexts prevs turns marks)
+        (before state (heads .heads) values deadlines nexts prevs turns marks)
         (old out)
-        (after (r .state) (r .heads .rows) values deadlines nexts prevs turns marks)
+        (after (r .state) (r .heads .heads) values deadlines nexts prevs turns marks)
         (new out)
         (r .at) ⌝ }
 {
     if line.len() == 0 {
-        return Answered {
+        return LineDone {
             at: 0,
             state,
             heads,

@@ -26,10 +26,10 @@ fn keep(
     until: &mut u64,
 ) {
     let bits = state.occupied;
-    let stacks = state.stacks;
+    let top = state.tops;
     *elapsed = state.elapsed;
     *occupied = bits;
-    *tops = stack::tops_of(stacks);
+    *tops = places::tops_in(top);
     *hand = state.hand;
     *until = state.until;
 }
@@ -154,10 +154,10 @@ pub extern "C" fn harness_call(
         call,
     );
     let after = reply.state;
-    let slots = reply.heads;
+    let grid = reply.heads;
     let said = reply.answer;
     keep(after, elapsed, occupied, tops, hand, until);
-    *heads = delay_queue::rows_of(slots);
+    *heads = delay_queue::heads_in(grid);
     *answer = words_of(said);
     true
 }
@@ -204,10 +204,10 @@ pub extern "C" fn harness_run(
     );
     let done = ran.done;
     let after = ran.state;
-    let slots = ran.heads;
+    let grid = ran.heads;
     let why = ran.why;
     keep(after, elapsed, occupied, tops, hand, until);
-    *heads = delay_queue::rows_of(slots);
+    *heads = delay_queue::heads_in(grid);
     *told = [done as u64, why_number(why)];
 }
 
@@ -279,10 +279,10 @@ pub extern "C" fn harness_replay(
 ) {
     let r = recover::replay(bytes, values, deadlines, nexts, prevs, turns, marks);
     let after = r.state;
-    let slots = r.heads;
+    let grid = r.heads;
     let ending = r.ending;
     let words = ending_words(ending);
     keep(after, elapsed, occupied, tops, hand, until);
-    *heads = delay_queue::rows_of(slots);
+    *heads = delay_queue::heads_in(grid);
     *told = [r.kept as u64, r.at as u64, words[0], words[1]];
 }

@@ -8,7 +8,7 @@ ghost use mathlib.Core.Path.{_≡_};
 ghost use mathlib.Core.List.{[]};
 ghost use lib.ListN.{length};
 ghost use Rattle.contracts.specs.Lent.{old, new};
-ghost use Rattle.lines.specs.Running.{Chunk, Closes, Ran};
+ghost use Rattle.lines.specs.Running.{Chunk, Closes, ProgramRan};
 ghost use Rattle.inspector.specs.Words.{words, Inspected};
 ghost use Rattle.inspect.specs.Text.{TextClaim, SaidClaim};
 
@@ -73,7 +73,7 @@ struct Outcome {
 fn read_all(line: &mut [u8], keys: &mut [u64], deadlines: &mut [u64]) -> Outcome
     requires { ⌜ length (now line) ≡ 81 ⌝ }
     ensures { λ r. ⌜
-        Ran Inspected 81 [] (words (State.Good 0 0 0) (old keys) (old deadlines)) (r .bytes) (r .last .ended)
+        ProgramRan Inspected 81 [] (words (State.Good 0 0 0) (old keys) (old deadlines)) (r .bytes) (r .last .ended)
         (words (r .state) (new keys) (new deadlines)) ⌝ }
 {
     let mut buf = io::buffer();

@@ -35,11 +35,11 @@ Free key p = Every (λ t. t .key ≡ key → ⊥) p
 
 -- key is pending, at this deadline, between these others
 pub record Pends (key : ℕ) (p : List Timer) : Type 0 where
-  pub before : List Timer
+  pub front : List Timer
   pub deadline : ℕ
   pub behind : List Timer
-  pub is : p ≡ before ++ timer key deadline ∷ behind
-  pub first : Free key before
+  pub is : p ≡ front ++ timer key deadline ∷ behind
+  pub first : Free key front
 
 -- After the entries that leave s the entry e is right, and then s′ is left, where at most m are to be pending.
 -- "one more, a key already pending or a reset or remove of one that isn't is a bad line";
@@ -50,9 +50,9 @@ unfoldable pub Step : ℕ → Store → Entry → Store → Type 0
 Step m s (E.Insert key when) s′ =
     Free key (s .pending) × (length (s .pending) < m) × (s′ ≡ store (s .pending ++ timer key (max when (s .clock)) ∷ []) (s .clock))
 Step m s (E.Reset key when) s′ =
-    (h : Pends key (s .pending)) × (s′ ≡ store (h .before ++ timer key (max when (s .clock)) ∷ h .behind) (s .clock))
-Step m s (E.Remove key) s′ = (h : Pends key (s .pending)) × (s′ ≡ store (h .before ++ h .behind) (s .clock))
+    (h : Pends key (s .pending)) × (s′ ≡ store (h .front ++ timer key (max when (s .clock)) ∷ h .behind) (s .clock))
+Step m s (E.Remove key) s′ = (h : Pends key (s .pending)) × (s′ ≡ store (h .front ++ h .behind) (s .clock))
 Step m s (E.Out time key) s′ =
     (h : Pends key (s .pending)) × (h .deadline ≤ time) × Every (λ t. h .deadline ≤ t .deadline) (s .pending)
-    × (s′ ≡ store (h .before ++ h .behind) (s .clock))
+    × (s′ ≡ store (h .front ++ h .behind) (s .clock))
 Step m s (E.Nothing time) s′ = Every (λ t. time < t .deadline) (s .pending) × (s′ ≡ store (s .pending) (max (s .clock) time))

@@ -66,7 +66,7 @@ pub record ReadClaim (l : List ℕ) (r : Line) : Type 0 where
 -- the first place of key among the first n of ks, or n
 pub record PlaceOf (ks : List ℕ) (n key r : ℕ) : Type 0 where
   pub within : r ≤ n
-  pub before : (i : ℕ) → i < r → getD ks i 0 ≡ key → ⊥
+  pub passed : (i : ℕ) → i < r → getD ks i 0 ≡ key → ⊥
   pub found : r < n → getD ks r 0 ≡ key
 
 -- each of the first n deadlines is past t

@@ -36,21 +36,21 @@ pub record Accepted (ls : List (List ℕ)) : Type 0 where
 
 -- "`bad n` with the first bad line's number counted from 1"
 pub record FirstBad (ls : List (List ℕ)) (n : ℕ) : Type 0 where
-  pub before : List (List ℕ)
+  pub front : List (List ℕ)
   pub line : List ℕ
   pub behind : List (List ℕ)
-  pub log : ls ≡ before ++ line ∷ behind
-  pub number : n ≡ length before + 1
+  pub log : ls ≡ front ++ line ∷ behind
+  pub number : n ≡ length front + 1
   pub left : Store
-  pub right : AllRight before start left
+  pub right : AllRight front start left
   pub wrong : Wrong most line left
 
 -- no line was bad
-abbrev pub Stands : State → Type 0
-Stands (S.Good n clock m) = Unit
-Stands (S.Bad n) = ⊥
+abbrev pub NoneBad : State → Type 0
+NoneBad (S.Good n clock m) = Unit
+NoneBad (S.Bad n) = ⊥
 
 -- t is what is to be said of the log ls, whose lines a u64 counts
 pub record VerdictClaim (ls : List (List ℕ)) (t : State) : Type 0 where
-  pub ok : Stands t ↔ Accepted ls
+  pub ok : NoneBad t ↔ Accepted ls
   pub bad : length ls < 2 ^ 64 → (n : ℕ) → (t ≡ S.Bad n) ↔ FirstBad ls n

@@ -83,7 +83,7 @@ pub fn act(
 ) -> Acted
     ensures { λ r. ⌜
         ActClaim patch (before state heads values deadlines nexts prevs turns marks) step
-        (r .answer) (r .patch) (after (r .state) (r .heads .rows) values deadlines nexts prevs turns marks)
+        (r .answer) (r .patch) (after (r .state) (r .heads .heads) values deadlines nexts prevs turns marks)
         (r .size) (r .bytes) ⌝ }
 {
     match step {

@@ -8,7 +8,7 @@ use delay_queue::Heads;
 use entries::Ending;
 use input::Got;
 use keeping::Keeping;
-use keeping::Kept;
+use keeping::Synced;
 use libc::STDERR_FILENO;
 use recover::Seen;
 use wheel::Wheel;
@@ -20,8 +20,8 @@ ghost use lib.ListN.{length, take};
 ghost use Rattle.contracts.specs.Lent.{old, new};
 ghost use Rattle.contracts.specs.Tells.{Tells};
 ghost use Rattle.records.specs.Store.{before, after};
-ghost use Rattle.lines.specs.Running.{Passes, Closes, Ran};
-ghost use Rattle.noting.specs.Replies.{held, Answered};
+ghost use Rattle.lines.specs.Running.{Passes, Closes, ProgramRan};
+ghost use Rattle.noting.specs.Replies.{held, LineAnswered};
 
 // How many bytes of an unfinished line are kept, whether a patch is open, the store, how far the journal is kept, and
 // whether all went well.
@@ -30,12 +30,12 @@ struct Progress {
     patch: bool,
     state: Wheel,
     heads: Heads,
-    file: Kept,
+    file: Synced,
     fine: bool,
 }
 
 // Keeps what is noted, and only then gives the answers.
-fn settle(file: Kept, notes: &[u8], noted: usize, out: &[u8], at: usize) -> Keeping
+fn settle(file: Synced, notes: &[u8], noted: usize, out: &[u8], at: usize) -> Keeping
     requires { ⌜ (noted ≤ length (now notes)) × (at ≤ length (now out)) ⌝ }
     ensures { λ r. ⌜ (r .fine ≡ true → r .kept .length ≡ file .length + noted) ⌝ }
 {
@@ -81,19 +81,19 @@ fn answer(
     ensures { λ r. ⌜ r .kept ≤ 81 ⌝ }
     ensures { λ r. ⌜ (r .fine ≡ true →
         Passes
-        Answered
+        LineAnswered
         (length (old line))
         (take (run .kept) (old line))
         (old got)
         (held
         (run .patch)
-        (before (run .state) (run .heads .rows) values deadlines nexts prevs turns marks)
+        (before (run .state) (run .heads .heads) values deadlines nexts prevs turns marks)
         (run .file .length))
         (take (r .kept) (new line))
         []
         (held
         (r .patch)
-        (after (r .state) (r .heads .rows) values deadlines nexts prevs turns marks)
+        (after (r .state) (r .heads .heads) values deadlines nexts prevs turns marks)
         (r .file .length))) ⌝ }
 {
     let mut n = run.kept;
@@ -159,16 +159,16 @@ fn finish(
     requires { ⌜ (length (now notes) ≡ 40000) × (length (now out) ≡ 131072) ⌝ }
     ensures { λ r. ⌜ (r .fine ≡ true →
         Closes
-        Answered
+        LineAnswered
         (take (run .kept) (old line))
         (held
         (run .patch)
-        (before (run .state) (run .heads .rows) values deadlines nexts prevs turns marks)
+        (before (run .state) (run .heads .heads) values deadlines nexts prevs turns marks)
         (run .file .length))
         (got .ended)
         (held
         (r .patch)
-        (after (r .state) (r .heads .rows) values deadlines nexts prevs turns marks)
+        (after (r .state) (r .heads .heads) values deadlines nexts prevs turns marks)
         (r .file .length))) ⌝ }
 {
     if !input::at_end(got) {
@@ -214,7 +214,7 @@ struct Outcome {
     patch: bool,
     state: Wheel,
     heads: Heads,
-    file: Kept,
+    file: Synced,
     fine: bool,
 }
 
@@ -262,19 +262,19 @@ fn serve(
     requires { ⌜ (start .kept ≤ 81) × (length (now line) ≡ 81) ⌝ }
     requires { ⌜ (length (now notes) ≡ 40000) × (length (now out) ≡ 131072) ⌝ }
     ensures { λ r. ⌜ (r .fine ≡ true →
-        Ran
-        Answered
+        ProgramRan
+        LineAnswered
         (length (old line))
         (take (start .kept) (old line))
         (held
         (start .patch)
-        (before (start .state) (start .heads .rows) values deadlines nexts prevs turns marks)
+        (before (start .state) (start .heads .heads) values deadlines nexts prevs turns marks)
         (start .file .length))
         (r .bytes)
         (r .last .ended)
         (held
         (r .patch)
-        (after (r .state) (r .heads .rows) values deadlines nexts prevs turns marks)
+        (after (r .state) (r .heads .heads) values deadlines nexts prevs turns marks)
         (r .file .length))) ⌝ }
 {
     let mut buf = io::buffer();

@@ -6,7 +6,7 @@ use Prim.Native.Nat.{ℕ, suc, _%_, _^_, _≤_, _<_}
 use Rattle.times.specs.Times.{width}
 use Rattle.links.specs.Lists.{nobody}
 use Rattle.links.specs.Links.{at}
-use Rattle.stack.specs.Places.{slots, parking, expired, places, retired, levelAt}
+use Rattle.places.specs.Places.{slots, parking, expired, places, retired, levelAt}
 use Rattle.wheel.specs.Limited.{start}
 use Rattle.wheel.specs.Midway.{Belongs, Parked}
 use Rattle.records.specs.Records.{lastTurn}
@@ -20,7 +20,7 @@ pub record RecordAgrees (low h c w t m : ℕ) : Type 0 where
   pub last : t < 2 ^ 48
   pub wheel : m < slots → Belongs low h c m w
   pub parked : m ≡ parking → Parked h c w
-  pub stack : m ≡ expired → w ≡ c
+  pub expired : m ≡ expired → w ≡ c
   pub retired : places ≤ m → (m ≡ retired) × (t ≡ lastTurn)
 
 abbrev pub RecordsAgree : ℕ → ℕ → ℕ → ℕ → List ℕ → List ℕ → List ℕ → Type 0
@@ -39,7 +39,7 @@ pub record CanHold (e until p head first parked : ℕ) : Type 0 where
   pub below : p < expired
   pub high : 0 < levelAt p
   pub filled : head ≢ nobody
-  pub stack : first ≡ nobody
+  pub expired : first ≡ nobody
   pub late : e ≤ start e p
   pub due : start e p ≤ until
   pub own : start e p ≡ e → OwnStart (levelAt p) e parked

@@ -7,9 +7,9 @@ ghost use Rattle.contracts.specs.Tells.{Tells};
 ghost use Rattle.records.specs.Slices.{Room, before as slices};
 ghost use Rattle.records.specs.Words.{Sound};
 ghost use Rattle.records.specs.Store.{before};
-ghost use Rattle.stack.specs.Words.{stacksOf};
-ghost use Rattle.stack.specs.Heads.{headOf};
-ghost use Rattle.stack.specs.Places.{parking, expired};
+ghost use Rattle.places.specs.Words.{topsOf};
+ghost use Rattle.places.specs.Heads.{headOf};
+ghost use Rattle.places.specs.Places.{parking, expired};
 ghost use Rattle.wheel.specs.Midway.{Belongs, Parked};
 ghost use Rattle.judge.specs.Judge.{RecordAgrees, RecordsAgree, OwnStart, CanHold};
 
@@ -59,13 +59,13 @@ fn is_place(low: usize, hand: u16, clock: u64, when: u64, place: u16) -> bool
     let level = times::level_for(clock, when);
     if low < level {
         let slot = times::slot_for(when, level);
-        return place == stack::slot_place(level, slot);
+        return place == places::slot_place(level, slot);
     }
     if place == hand {
         return true;
     }
     let slot = times::slot_for(when, low);
-    place == stack::slot_place(low, slot)
+    place == places::slot_place(low, slot)
 }
 
 // Whether a timer with the deadline belongs on the parking list: in the block after the clock's, or in the clock's own if it is
@@ -73,7 +73,7 @@ fn is_place(low: usize, hand: u16, clock: u64, when: u64, place: u16) -> bool
 fn is_parked(hand: u16, clock: u64, when: u64) -> bool
     ensures { λ r. ⌜ Tells (Parked hand clock when) r ⌝ }
 {
-    if hand == stack::PARKING {
+    if hand == places::PARKING {
         return times::same_block(clock, when);
     }
     times::next_block(clock, when)
@@ -91,19 +91,19 @@ fn record_agrees(low: usize, hand: u16, clock: u64, when: u64, turn: u64, mark: 
     if records::LAST_TURN < turn {
         return false;
     }
-    if stack::is_slot(mark) {
+    if places::is_slot(mark) {
         return is_place(low, hand, clock, when, mark);
     }
-    if mark == stack::PARKING {
+    if mark == places::PARKING {
         return is_parked(hand, clock, when);
     }
-    if mark == stack::EXPIRED {
+    if mark == places::EXPIRED {
         return when == clock;
     }
-    if mark == stack::RETIRED {
+    if mark == places::RETIRED {
         return turn == records::LAST_TURN;
     }
-    mark == stack::FREE
+    mark == places::FREE
 }
 
 // Whether this holds of all n records.
@@ -152,32 +152,32 @@ fn is_own(elapsed: u64, level: usize, parked: u16) -> bool
 // Whether a poll at `until` can have the drain of `hand` in hand, but for the records.
 fn can_hold(elapsed: u64, tops: &[u16; 4], heads: &[[u16; 64]; 6], hand: u16, until: u64) -> bool
     ensures { λ r. ⌜
-        Tells (CanHold elapsed until hand (headOf (stacksOf (old tops)) (old heads) hand)
-        (headOf (stacksOf (old tops)) (old heads) expired) (headOf (stacksOf (old tops)) (old heads) parking)) r ⌝ }
+        Tells (CanHold elapsed until hand (headOf (topsOf (old tops)) (old heads) hand)
+        (headOf (topsOf (old tops)) (old heads) expired) (headOf (topsOf (old tops)) (old heads) parking)) r ⌝ }
 {
-    if stack::EXPIRED <= hand {
+    if places::EXPIRED <= hand {
         return false;
     }
-    let level = stack::level_of(hand);
+    let level = places::level_of(hand);
     if level == 0 {
         return false;
     }
-    if stack::head_of(tops, heads, hand) == links::NOBODY {
+    if places::head_of(tops, heads, hand) == links::NOBODY {
         return false;
     }
-    if stack::head_of(tops, heads, stack::EXPIRED) != links::NOBODY {
+    if places::head_of(tops, heads, places::EXPIRED) != links::NOBODY {
         return false;
     }
-    if hand == stack::PARKING {
+    if hand == places::PARKING {
         return times::block_over(elapsed, until);
     }
-    let slot = stack::slot_of(hand);
+    let slot = places::slot_of(hand);
     let start = times::slot_start(elapsed, level, slot);
     if until < start {
         return false;
     }
     if start == elapsed {
-        let parked = stack::head_of(tops, heads, stack::PARKING);
+        let parked = places::head_of(tops, heads, places::PARKING);
         return is_own(elapsed, level, parked);
     }
     elapsed < start
@@ -196,19 +196,19 @@ pub fn is_sound(
 ) -> bool
     ensures { λ r. ⌜ Tells (Sound (before state heads values deadlines nexts prevs turns marks)) r ⌝ }
 {
-    let stacks = state.stacks;
+    let top = state.tops;
     // no u16 is over the limit
-    let n = stacks.n;
+    let n = top.n;
     if n == 0 {
         return false;
     }
     if !has_room(n, values, deadlines, nexts, prevs, turns, marks) {
         return false;
     }
-    let rows = state.occupied;
-    let tops = stack::tops_of(stacks);
+    let occupied = state.occupied;
+    let tops = places::tops_in(top);
     let e = state.elapsed;
-    if !wheel::is_whole(e, &rows, &tops, &heads, nexts, prevs, marks) {
+    if !wheel::is_whole(e, &occupied, &tops, &heads, nexts, prevs, marks) {
         return false;
     }
     let hand = state.hand;
@@ -222,7 +222,7 @@ pub fn is_sound(
     if !can_hold(e, &tops, &heads, hand, until) {
         return false;
     }
-    let level = stack::level_of(hand);
+    let level = places::level_of(hand);
     let start = wheel::list_start(e, hand);
     records_agree(level - 1, hand, start, n, deadlines, turns, marks)
 }

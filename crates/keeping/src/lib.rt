@@ -1,18 +1,18 @@
 // "Write each call that could change the store before its answer is given": bytes are written to a file and synced, and
 // answers are given only behind what they need of it. What is written no contract can say; but how much of a file is
-// kept only a sync can tell, since no other crate can make a `Kept`, and without one that goes far enough there is no
+// kept only a sync can tell, since no other crate can make a `Synced`, and without one that goes far enough there is no
 // answer.
 use libc::STDOUT_FILENO;
 ghost use Prim.Native.Nat.{_+_, _≤_};
 ghost use lib.ListN.{length};
 ghost use Rattle.contracts.specs.Lent.{old};
-ghost use Rattle.keeping.specs.Keeping.{Keeps};
+ghost use Rattle.keeping.specs.Keeping.{KeepsFile};
 
 // The last place in a file.
 const LAST: u64 = 9223372036854775807;
 
 // A file, and how many bytes of it are written and synced.
-pub struct Kept {
+pub struct Synced {
     file: i32,
     length: u64,
 }
@@ -20,14 +20,14 @@ pub struct Kept {
 // Whether all went well, and what is kept then.
 pub struct Keeping {
     pub fine: bool,
-    pub kept: Kept,
+    pub kept: Synced,
 }
 
 // The file is cut to that length and synced. Where that fails nothing is said to be kept.
 pub fn cut(file: i32, length: u64) -> Keeping
-    ensures { λ r. ⌜ Keeps 0 length (r .fine) (r .kept .length) ⌝ }
+    ensures { λ r. ⌜ KeepsFile 0 length (r .fine) (r .kept .length) ⌝ }
 {
-    let none = Kept { file, length: 0 };
+    let none = Synced { file, length: 0 };
     if LAST < length {
         return Keeping {
             fine: false,
@@ -46,7 +46,7 @@ pub fn cut(file: i32, length: u64) -> Keeping
             kept: none,
         };
     }
-    let kept = Kept { file, length };
+    let kept = Synced { file, length };
     Keeping { fine: true, kept }
 }
 
@@ -67,8 +67,8 @@ fn write_at(file: i32, at: u64, bytes: &[u8]) -> bool
 }
 
 // The bytes are written behind what is kept, and synced; where there are none neither is done.
-pub fn keep(kept: Kept, bytes: &[u8]) -> Keeping
-    ensures { λ r. ⌜ Keeps (kept .length) (length (old bytes)) (r .fine) (r .kept .length) ⌝ }
+pub fn keep(kept: Synced, bytes: &[u8]) -> Keeping
+    ensures { λ r. ⌜ KeepsFile (kept .length) (length (old bytes)) (r .fine) (r .kept .length) ⌝ }
 {
     let n = bytes.len() as u64;
     if n == 0 {
@@ -88,7 +88,7 @@ pub fn keep(kept: Kept, bytes: &[u8]) -> Keeping
     if libc::fdatasync(file) != 0 {
         return Keeping { fine: false, kept };
     }
-    let more = Kept {
+    let more = Synced {
         file,
         length: at + n,
     };
@@ -100,7 +100,7 @@ pub fn keep(kept: Kept, bytes: &[u8]) -> Keeping
 
 // Gives the answers to calls that write n bytes behind what was kept `before` them, now that these are kept, and says
 // whether all went well.
-pub fn say(before: Kept, n: usize, kept: Kept, answers: &[u8]) -> bool
+pub fn say(before: Synced, n: usize, kept: Synced, answers: &[u8]) -> bool
     requires { ⌜ before .length + n ≤ kept .length ⌝ }
 {
     io::write_all(STDOUT_FILENO, answers)

@@ -22,7 +22,7 @@ pub fn cancel_twice(
         (before state heads values deadlines nexts prevs turns marks)
         key
         (r .answer)
-        (after (r .state) (r .heads .rows) values deadlines nexts prevs turns marks) ⌝ }
+        (after (r .state) (r .heads .heads) values deadlines nexts prevs turns marks) ⌝ }
 {
     let first = remove(
         state,
@@ -37,6 +37,6 @@ pub fn cancel_twice(
     );
     let s = first.state;
     let heads_after = first.heads;
-    let h = delay_queue::rows_of(heads_after);
+    let h = delay_queue::heads_in(heads_after);
     remove(s, h, values, deadlines, nexts, prevs, turns, marks, key)
 }

@@ -14,7 +14,7 @@ ghost use Prim.Native.Nat.{_+_, _≤_, _<_};
 ghost use lib.ListN.{length};
 ghost use Rattle.contracts.specs.Lent.{old, new};
 ghost use Rattle.decimals.specs.Text.{bytes};
-ghost use Rattle.lines.specs.Running.{Chunk, Closes, Ran};
+ghost use Rattle.lines.specs.Running.{Chunk, Closes, ProgramRan};
 ghost use Rattle.light.specs.Light.{wordOf, digitOf, hexOf, lineOf};
 ghost use Rattle.light.specs.Steps.{AmountOf, Stepped};
 ghost use Rattle.writing.specs.Writing.{Wrote};
@@ -191,7 +191,7 @@ struct Outcome {
 // comes there.
 fn read_all(line: &mut [u8]) -> Outcome
     requires { ⌜ length (now line) ≡ 81 ⌝ }
-    ensures { λ r. ⌜ Ran Stepped 81 [] State.Nothing (r .bytes) (r .last .ended) (r .state) ⌝ }
+    ensures { λ r. ⌜ ProgramRan Stepped 81 [] State.Nothing (r .bytes) (r .last .ended) (r .state) ⌝ }
 {
     let mut buf = io::buffer();
     let mut n: usize = 0;

@@ -43,7 +43,7 @@ module _ {A : Type 0} (Takes : List ℕ → A → A → Type 0) where
       pub passes : Passes k (joined chunks) a k′ [] a′
 
     -- A program's run, where k was kept at first: chunks of so many bytes were read and their lines taken, and then it closed.
-    pub record Ran (k : List ℕ) (a : A) (bytes : ℕ) (ended : Bool) (a′ : A) : Type 0 where
+    pub record ProgramRan (k : List ℕ) (a : A) (bytes : ℕ) (ended : Bool) (a′ : A) : Type 0 where
       pub kept : List ℕ
       pub short : length kept ≤ m
       pub between : A

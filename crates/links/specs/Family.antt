@@ -48,9 +48,9 @@ abbrev pub headLeft : (ℕ → ℕ) → ℕ → ℕ → ℕ
 headLeft nx i h = cond (eqb i h) (nx i) h
 
 -- whose link goes past i when it leaves: nobody's, where i is the head
-abbrev pub linkBefore : (ℕ → ℕ) → ℕ → ℕ → ℕ
-linkBefore pv i h = cond (eqb i h) nobody (pv i)
+abbrev pub linkPast : (ℕ → ℕ) → ℕ → ℕ → ℕ
+linkPast pv i h = cond (eqb i h) nobody (pv i)
 
 -- whose back link does: where i is the tail it is the head's, which keeps the new tail
-abbrev pub linkAfter : (ℕ → ℕ) → ℕ → ℕ → ℕ
-linkAfter nx i h = cond (eqb (nx i) nobody) (headLeft nx i h) (nx i)
+abbrev pub backPast : (ℕ → ℕ) → ℕ → ℕ → ℕ
+backPast nx i h = cond (eqb (nx i) nobody) (headLeft nx i h) (nx i)

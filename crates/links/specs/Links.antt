@@ -6,8 +6,8 @@ use Prim.Native.Nat.{ℕ, _≤_, _<_}
 use lib.ListN.{length, getD, set}
 use lib.Dec.{eqb}
 use Rattle.links.specs.Lists.{nobody}
-use Rattle.links.specs.Family.{Net, tailOr, headLeft, linkBefore, linkAfter}
-use Rattle.contracts.specs.Lent.{Lent, Turned, old, new}
+use Rattle.links.specs.Family.{Net, tailOr, headLeft, linkPast, backPast}
+use Rattle.contracts.specs.Lent.{Lent, Returned, old, new}
 
 pub record Links : Type 0 where
   pub nexts : List ℕ
@@ -21,7 +21,7 @@ links ns ps ms = record { nexts = ns; prevs = ps; marks = ms }
 abbrev pub lent : (nexts prevs marks : Lent (List ℕ)) → Links
 lent nexts prevs marks = links (nexts .now) (prevs .now) (marks .now)
 
-module _ (nexts prevs marks : Turned (List ℕ)) where
+module _ (nexts prevs marks : Returned (List ℕ)) where
   abbrev pub before : Links
   before = links (old nexts) (old prevs) (old marks)
 
@@ -58,8 +58,8 @@ headWith i h = cond (eqb h nobody) i h
 -- i leaves its neighbours in the list of the head h, who are joined, and is loose
 unfoldable pub cutOut : Links → ℕ → ℕ → Links
 cutOut s i h =
-    links (set (setN (s .nexts) (linkBefore (at (s .prevs)) i h) (at (s .nexts) i)) i nobody)
-    (set (setN (s .prevs) (linkAfter (at (s .nexts)) i h) (at (s .prevs) i)) i nobody)
+    links (set (setN (s .nexts) (linkPast (at (s .prevs)) i h) (at (s .nexts) i)) i nobody)
+    (set (setN (s .prevs) (backPast (at (s .nexts)) i h) (at (s .prevs) i)) i nobody)
     (set (s .marks) i nobody)
 
 -- the head, h before, of the list that i leaves
@@ -92,5 +92,5 @@ pub record CanCut (s : Links) (i h : ℕ) : Type 0 where
   pub next : i < length (s .nexts)
   pub prev : i < length (s .prevs)
   pub mark : i < length (s .marks)
-  pub before : Inside (linkBefore (at (s .prevs)) i h) (s .nexts)
-  pub after : Inside (linkAfter (at (s .nexts)) i h) (s .prevs)
+  pub link : Inside (linkPast (at (s .prevs)) i h) (s .nexts)
+  pub back : Inside (backPast (at (s .nexts)) i h) (s .prevs)

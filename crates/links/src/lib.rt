@@ -105,11 +105,11 @@ pub fn cut(nexts: &mut [u16], prevs: &mut [u16], marks: &mut [u16], item: u16, h
     ensures { λ r. ⌜ r ≡ headAfter (before nexts prevs marks) item head ⌝ }
     ensures { λ _. ⌜ after nexts prevs marks ≡ cutOut (before nexts prevs marks) item head ⌝ }
 {
-    let before = prevs[item as usize];
-    let after = nexts[item as usize];
-    let first = choose(item, head, after, head);
-    put(nexts, choose(item, head, NOBODY, before), after);
-    put(prevs, choose(after, NOBODY, first, after), before);
+    let prev = prevs[item as usize];
+    let next = nexts[item as usize];
+    let first = choose(item, head, next, head);
+    put(nexts, choose(item, head, NOBODY, prev), next);
+    put(prevs, choose(next, NOBODY, first, next), prev);
     nexts[item as usize] = NOBODY;
     prevs[item as usize] = NOBODY;
     marks[item as usize] = NOBODY;

@@ -1,7 +1,7 @@
 // A store as text: its free and retired records in runs, the lists where timers wait, and every record. What lies in the
 // lists is tested here and not asked for, so a broken store has its text too.
 use pen::Pen;
-use stack::Stacks;
+use places::Tops;
 use wheel::Wheel;
 ghost use Prim.Native.Nat.{_≤_, _<_};
 ghost use lib.ListN.{length};
@@ -116,7 +116,7 @@ fn free(out: &mut [u8], pen: Pen, nexts: &[u16], n: u16, head: u16) -> Pen {
 
 // Record i more, if its mark says that it is retired.
 fn add_retired(out: &mut [u8], pen: Pen, run: Run, marks: &[u16], i: u16) -> Held {
-    if half_at(marks, i, 0) == stack::RETIRED {
+    if half_at(marks, i, 0) == places::RETIRED {
         return add(out, pen, run, i);
     }
     Held { pen, run }
@@ -182,13 +182,13 @@ fn slot(out: &mut [u8], pen: Pen, nexts: &[u16], n: u16, k: u64, s: u64, head: u
 
 // All slots, levels and slots rising.
 fn slots(out: &mut [u8], pen: Pen, tops: &[u16; 4], heads: &[[u16; 64]; 6], nexts: &[u16]) -> Pen {
-    let n = stack::count_of(tops);
+    let n = places::count_of(tops);
     let mut p = pen;
     let mut place = 0u16;
-    while place < stack::SLOTS {
-        let h = stack::head_of(tops, heads, place);
-        let level = stack::level_of(place);
-        let s = stack::slot_of(place);
+    while place < places::SLOTS {
+        let h = places::head_of(tops, heads, place);
+        let level = places::level_of(place);
+        let s = places::slot_of(place);
         p = slot(out, p, nexts, n, level as u64, s as u64, h);
         place += 1;
     }
@@ -199,18 +199,18 @@ fn slots(out: &mut [u8], pen: Pen, tops: &[u16; 4], heads: &[[u16; 64]; 6], next
 fn lists(
     out: &mut [u8],
     pen: Pen,
-    stacks: Stacks,
+    top: Tops,
     heads: &[[u16; 64]; 6],
     nexts: &[u16],
     marks: &[u16],
 ) -> Pen {
-    let n = stacks.n;
-    let tops = stack::tops_of(stacks);
-    let p = free(out, pen, nexts, n, stacks.free);
+    let n = top.n;
+    let tops = places::tops_in(top);
+    let p = free(out, pen, nexts, n, top.free);
     let q = retired(out, p, marks, n);
-    let r = named(out, q, b"expired", nexts, n, stacks.expired);
+    let r = named(out, q, b"expired", nexts, n, top.expired);
     let t = slots(out, r, &tops, heads, nexts);
-    named(out, t, b"parked", nexts, n, stacks.parking)
+    named(out, t, b"parked", nexts, n, top.parking)
 }
 
 // What a record holds beside its links.
@@ -330,8 +330,8 @@ fn hand(out: &mut [u8], pen: Pen, place: u16, until: u64) -> Pen {
     if place == links::NOBODY {
         return pen;
     }
-    let level = stack::level_of(place);
-    let s = stack::slot_of(place);
+    let level = places::level_of(place);
+    let s = places::slot_of(place);
     let p = field(out, pen, b"hand ", until);
     let q = field(out, p, b" ", level as u64);
     let r = field(out, q, b" ", s as u64);
@@ -353,14 +353,14 @@ pub fn write_store(
 ) -> Pen
     ensures { λ r. ⌜ r .at ≤ length (old out) ⌝ }
 {
-    let stacks = state.stacks;
-    let n = stacks.n;
+    let top = state.tops;
+    let n = top.n;
     if n == 0 {
         let p = pen::text(out, pen, b"store none");
         return pen::byte(out, p, b'\n');
     }
     let p = opening(out, pen, n, state.elapsed);
     let q = hand(out, p, state.hand, state.until);
-    let r = lists(out, q, stacks, &heads, nexts, marks);
+    let r = lists(out, q, top, &heads, nexts, marks);
     records(out, r, values, deadlines, turns, n)
 }

@@ -1,6 +1,6 @@
 pub mod Means
 pub mod Line
 pub mod Once
-pub mod Turns
+pub mod NextLines
 pub mod Replies
 pub mod Running

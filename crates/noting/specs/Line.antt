@@ -34,8 +34,8 @@ desk p s n k o e = record { patch = p; store = s; notes = n; noted = k; out = o;
 abbrev pub Fits : ℕ → ℕ → ℕ → ℕ → Type 0
 Fits noted m at n = (noted + noteRoom ≤ m) × (at + answerRoom ≤ n)
 
-abbrev pub Room : Desk → Type 0
-Room a = Fits (a .noted) (length (a .notes)) (a .at) (length (a .out))
+abbrev pub DeskRoom : Desk → Type 0
+DeskRoom a = Fits (a .noted) (length (a .notes)) (a .at) (length (a .out))
 
 -- the step x is done; what it writes to the journal stands behind what was noted, and its answer behind the answers
 pub data Does (x : Step) (a : Desk) : Desk → Type 0 where
@@ -51,8 +51,8 @@ pub data LineClaim (l : List ℕ) (a : Desk) : Desk → Type 0 where
 
 -- what `answer_line` claims: where there is no room nothing is done, and it says so
 pub data NoteClaim (l : List ℕ) (a : Desk) : Bool → Desk → Type 0 where
-  done : {b : Desk} → Room a → LineClaim l a b → NoteClaim l a true b
-  full : (Room a → ⊥) → NoteClaim l a false a
+  done : {b : Desk} → DeskRoom a → LineClaim l a b → NoteClaim l a true b
+  full : (DeskRoom a → ⊥) → NoteClaim l a false a
 
 -- and `answer_last`: the input has ended, and what was kept, l, is the last line, if it is anything
 pub data LastClaim (l : List ℕ) (a : Desk) : Bool → Desk → Type 0 where

@@ -17,7 +17,7 @@ ghost use Rattle.contracts.specs.Tells.{Tells};
 ghost use Rattle.records.specs.Store.{before, after};
 ghost use Rattle.noting.specs.Means.{SaidClaim};
 ghost use Rattle.noting.specs.Line.{desk, noteRoom, Fits, Does, LineClaim, NoteClaim, LastClaim};
-ghost use Rattle.noting.specs.Feed.{stand, Turn, FeedClaim};
+ghost use Rattle.noting.specs.Feed.{stand, NextLine, FeedClaim};
 
 // No step writes more bytes to the journal.
 pub const NOTE_ROOM: usize = 36;
@@ -29,7 +29,7 @@ enum Said {
 }
 
 // Whether a patch is open, where what is noted ends, where the answers end, and the state and the heads after a line.
-struct Done {
+struct LineDone {
     patch: bool,
     noted: usize,
     at: usize,
@@ -101,31 +101,31 @@ fn do_step(
     noted: usize,
     out: &mut [u8],
     at: usize,
-) -> Done
+) -> LineDone
     requires { ⌜ noted + noteRoom ≤ length (now notes) ⌝ }
     ensures { λ r. ⌜
         Does
         step
         (desk
         patch
-        (before state (heads .rows) values deadlines nexts prevs turns marks)
+        (before state (heads .heads) values deadlines nexts prevs turns marks)
         (old notes)
         noted
         (old out)
         at)
         (desk
         (r .patch)
-        (after (r .state) (r .heads .rows) values deadlines nexts prevs turns marks)
+        (after (r .state) (r .heads .heads) values deadlines nexts prevs turns marks)
         (new notes)
         (r .noted)
         (new out)
         (r .at)) ⌝ }
 {
-    let rows = delay_queue::rows_of(heads);
+    let grid = delay_queue::heads_in(heads);
     let r = journal::act(
         patch,
         state,
-        rows,
+        grid,
         values,
         deadlines,
         nexts,
@@ -141,7 +141,7 @@ fn do_step(
     let left = r.heads;
     let behind = writing::push(notes, noted, &bytes[..size]);
     let end = write_answer(out, at, answer);
-    Done {
+    LineDone {
         patch: r.patch,
         noted: behind,
         at: end,
@@ -166,21 +166,21 @@ fn do_line(
     noted: usize,
     out: &mut [u8],
     at: usize,
-) -> Done
+) -> LineDone
     requires { ⌜ noted + noteRoom ≤ length (now notes) ⌝ }
     ensures { λ r. ⌜
         LineClaim
         (old line)
         (desk
         patch
-        (before state (heads .rows) values deadlines nexts prevs turns marks)
+        (before state (heads .heads) values deadlines nexts prevs turns marks)
         (old notes)
         noted
         (old out)
         at)
         (desk
         (r .patch)
-        (after (r .state) (r .heads .rows) values deadlines nexts prevs turns marks)
+        (after (r .state) (r .heads .heads) values deadlines nexts prevs turns marks)
         (new notes)
         (r .noted)
         (new out)
@@ -206,7 +206,7 @@ fn do_line(
         ),
         Said::Bad => {
             let end = write_bad(out, at);
-            Done {
+            LineDone {
                 patch,
                 noted,
                 at: end,
@@ -257,7 +257,7 @@ pub fn answer_line(
         (old line)
         (desk
         patch
-        (before state (heads .rows) values deadlines nexts prevs turns marks)
+        (before state (heads .heads) values deadlines nexts prevs turns marks)
         (old notes)
         noted
         (old out)
@@ -265,7 +265,7 @@ pub fn answer_line(
         (r .done)
         (desk
         (r .patch)
-        (after (r .state) (r .heads .rows) values deadlines nexts prevs turns marks)
+        (after (r .state) (r .heads .heads) values deadlines nexts prevs turns marks)
         (new notes)
         (r .noted)
         (new out)
@@ -310,7 +310,7 @@ pub fn answer_line(
 }
 
 // Takes one line out of the chunk and does it, or keeps it where it does not end in the chunk.
-fn turn(
+fn next_line(
     got: &[u8],
     from: usize,
     line: &mut [u8],
@@ -331,7 +331,7 @@ fn turn(
 ) -> Fed
     requires { ⌜ noted + noteRoom ≤ length (now notes) ⌝ }
     ensures { λ r. ⌜
-        Turn
+        NextLine
         (old got)
         (stand
         from
@@ -339,7 +339,7 @@ fn turn(
         n
         (desk
         patch
-        (before state (heads .rows) values deadlines nexts prevs turns marks)
+        (before state (heads .heads) values deadlines nexts prevs turns marks)
         (old notes)
         noted
         (old out)
@@ -350,7 +350,7 @@ fn turn(
         (r .kept)
         (desk
         (r .patch)
-        (after (r .state) (r .heads .rows) values deadlines nexts prevs turns marks)
+        (after (r .state) (r .heads .heads) values deadlines nexts prevs turns marks)
         (new notes)
         (r .noted)
         (new out)
@@ -436,14 +436,14 @@ pub fn answer_lines(
         from
         (old line)
         n
-        (desk patch (before state (heads .rows) values deadlines nexts prevs turns marks) (old notes) 0 (old out) 0))
+        (desk patch (before state (heads .heads) values deadlines nexts prevs turns marks) (old notes) 0 (old out) 0))
         (stand
         (r .next)
         (new line)
         (r .kept)
         (desk
         (r .patch)
-        (after (r .state) (r .heads .rows) values deadlines nexts prevs turns marks)
+        (after (r .state) (r .heads .heads) values deadlines nexts prevs turns marks)
         (new notes)
         (r .noted)
         (new out)
@@ -457,7 +457,7 @@ pub fn answer_lines(
     let mut after = state;
     let mut left = heads;
     while goes(i, got.len(), noted, notes.len(), end, out.len()) {
-        let r = turn(
+        let r = next_line(
             got,
             i,
             line,
@@ -513,11 +513,11 @@ pub fn answer_last(
     ensures { λ r. ⌜
         LastClaim
         (old line)
-        (desk patch (before state (heads .rows) values deadlines nexts prevs turns marks) (old notes) 0 (old out) 0)
+        (desk patch (before state (heads .heads) values deadlines nexts prevs turns marks) (old notes) 0 (old out) 0)
         (r .done)
         (desk
         (r .patch)
-        (after (r .state) (r .heads .rows) values deadlines nexts prevs turns marks)
+        (after (r .state) (r .heads .heads) values deadlines nexts prevs turns marks)
         (new notes)
         (r .noted)
         (new out)

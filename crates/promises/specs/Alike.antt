@@ -5,7 +5,7 @@ use mathlib.Core.List.{List, [], _∷_}
 use Prim.Native.Nat.{ℕ, _*_, _<_}
 use lib.ListN.{take}
 use Rattle.links.specs.Links.{Links, links}
-use Rattle.stack.specs.Words.{stackWords}
+use Rattle.places.specs.Words.{placeWords}
 use Rattle.wheel.specs.Words.{wheelWords}
 use Rattle.records.specs.Slices.{Fits}
 use Rattle.records.specs.View.{View}
@@ -24,8 +24,8 @@ linksTo n s = links (take n (s .nexts)) (take n (s .prevs)) (take n (s .marks))
 -- the store with each slice cut to "what N records need": two words of `values` a record, one of every other slice
 unfoldable pub upTo : ℕ → QueueWords → QueueWords
 upTo n s =
-    let t = s .wheel .stack in
-    queueWords (wheelWords (elapsed s) (s .wheel .occupied) (stackWords (t .stacks) (t .heads) (linksTo n (t .links))))
+    let t = s .wheel .places in
+    queueWords (wheelWords (elapsed s) (s .wheel .occupied) (placeWords (t .tops) (t .heads) (linksTo n (t .links))))
     (take (2 * n) (s .values)) (take n (s .deadlines)) (take n (s .turns)) (s .hand) (s .until)
 
 abbrev pub cut : QueueWords → QueueWords
@@ -60,8 +60,8 @@ SameRoom c s t = isFormat c ≡ true
     → (Fits (slices s) (sizeOf c) → Fits (slices t) (sizeOf c)) × (Fits (slices t) (sizeOf c) → Fits (slices s) (sizeOf c))
 
 -- whatever is called on two stores that R relates, the answers are the same, and what is left R relates again
-abbrev pub Keeps : (QueueWords → QueueWords → Type 0) → Type 0
-Keeps R =
+abbrev pub Lasts : (QueueWords → QueueWords → Type 0) → Type 0
+Lasts R =
     (c : Call) (s t s′ t′ : QueueWords) (a b : Answer) → R s t → SameRoom c s t → CallClaim c s a s′ → CallClaim c t b t′
     → (a ≡ b) × R s′ t′
 

@@ -4,7 +4,7 @@ use mathlib.Core.Bool.{true, cond}
 use mathlib.Core.List.{List, [], _∷_, _++_}
 use Prim.Native.Nat.{ℕ, _+_, _*_, _≤_}
 use lib.Dec.{ltb}
-use Rattle.stack.specs.Places.{expired, levelAt}
+use Rattle.places.specs.Places.{expired, levelAt}
 use Rattle.wheel.specs.Drain.{heights}
 use Rattle.queue.specs.declared.Answer.{Answer}
 use Rattle.queue.specs.Told.{Told, told, Hands}
@@ -80,12 +80,12 @@ pub data OutOrRemoved (k v d : ℕ) (x : Asked) : Type 0 where
 
 -- "within .. accepted polls": a call of the run is such a one, and up to it, itself included, the run has at most n polls that ended (02 [10])
 pub record Within (n : ℕ) (P : Asked → Type 0) (l : List Asked) : Type 0 where
-  pub before : List Asked
+  pub front : List Asked
   pub call : Asked
-  pub after : List Asked
-  pub split : l ≡ before ++ call ∷ after
+  pub behind : List Asked
+  pub split : l ≡ front ++ call ∷ behind
   pub such : P call
-  pub few : tallyEnded isPoll (before ++ call ∷ []) ≤ n
+  pub few : tallyEnded isPoll (front ++ call ∷ []) ≤ n
 
 -- it is so within n ended polls, and pending no more at the end
 pub record LeavesWithin (n k v d : ℕ) (l : List Asked) (u : QueueWords) : Type 0 where

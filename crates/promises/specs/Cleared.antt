@@ -5,7 +5,7 @@ use mathlib.Core.List.{List, [], _∷_, _++_}
 use Prim.Native.Nat.{ℕ, zero, suc, _+_, _<_}
 use lib.Dec.{eqb}
 use Rattle.links.specs.Lists.{Mem}
-use Rattle.stack.specs.Places.{free}
+use Rattle.places.specs.Places.{free}
 use Rattle.records.specs.Records.{lastTurn, At, freed}
 use Rattle.records.specs.Words.{QueueWords, count, elapsed, view}
 use Rattle.promises.specs.Looking.{isPending}

@@ -13,7 +13,7 @@ use Rattle.delay_queue.specs.declared.Call.the-variants as C
 use Rattle.delay_queue.specs.Claims.{CallClaim}
 use Rattle.promises.specs.Runs.{Asked, Runs, Each}
 use Rattle.promises.specs.Polls.{PollAt}
-use Rattle.promises.specs.KeysStay.{Out}
+use Rattle.promises.specs.KeysStay.{HandsKey}
 
 -- the call on s, accepted, sets the timer of k for `when`: it inserts it, or resets it, "a reset counting as a new placing"; or it is a poll that hands it out
 -- and "places it at w plus period under the same key" (02 [7])
@@ -40,7 +40,7 @@ abbrev pub storedOn : {s t : QueueWords} {k : ℕ} → SetOn s k t → ℕ
 storedOn {s} x = max (x .when) (elapsed s)
 
 -- from s on the timer of j is set, then that of k, with any calls after each; neither is set again, and t is what is left
-pub record SetInTurn (s : QueueWords) (j k : ℕ) (t : QueueWords) : Type 0 where
+pub record SetInOrder (s : QueueWords) (j k : ℕ) (t : QueueWords) : Type 0 where
   pub set : QueueWords
   pub later : QueueWords
   pub both : QueueWords
@@ -55,7 +55,7 @@ pub record SetInTurn (s : QueueWords) (j k : ℕ) (t : QueueWords) : Type 0 wher
 
 -- ---- such runs there are
 
--- two timers set in turn, and a call that hands out the second
+-- two timers set one after the other, and a call that hands out the second
 pub record SecondOut : Type 0 where
   pub start : QueueWords
   pub reached : QueueWords
@@ -65,6 +65,6 @@ pub record SecondOut : Type 0 where
   pub call : Call
   pub answer : Answer
   pub sound : Sound start
-  pub run : SetInTurn start one two reached
+  pub run : SetInOrder start one two reached
   pub poll : CallClaim call reached answer left
-  pub out : Out two (told answer)
+  pub out : HandsKey two (told answer)

@@ -1,7 +1,7 @@
 -- One record's turn and place, before and after.
 use Prim.Native.Nat.{ℕ, _+_}
 use Rattle.links.specs.Lists.{change}
-use Rattle.stack.specs.Places.{free, put}
+use Rattle.places.specs.Places.{free, put}
 use Rattle.records.specs.View.{View, withLists, withTurn, upd}
 
 -- ---- the lists lose members, or one record is freed, or placed

@@ -6,7 +6,7 @@ use Rattle.queue.specs.Told.{told}
 use Rattle.records.specs.View.{View}
 use Rattle.records.specs.Records.{Names}
 use Rattle.promises.specs.Runs.{Asked, accepted}
-use Rattle.promises.specs.KeysStay.{Aims, Out}
+use Rattle.promises.specs.KeysStay.{Aims, HandsKey}
 
 -- ---- what is said
 
@@ -21,4 +21,4 @@ pub record Reaches (v : View) (k x q w : ℕ) : Type 0 where
 
 -- the call leaves the timer of k alone: it is no accepted reset or remove of k, no accepted format or clear, and does not hand it out
 abbrev pub Spares : ℕ → Asked → Type 0
-Spares k x = (Aims k (x .call) → accepted x ≡ false) × (Out k (told (x .answer)) → ⊥)
+Spares k x = (Aims k (x .call) → accepted x ≡ false) × (HandsKey k (told (x .answer)) → ⊥)

@@ -18,5 +18,5 @@ Aims k C.Length = ⊥
 Aims k C.Clear = Unit {0}
 
 -- the answer hands out the timer of k: "`out key value deadline moves drains`"
-abbrev pub Out : ℕ → Told → Type 0
-Out k x = (value : ℕ) × (deadline : ℕ) × (moves : ℕ) × (drains : ℕ) × (Hands x k value deadline moves drains)
+abbrev pub HandsKey : ℕ → Told → Type 0
+HandsKey k x = (value : ℕ) × (deadline : ℕ) × (moves : ℕ) × (drains : ℕ) × (Hands x k value deadline moves drains)

@@ -6,7 +6,7 @@ use Prim.Native.Nat.{ℕ, _≤_, _<_}
 use lib.Dec.{ltb}
 use Rattle.times.specs.Times.{floor}
 use Rattle.links.specs.Lists.{Mem}
-use Rattle.stack.specs.Places.{expired, free, levelAt}
+use Rattle.places.specs.Places.{expired, free, levelAt}
 use Rattle.wheel.specs.Words.{wheelWords}
 use Rattle.records.specs.View.{View}
 use Rattle.records.specs.Words.{QueueWords, queueWords, markOf}
@@ -56,7 +56,7 @@ Before now x = (w : ℕ) → x ≡ T.wake w → now < w
 
 -- the words of s at another elapsed
 abbrev pub atTime : ℕ → QueueWords → QueueWords
-atTime e s = queueWords (wheelWords e (s .wheel .occupied) (s .wheel .stack)) (s .values) (s .deadlines) (s .turns) (s .hand) (s .until)
+atTime e s = queueWords (wheelWords e (s .wheel .occupied) (s .wheel .places)) (s .values) (s .deadlines) (s .turns) (s .hand) (s .until)
 
 -- 02 [14]: "hands out nothing, makes no moves and changes only elapsed"
 pub record Idle (s : QueueWords) (now : ℕ) (a : Answer) (t : QueueWords) : Type 0 where

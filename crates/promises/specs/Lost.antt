@@ -2,7 +2,7 @@
 use mathlib.Core.Logic.{_≢_}
 use Prim.Native.Nat.{ℕ, _<_}
 use Rattle.links.specs.Lists.{Mem}
-use Rattle.stack.specs.Places.{retired}
+use Rattle.places.specs.Places.{retired}
 use Rattle.records.specs.Words.{QueueWords, count, markOf, view}
 
 -- "every record is in exactly one place (free, retired, expired stack or one slot)", and "marks tell the true place": the record i is in none of them, as

@@ -2,7 +2,7 @@
 use mathlib.Core.Path.{_≡_}
 use mathlib.Core.List.{[]}
 use Prim.Native.Nat.{ℕ, _≤_}
-use Rattle.stack.specs.Places.{expired}
+use Rattle.places.specs.Places.{expired}
 use Rattle.queue.specs.declared.Answer.{Answer}
 use Rattle.queue.specs.Told.{told}
 use Rattle.records.specs.Words.{QueueWords, elapsed, view, AtRest, Sound}
@@ -15,7 +15,7 @@ pub record ComesFrom (s : QueueWords) : Type 0 where
   pub from : QueueWords
   pub sound : Sound from
   pub at-rest : AtRest from
-  pub stack : view from .lists expired ≡ []
+  pub expired : view from .lists expired ≡ []
   pub due : elapsed from ≤ s .until
   pub limit : ℕ
   pub answer : Answer

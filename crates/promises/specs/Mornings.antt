@@ -3,7 +3,7 @@ use mathlib.Core.Path.{_≡_}
 use mathlib.Core.List.{List, [], _∷_}
 use Prim.Native.Nat.{ℕ}
 use Rattle.times.specs.Times.{levelOf}
-use Rattle.stack.specs.Places.{parking, free}
+use Rattle.places.specs.Places.{parking, free}
 use Rattle.queue.specs.declared.Answer.{Answer}
 use Rattle.queue.specs.Told.{told}
 use Rattle.queue.specs.Told as T

@@ -5,8 +5,8 @@ use mathlib.Core.List.{List, [], _∷_}
 use Prim.Native.Nat.{ℕ}
 use lib.ListN.{replicate}
 use Rattle.links.specs.Lists.{nobody}
-use Rattle.stack.specs.Places.{free}
-use Rattle.stack.specs.Format.{over, formatted}
+use Rattle.places.specs.Places.{free}
+use Rattle.places.specs.Format.{over, formatted}
 use Rattle.wheel.specs.declared.Wheel.{Wheel}
 use Rattle.wheel.specs.Words.{wheelWords}
 use Rattle.queue.specs.declared.Answer.{Answer}
@@ -62,7 +62,7 @@ word = 0 ∷ []
 
 -- the state before any format, every word 0
 abbrev pub zeros : Wheel
-zeros = record { elapsed = 0; occupied = []; stacks = record { n = 0; expired = 0; free = 0; parking = 0 }; hand = 0; until = 0 }
+zeros = record { elapsed = 0; occupied = []; tops = record { n = 0; expired = 0; free = 0; parking = 0 }; hand = 0; until = 0 }
 
 abbrev pub blank : QueueWords
 blank = words zeros [] (0 ∷ word) word word word word word

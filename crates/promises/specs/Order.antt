@@ -5,7 +5,7 @@ use mathlib.Core.List.{List, [], _∷_}
 use Prim.Native.Nat.{ℕ, _<_}
 use lib.Dec.{eqb}
 use Rattle.times.specs.Times.{slotOf}
-use Rattle.stack.specs.Places.{slotPlace, expired}
+use Rattle.places.specs.Places.{slotPlace, expired}
 use Rattle.queue.specs.Told.{Told, Hands}
 use Rattle.records.specs.View.{View}
 use Rattle.records.specs.Records.{keyOf, Names}
@@ -30,7 +30,7 @@ goesTo d k r x = eqb (slotPlace k (slotOf (d x) k)) r
 -- "Order among equals": they leave in the order of the lists
 pub record PollOrder (v : View) (x : Told) (u : View) : Type 0 where
   -- "Poll pops the expired stack if it isn't empty: elapsed, moves and drains stay as they are, counted 0": its head goes first
-  pub stack : (r : ℕ) (l : List ℕ) → v .lists expired ≡ r ∷ l
+  pub popped : (r : ℕ) (l : List ℕ) → v .lists expired ≡ r ∷ l
       → (Hands x (keyOf v r) (v .value r) (v .deadline r) 0 0) × (u .lists expired ≡ l) × (u .elapsed ≡ v .elapsed)
   -- "At level 0 the head is handed out": what lay at level 0 was the head of its slot
   pub head : (k w d m n r p : ℕ) → Hands x k w d m n → Names v k r p → p < 64 → (l : List ℕ) × (v .lists p ≡ r ∷ l) × (u .lists p ≡ l)

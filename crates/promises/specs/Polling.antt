@@ -2,7 +2,7 @@
 use mathlib.Core.Path.{_≡_}
 use mathlib.Core.Logic.{_⊎_, _↔_, _≢_}
 use Prim.Native.Nat.{ℕ, _+_, _*_, _/_, _≤_, _<_, max}
-use Rattle.stack.specs.Places.{free}
+use Rattle.places.specs.Places.{free}
 use Rattle.queue.specs.Told.{Told, Hands}
 use Rattle.queue.specs.Told as T
 use Rattle.records.specs.View.{View}

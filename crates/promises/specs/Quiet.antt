@@ -2,7 +2,7 @@
 use mathlib.Core.Path.{_≡_}
 use mathlib.Core.List.{List, [], _∷_}
 use Prim.Native.Nat.{ℕ, _<_}
-use Rattle.stack.specs.Places.{free}
+use Rattle.places.specs.Places.{free}
 use Rattle.records.specs.Words.{QueueWords, elapsed, view, Sound}
 
 -- a sound store where nothing is pending, with a record to take: as format leaves one

@@ -4,7 +4,7 @@ use mathlib.Core.Logic.{_≢_, _⊎_}
 use mathlib.Core.Bool.{false}
 use mathlib.Core.List.{List, [], _∷_}
 use Prim.Native.Nat.{ℕ, _≤_, _<_}
-use Rattle.stack.specs.Places.{free}
+use Rattle.places.specs.Places.{free}
 use Rattle.queue.specs.declared.Answer.{Answer}
 use Rattle.queue.specs.Told.{told}
 use Rattle.records.specs.View.{View}
@@ -57,9 +57,9 @@ linesOf C.Length s = line 2 (Sound s → ⊥) end
 linesOf C.Clear s = line 2 (Sound s → ⊥) end
 
 -- k is the number of the first line that is met
-abbrev pub First : Lines → ℕ → Type 0
-First end k = ⊥
-First (line j P l) k = ((k ≡ j) × P) ⊎ ((P → ⊥) × First l k)
+abbrev pub FirstMet : Lines → ℕ → Type 0
+FirstMet end k = ⊥
+FirstMet (line j P l) k = ((k ≡ j) × P) ⊎ ((P → ⊥) × FirstMet l k)
 
 -- the numbers of the lines
 abbrev pub numbers : Lines → List ℕ
@@ -68,14 +68,14 @@ numbers (line j P l) = j ∷ numbers l
 
 -- the table refuses the call with number k
 abbrev pub RefusedBy : Call → QueueWords → ℕ → Type 0
-RefusedBy c s k = First (linesOf c s) k
+RefusedBy c s k = FirstMet (linesOf c s) k
 
 -- ---- how the lines and the claims go together
 
 -- the call is refused as the lines say, or meets none of them and is not refused. n records' words may have changed, and n are the records after it
 pub data Settled (n : ℕ) (s : QueueWords) (a : Answer) (t : QueueWords) (l : Lines) : Type 0 where
-  refused : {k : ℕ} → First l k → Refused k s a t → Settled n s a t l
-  accepted : ((k : ℕ) → First l k → ⊥) → isNo (told a) ≡ false → count t ≡ n → PastKept n s t → Settled n s a t l
+  refused : {k : ℕ} → FirstMet l k → Refused k s a t → Settled n s a t l
+  accepted : ((k : ℕ) → FirstMet l k → ⊥) → isNo (told a) ≡ false → count t ≡ n → PastKept n s t → Settled n s a t l
 
 -- ---- the promises
 

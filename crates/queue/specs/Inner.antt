@@ -9,11 +9,11 @@ use lib.ListN.{length}
 use Rattle.links.specs.Lists.{nobody}
 use Rattle.links.specs.Links.{at}
 use Rattle.links.specs.Count.{cnt}
-use Rattle.stack.specs.Places.{expired, free}
+use Rattle.places.specs.Places.{expired, free}
 use Rattle.wheel.specs.Midway.{Obeys}
 use Rattle.wheel.specs.Expiration.{Sees}
 use Rattle.wheel.specs.Words.{WheelWords, WheelWhole, Pops, lists, count as countIn}
-use Rattle.wheel.specs.Turns.{PollsTo}
+use Rattle.wheel.specs.Moves.{PollsTo}
 use Rattle.queue.specs.declared.Answer.{Answer}
 use Rattle.queue.specs.Told.{told}
 use Rattle.records.specs.View.{View}
@@ -32,7 +32,7 @@ pub record CanPollIdx (t : WheelWords) (ds : List ℕ) (hand now : ℕ) : Type 0
 
 -- the first of the expired stack; if there is none, whom the wheel hands out, if anybody, or the slot whose drain is in hand
 pub data PollsIdx (d : ℕ → ℕ) (now limit hand : ℕ) (t : WheelWords) : ℕ → ℕ → ℕ → ℕ → WheelWords → Type 0 where
-  of-stack : {item : ℕ} {t′ : WheelWords} → Pops t expired item t′ → item ≢ nobody → PollsIdx d now limit hand t item nobody 0 0 t′
+  of-expired : {item : ℕ} {t′ : WheelWords} → Pops t expired item t′ → item ≢ nobody → PollsIdx d now limit hand t item nobody 0 0 t′
   of-wheel : {first item to moves drains : ℕ} {u t′ : WheelWords} → Pops t expired first u → first ≡ nobody
       → PollsTo d now limit hand u item to moves drains t′ → PollsIdx d now limit hand t item to moves drains t′
 

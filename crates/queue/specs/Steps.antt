@@ -4,11 +4,11 @@ use mathlib.Core.List.{List, [], _∷_}
 use mathlib.Core.Option.{Option, none, some}
 use Prim.Native.Nat.{ℕ, suc, _+_, _<_}
 use Rattle.links.specs.Lists.{nobody, change}
-use Rattle.stack.specs.Places.{expired, free}
+use Rattle.places.specs.Places.{expired, free}
 use Rattle.wheel.specs.Wheel.{Lists, NextList, NoneWaits, Polls}
 use Rattle.wheel.specs.Sums.{total}
 use Rattle.wheel.specs.Limited.{Outcome, ended as stopped, yet, Limited}
-use Rattle.wheel.specs.Turns.{gotten}
+use Rattle.wheel.specs.Moves.{gotten}
 use Rattle.records.specs.View.{View, withElapsed, withLists, withHand}
 use Rattle.records.specs.Records.{keyOf, At, NoMore, left, placed, freed}
 use Rattle.queue.specs.Told.{Told, out, last, wake, never}

@@ -41,7 +41,7 @@ pub enum Answer {
 
 // The answer of a poll with elapsed after it, the slot whose drain is in hand and the poll's now: nobody and 0 if it has
 // ended. Of the other calls clear alone changes these: to 0, nobody and 0.
-pub struct Out {
+pub struct ReplyParts {
     pub answer: Answer,
     pub elapsed: u64,
     pub hand: u16,
@@ -51,7 +51,7 @@ pub struct Out {
 // A record is taken for the value and the period, and placed at the deadline.
 pub fn insert(
     elapsed: u64,
-    rows: &mut [u64; 6],
+    occupied: &mut [u64; 6],
     tops: &mut [u16; 4],
     heads: &mut [[u16; 64]; 6],
     values: &mut [u64],
@@ -64,24 +64,33 @@ pub fn insert(
     when: u64,
     period: u64,
 ) -> Answer
-    requires { ⌜ Sound (lent elapsed rows tops heads values deadlines nexts prevs turns marks) ⌝ }
+    requires { ⌜ Sound (lent elapsed occupied tops heads values deadlines nexts prevs turns marks) ⌝ }
     ensures { λ r. ⌜
-        InsertOn (before elapsed rows tops heads values deadlines nexts prevs turns marks)
-        value when period r (after elapsed rows tops heads values deadlines nexts prevs turns marks) ⌝ }
+        InsertOn (before elapsed occupied tops heads values deadlines nexts prevs turns marks)
+        value when period r (after elapsed occupied tops heads values deadlines nexts prevs turns marks) ⌝ }
 {
-    if stack::first_free(tops) == links::NOBODY {
+    if places::first_free(tops) == links::NOBODY {
         return Answer::No(refusals::FULL);
     }
     let no = records::deadline_no(elapsed, when);
     if no != 0 {
         return Answer::No(no);
     }
-    let item = wheel::pop(elapsed, rows, tops, heads, nexts, prevs, marks, stack::FREE);
+    let item = wheel::pop(
+        elapsed,
+        occupied,
+        tops,
+        heads,
+        nexts,
+        prevs,
+        marks,
+        places::FREE,
+    );
     records::give(values, item, value, period);
     let key = records::key_of(turns[item as usize], item);
     records::place(
         elapsed,
-        rows,
+        occupied,
         tops,
         heads,
         deadlines,
@@ -97,7 +106,7 @@ pub fn insert(
 // The timer of the key is placed anew. Its deadline is judged before anything is unlinked.
 pub fn reset(
     elapsed: u64,
-    rows: &mut [u64; 6],
+    occupied: &mut [u64; 6],
     tops: &mut [u16; 4],
     heads: &mut [[u16; 64]; 6],
     values: &[u64],
@@ -109,12 +118,12 @@ pub fn reset(
     key: u64,
     when: u64,
 ) -> Answer
-    requires { ⌜ Sound (lent elapsed rows tops heads values deadlines nexts prevs turns marks) ⌝ }
+    requires { ⌜ Sound (lent elapsed occupied tops heads values deadlines nexts prevs turns marks) ⌝ }
     ensures { λ r. ⌜
-        ResetOn (before elapsed rows tops heads values deadlines nexts prevs turns marks)
-        key when r (after elapsed rows tops heads values deadlines nexts prevs turns marks) ⌝ }
+        ResetOn (before elapsed occupied tops heads values deadlines nexts prevs turns marks)
+        key when r (after elapsed occupied tops heads values deadlines nexts prevs turns marks) ⌝ }
 {
-    let found = records::find(stack::count_of(tops), turns, marks, key);
+    let found = records::find(places::count_of(tops), turns, marks, key);
     let records::Found::At(item) = found else {
         return Answer::No(refusals::DEAD_KEY);
     };
@@ -122,10 +131,10 @@ pub fn reset(
     if no != 0 {
         return Answer::No(no);
     }
-    wheel::remove(elapsed, rows, tops, heads, nexts, prevs, marks, item);
+    wheel::remove(elapsed, occupied, tops, heads, nexts, prevs, marks, item);
     records::place(
         elapsed,
-        rows,
+        occupied,
         tops,
         heads,
         deadlines,
@@ -141,7 +150,7 @@ pub fn reset(
 // The timer of the key is taken out.
 pub fn remove(
     elapsed: u64,
-    rows: &mut [u64; 6],
+    occupied: &mut [u64; 6],
     tops: &mut [u16; 4],
     heads: &mut [[u16; 64]; 6],
     values: &[u64],
@@ -152,26 +161,36 @@ pub fn remove(
     marks: &mut [u16],
     key: u64,
 ) -> Answer
-    requires { ⌜ Sound (lent elapsed rows tops heads values deadlines nexts prevs turns marks) ⌝ }
+    requires { ⌜ Sound (lent elapsed occupied tops heads values deadlines nexts prevs turns marks) ⌝ }
     ensures { λ r. ⌜
-        RemoveOn (before elapsed rows tops heads values deadlines nexts prevs turns marks)
-        key r (after elapsed rows tops heads values deadlines nexts prevs turns marks) ⌝ }
+        RemoveOn (before elapsed occupied tops heads values deadlines nexts prevs turns marks)
+        key r (after elapsed occupied tops heads values deadlines nexts prevs turns marks) ⌝ }
 {
-    let found = records::find(stack::count_of(tops), turns, marks, key);
+    let found = records::find(places::count_of(tops), turns, marks, key);
     let records::Found::At(item) = found else {
         return Answer::No(refusals::DEAD_KEY);
     };
     let value = records::value_of(values, item);
     let deadline = deadlines[item as usize];
-    wheel::remove(elapsed, rows, tops, heads, nexts, prevs, marks, item);
-    records::leave(elapsed, rows, tops, heads, nexts, prevs, turns, marks, item);
+    wheel::remove(elapsed, occupied, tops, heads, nexts, prevs, marks, item);
+    records::leave(
+        elapsed,
+        occupied,
+        tops,
+        heads,
+        nexts,
+        prevs,
+        turns,
+        marks,
+        item,
+    );
     Answer::Gone(value, deadline)
 }
 
 // The loose record `item` is handed out. With a period it is placed again, if it can be; else it is freed.
 fn hand_out(
     elapsed: u64,
-    rows: &mut [u64; 6],
+    occupied: &mut [u64; 6],
     tops: &mut [u16; 4],
     heads: &mut [[u16; 64]; 6],
     values: &[u64],
@@ -184,11 +203,11 @@ fn hand_out(
     moves: u64,
     drains: u64,
 ) -> Answer
-    requires { ⌜ SoundBut item (lent elapsed rows tops heads values deadlines nexts prevs turns marks) ⌝ }
-    requires { ⌜ LooseAt (lent elapsed rows tops heads values deadlines nexts prevs turns marks) item ⌝ }
+    requires { ⌜ SoundBut item (lent elapsed occupied tops heads values deadlines nexts prevs turns marks) ⌝ }
+    requires { ⌜ LooseAt (lent elapsed occupied tops heads values deadlines nexts prevs turns marks) item ⌝ }
     ensures { λ r. ⌜
-        HandsOut (before elapsed rows tops heads values deadlines nexts prevs turns marks)
-        item moves drains r (after elapsed rows tops heads values deadlines nexts prevs turns marks) ⌝ }
+        HandsOut (before elapsed occupied tops heads values deadlines nexts prevs turns marks)
+        item moves drains r (after elapsed occupied tops heads values deadlines nexts prevs turns marks) ⌝ }
 {
     let k = item as usize;
     let key = records::key_of(turns[k], item);
@@ -196,17 +215,37 @@ fn hand_out(
     let period = records::period_of(values, item);
     let deadline = deadlines[k];
     if period == 0 {
-        records::leave(elapsed, rows, tops, heads, nexts, prevs, turns, marks, item);
+        records::leave(
+            elapsed,
+            occupied,
+            tops,
+            heads,
+            nexts,
+            prevs,
+            turns,
+            marks,
+            item,
+        );
         return Answer::Out(key, value, deadline, moves, drains);
     }
     let next = records::next_time(elapsed, deadline, period);
     let records::Again::At(when) = next else {
-        records::leave(elapsed, rows, tops, heads, nexts, prevs, turns, marks, item);
+        records::leave(
+            elapsed,
+            occupied,
+            tops,
+            heads,
+            nexts,
+            prevs,
+            turns,
+            marks,
+            item,
+        );
         return Answer::Last(key, value, deadline, moves, drains);
     };
     records::place(
         elapsed,
-        rows,
+        occupied,
         tops,
         heads,
         deadlines,
@@ -223,7 +262,7 @@ fn hand_out(
 // its list. With `limit` moves at most, from the drain of `hand` on.
 fn poll_idx(
     elapsed: u64,
-    rows: &mut [u64; 6],
+    occupied: &mut [u64; 6],
     tops: &mut [u16; 4],
     heads: &mut [[u16; 64]; 6],
     deadlines: &[u64],
@@ -234,20 +273,20 @@ fn poll_idx(
     time: u64,
     limit: u64,
 ) -> wheel::Polled
-    requires { ⌜ CanPollIdx (wheelLent elapsed rows tops heads nexts prevs marks) (now deadlines) hand time ⌝ }
+    requires { ⌜ CanPollIdx (wheelLent elapsed occupied tops heads nexts prevs marks) (now deadlines) hand time ⌝ }
     ensures { λ r. ⌜
-        PollsIdx (at (old deadlines)) time limit hand (wheelBefore elapsed rows tops heads nexts prevs marks)
-        (r .item) (r .hand) (r .moves) (r .drains) (wheelAfter (r .elapsed) rows tops heads nexts prevs marks) ⌝ }
+        PollsIdx (at (old deadlines)) time limit hand (wheelBefore elapsed occupied tops heads nexts prevs marks)
+        (r .item) (r .hand) (r .moves) (r .drains) (wheelAfter (r .elapsed) occupied tops heads nexts prevs marks) ⌝ }
 {
     let first = wheel::pop(
         elapsed,
-        rows,
+        occupied,
         tops,
         heads,
         nexts,
         prevs,
         marks,
-        stack::EXPIRED,
+        places::EXPIRED,
     );
     if first != links::NOBODY {
         return wheel::Polled {
@@ -260,7 +299,7 @@ fn poll_idx(
     }
     wheel::poll(
         elapsed,
-        rows,
+        occupied,
         tops,
         heads,
         nexts,
@@ -293,7 +332,7 @@ fn poll_no(elapsed: u64, hand: u16, until: u64, time: u64) -> u64
 // goes on with the poll at `until`.
 pub fn poll(
     elapsed: u64,
-    rows: &mut [u64; 6],
+    occupied: &mut [u64; 6],
     tops: &mut [u16; 4],
     heads: &mut [[u16; 64]; 6],
     values: &[u64],
@@ -306,16 +345,17 @@ pub fn poll(
     until: u64,
     time: u64,
     limit: u64,
-) -> Out
-    requires { ⌜ Sound (holding hand until (lent elapsed rows tops heads values deadlines nexts prevs turns marks)) ⌝ }
+) -> ReplyParts
+    requires { ⌜
+        Sound (holding hand until (lent elapsed occupied tops heads values deadlines nexts prevs turns marks)) ⌝ }
     ensures { λ r. ⌜
-        PollsOn (holding hand until (before elapsed rows tops heads values deadlines nexts prevs turns marks))
+        PollsOn (holding hand until (before elapsed occupied tops heads values deadlines nexts prevs turns marks))
         time limit (r .answer) (holding (r .hand) (r .until)
-        (after (r .elapsed) rows tops heads values deadlines nexts prevs turns marks)) ⌝ }
+        (after (r .elapsed) occupied tops heads values deadlines nexts prevs turns marks)) ⌝ }
 {
     let no = poll_no(elapsed, hand, until, time);
     if no != 0 {
-        return Out {
+        return ReplyParts {
             answer: Answer::No(no),
             elapsed,
             hand,
@@ -324,7 +364,7 @@ pub fn poll(
     }
     let due = poll_idx(
         elapsed,
-        rows,
+        occupied,
         tops,
         heads,
         deadlines,
@@ -341,7 +381,7 @@ pub fn poll(
     let moves = due.moves;
     let drains = due.drains;
     if place != links::NOBODY {
-        return Out {
+        return ReplyParts {
             answer: Answer::NotYet(moves, drains),
             elapsed: e,
             hand: place,
@@ -349,7 +389,7 @@ pub fn poll(
         };
     }
     if item == links::NOBODY {
-        return Out {
+        return ReplyParts {
             answer: Answer::Nothing(moves, drains),
             elapsed: e,
             hand: links::NOBODY,
@@ -358,7 +398,7 @@ pub fn poll(
     }
     let answer = hand_out(
         e,
-        rows,
+        occupied,
         tops,
         heads,
         values,
@@ -371,7 +411,7 @@ pub fn poll(
         moves,
         drains,
     );
-    Out {
+    ReplyParts {
         answer,
         elapsed: e,
         hand: links::NOBODY,
@@ -383,19 +423,19 @@ pub fn poll(
 // heads of the expired stack and of the parking list.
 pub fn next_wake(
     elapsed: u64,
-    rows: &[u64; 6],
+    occupied: &[u64; 6],
     deadlines: &[u64],
     expired: u16,
     parking: u16,
 ) -> Answer
-    requires { ⌜ CanLook elapsed (now rows) (now deadlines) parking ⌝ }
+    requires { ⌜ CanLook elapsed (now occupied) (now deadlines) parking ⌝ }
     ensures { λ r. ⌜
-        ((v : View) → Shows elapsed (old rows) (old deadlines) expired parking v → NextWake v (told r)) ⌝ }
+        ((v : View) → Shows elapsed (old occupied) (old deadlines) expired parking v → NextWake v (told r)) ⌝ }
 {
     if expired != links::NOBODY {
         return Answer::Wake(elapsed);
     }
-    let wake = wheel::poll_at(elapsed, rows, deadlines, parking);
+    let wake = wheel::poll_at(elapsed, occupied, deadlines, parking);
     match wake {
         wheel::Wake::At(time) => Answer::Wake(time),
         wheel::Wake::Never => Answer::NoWake,
@@ -410,7 +450,7 @@ pub fn length(n: u16, marks: &[u16]) -> u64
     let mut count = 0u16;
     let mut i = 0u16;
     while i < n {
-        if stack::is_pending(marks[i as usize]) {
+        if places::is_pending(marks[i as usize]) {
             count += 1;
         }
         i += 1;
@@ -421,7 +461,7 @@ pub fn length(n: u16, marks: &[u16]) -> u64
 // The record `item` leaves if it is pending.
 fn clear_one(
     elapsed: u64,
-    rows: &mut [u64; 6],
+    occupied: &mut [u64; 6],
     tops: &mut [u16; 4],
     heads: &mut [[u16; 64]; 6],
     values: &[u64],
@@ -432,23 +472,33 @@ fn clear_one(
     marks: &mut [u16],
     item: u16,
 )
-    requires { ⌜ Standing (lent elapsed rows tops heads values deadlines nexts prevs turns marks) ⌝ }
-    requires { ⌜ item < count (lent elapsed rows tops heads values deadlines nexts prevs turns marks) ⌝ }
+    requires { ⌜ Standing (lent elapsed occupied tops heads values deadlines nexts prevs turns marks) ⌝ }
+    requires { ⌜ item < count (lent elapsed occupied tops heads values deadlines nexts prevs turns marks) ⌝ }
     ensures { λ _. ⌜
-        ClearsOne (before elapsed rows tops heads values deadlines nexts prevs turns marks)
-        item (after elapsed rows tops heads values deadlines nexts prevs turns marks) ⌝ }
+        ClearsOne (before elapsed occupied tops heads values deadlines nexts prevs turns marks)
+        item (after elapsed occupied tops heads values deadlines nexts prevs turns marks) ⌝ }
 {
-    if !stack::is_pending(marks[item as usize]) {
+    if !places::is_pending(marks[item as usize]) {
         return;
     }
-    wheel::remove(elapsed, rows, tops, heads, nexts, prevs, marks, item);
-    records::leave(elapsed, rows, tops, heads, nexts, prevs, turns, marks, item);
+    wheel::remove(elapsed, occupied, tops, heads, nexts, prevs, marks, item);
+    records::leave(
+        elapsed,
+        occupied,
+        tops,
+        heads,
+        nexts,
+        prevs,
+        turns,
+        marks,
+        item,
+    );
 }
 
 // Every pending record leaves, in rising number. Elapsed is 0 after it, and no poll is in hand.
 pub fn clear(
     elapsed: u64,
-    rows: &mut [u64; 6],
+    occupied: &mut [u64; 6],
     tops: &mut [u16; 4],
     heads: &mut [[u16; 64]; 6],
     values: &[u64],
@@ -458,17 +508,17 @@ pub fn clear(
     turns: &mut [u64],
     marks: &mut [u16],
 ) -> Answer
-    requires { ⌜ Standing (lent elapsed rows tops heads values deadlines nexts prevs turns marks) ⌝ }
+    requires { ⌜ Standing (lent elapsed occupied tops heads values deadlines nexts prevs turns marks) ⌝ }
     ensures { λ r. ⌜
-        ((h u : ℕ) → ClearOn (holding h u (before elapsed rows tops heads values deadlines nexts prevs turns marks))
-        r (after 0 rows tops heads values deadlines nexts prevs turns marks)) ⌝ }
+        ((h u : ℕ) → ClearOn (holding h u (before elapsed occupied tops heads values deadlines nexts prevs turns marks))
+        r (after 0 occupied tops heads values deadlines nexts prevs turns marks)) ⌝ }
 {
-    let n = stack::count_of(tops);
+    let n = places::count_of(tops);
     let mut i = 0u16;
     while i < n {
         clear_one(
             elapsed,
-            rows,
+            occupied,
             tops,
             heads,
             values,

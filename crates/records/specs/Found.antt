@@ -3,7 +3,7 @@ use mathlib.Core.Path.{_≡_}
 use mathlib.Core.List.{List}
 use Prim.Native.Nat.{ℕ, _<_}
 use Rattle.links.specs.Links.{at}
-use Rattle.stack.specs.Places.{free}
+use Rattle.places.specs.Places.{free}
 use Rattle.records.specs.declared.Found.{Found}
 use Rattle.records.specs.declared.Found.the-variants as F
 use Rattle.records.specs.declared.Again.{Again}

@@ -8,7 +8,7 @@ use lib.ListN.{length, set}
 use Rattle.times.specs.Times.{block}
 use Rattle.links.specs.Lists.{nobody, change}
 use Rattle.links.specs.Links.{at}
-use Rattle.stack.specs.Places.{free, retired, put}
+use Rattle.places.specs.Places.{free, retired, put}
 use Rattle.wheel.specs.Words.{WheelWords, WheelWhole, Becomes, LooseIn, lists as listsIn, markOf as markIn}
 use Rattle.records.specs.View.{View}
 use Rattle.records.specs.Records.{lastTurn, Near, target}

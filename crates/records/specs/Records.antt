@@ -7,7 +7,7 @@ use Prim.Native.Nat.{ℕ, _+_, _-_, _*_, _/_, _%_, _^_, _≤_, _<_, max}
 use lib.Dec.{eqb}
 use Rattle.times.specs.Times.{maxDuration, block}
 use Rattle.links.specs.Lists.{Mem, without, change}
-use Rattle.stack.specs.Places.{parking, expired, free, put}
+use Rattle.places.specs.Places.{parking, expired, free, put}
 use Rattle.wheel.specs.Wheel.{placeFor}
 use Rattle.records.specs.View.{View, withLists, withDeadline, withTurn, upd}
 

@@ -2,7 +2,7 @@
 use mathlib.Core.List.{List}
 use Prim.Native.Nat.{ℕ, _+_, _*_, _≤_, _<_}
 use lib.ListN.{length, set}
-use Rattle.contracts.specs.Lent.{Lent, Turned, old}
+use Rattle.contracts.specs.Lent.{Lent, Returned, old}
 use Rattle.links.specs.Links.{Links, links, at}
 use Rattle.links.specs.Links as linked
 
@@ -20,7 +20,7 @@ abbrev pub lent : (values deadlines nexts prevs turns marks : Lent (List ℕ)) �
 lent values deadlines nexts prevs turns marks =
     slicesOf (values .now) (deadlines .now) (nexts .now) (prevs .now) (turns .now) (marks .now)
 
-abbrev pub before : (values deadlines nexts prevs turns marks : Turned (List ℕ)) → Slices
+abbrev pub before : (values deadlines nexts prevs turns marks : Returned (List ℕ)) → Slices
 before values deadlines nexts prevs turns marks =
     slicesOf (old values) (old deadlines) (old nexts) (old prevs) (old turns) (old marks)
 

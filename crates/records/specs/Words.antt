@@ -3,11 +3,11 @@ use mathlib.Core.Path.{_≡_}
 use mathlib.Core.Logic.{_≢_}
 use mathlib.Core.List.{List}
 use Prim.Native.Nat.{ℕ, _*_, _^_, _≤_, _<_}
-use Rattle.contracts.specs.Lent.{Lent, Turned, old, new}
+use Rattle.contracts.specs.Lent.{Lent, Returned, old, new}
 use Rattle.links.specs.Lists.{nobody}
 use Rattle.links.specs.Links.{links, at}
-use Rattle.stack.specs.Places.{places, retired}
-use Rattle.stack.specs.Words.{stackWords}
+use Rattle.places.specs.Places.{places, retired}
+use Rattle.places.specs.Words.{placeWords}
 use Rattle.links.specs.Whole.{Kept, LinksKept}
 use Rattle.wheel.specs.Wheel.{Rule}
 use Rattle.wheel.specs.Midway.{Obeys}
@@ -31,7 +31,7 @@ queueWords w vs ds ts h u = record { wheel = w; values = vs; deadlines = ds; tur
 -- as the public calls have them, with the wheel by value
 abbrev pub words : Wheel → List (List ℕ) → List ℕ → List ℕ → List ℕ → List ℕ → List ℕ → List ℕ → QueueWords
 words w hh vs ds ns ps ts ms =
-    queueWords (wheelWords (w .elapsed) (w .occupied) (stackWords (w .stacks) hh (links ns ps ms))) vs ds ts (w .hand) (w .until)
+    queueWords (wheelWords (w .elapsed) (w .occupied) (placeWords (w .tops) hh (links ns ps ms))) vs ds ts (w .hand) (w .until)
 
 -- and as the functions below them have them, in parts, with no poll in hand
 abbrev pub parts : ℕ → List ℕ → List ℕ → List (List ℕ) → List ℕ → List ℕ → List ℕ → List ℕ → List ℕ → List ℕ → QueueWords
@@ -39,18 +39,20 @@ parts e occ tops hh vs ds ns ps ts ms = queueWords (wheeled e occ tops hh ns ps 
 
 -- in a `requires`, and in an `ensures` at the call and at the return
 module _ (elapsed : ℕ) where
-  module _ (rows tops : Lent (List ℕ)) (heads : Lent (List (List ℕ))) (values deadlines nexts prevs turns marks : Lent (List ℕ)) where
+  module _ (occupied tops : Lent (List ℕ)) (heads : Lent (List (List ℕ))) (values deadlines nexts prevs turns marks : Lent (List ℕ)) where
     abbrev pub lent : QueueWords
     lent =
-        parts elapsed (rows .now) (tops .now) (heads .now) (values .now) (deadlines .now) (nexts .now) (prevs .now) (turns .now)
+        parts elapsed (occupied .now) (tops .now) (heads .now) (values .now) (deadlines .now) (nexts .now) (prevs .now) (turns .now)
         (marks .now)
 
-  module _ (rows tops : Turned (List ℕ)) (heads : Turned (List (List ℕ))) (values deadlines nexts prevs turns marks : Turned (List ℕ)) where
+  module _ (occupied tops : Returned (List ℕ)) (heads : Returned (List (List ℕ)))
+      (values deadlines nexts prevs turns marks : Returned (List ℕ)) where
     abbrev pub before : QueueWords
-    before = parts elapsed (old rows) (old tops) (old heads) (old values) (old deadlines) (old nexts) (old prevs) (old turns) (old marks)
+    before =
+        parts elapsed (old occupied) (old tops) (old heads) (old values) (old deadlines) (old nexts) (old prevs) (old turns) (old marks)
 
     abbrev pub after : QueueWords
-    after = parts elapsed (new rows) (new tops) (new heads) (new values) (new deadlines) (new nexts) (new prevs) (new turns) (new marks)
+    after = parts elapsed (new occupied) (new tops) (new heads) (new values) (new deadlines) (new nexts) (new prevs) (new turns) (new marks)
 
 -- s with the drain of h in hand, of a poll at u
 abbrev pub holding : ℕ → ℕ → QueueWords → QueueWords
@@ -71,7 +73,7 @@ view s =
     (s .hand) (s .until)
 
 abbrev pub slices : QueueWords → Slices
-slices s = record { values = s .values; deadlines = s .deadlines; links = s .wheel .stack .links; turns = s .turns }
+slices s = record { values = s .values; deadlines = s .deadlines; links = s .wheel .places .links; turns = s .turns }
 
 -- "A store is sound when every record is in exactly one place (free, retired, expired stack or one slot), links agree both ways, occupied bits name
 -- exactly the non-empty slots, marks tell the true place, .. and N and turns are in range": all of it but the deadlines. One in no list is retired:
@@ -107,7 +109,7 @@ pub record Sound (s : QueueWords) : Type 0 where
 
 -- "Words of a slice past what N records need are never changed by any call": those, and all lengths
 pub record PastKept (n : ℕ) (s s′ : QueueWords) : Type 0 where
-  pub links : LinksKept n (s .wheel .stack .links) (s′ .wheel .stack .links)
+  pub links : LinksKept n (s .wheel .places .links) (s′ .wheel .places .links)
   pub values : Kept (2 * n) (s .values) (s′ .values)
   pub deadlines : Kept n (s .deadlines) (s′ .deadlines)
   pub turns : Kept n (s .turns) (s′ .turns)

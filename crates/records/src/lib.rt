@@ -5,7 +5,7 @@ ghost use Prim.Native.Nat.{_+_, _*_, _^_, _≤_, _<_, max};
 ghost use lib.ListN.{length};
 ghost use Rattle.contracts.specs.Lent.{old, new};
 ghost use Rattle.contracts.specs.Tells.{Tells};
-ghost use Rattle.stack.specs.Places.{slots, free};
+ghost use Rattle.places.specs.Places.{slots, free};
 ghost use Rattle.wheel.specs.Words.{lent, before, after};
 ghost use Rattle.records.specs.Records.{packed, turnIn, numberIn, target};
 ghost use Rattle.records.specs.Slices.{valueAt, periodAt, given};
@@ -35,13 +35,13 @@ pub enum Again {
 }
 
 // The state, put together again.
-pub fn wheel_of(elapsed: u64, rows: [u64; 6], tops: [u16; 4], hand: u16, until: u64) -> Wheel
-    ensures { λ r. ⌜ r ≡ wheelOf elapsed rows tops hand until ⌝ }
+pub fn wheel_of(elapsed: u64, occupied: [u64; 6], tops: [u16; 4], hand: u16, until: u64) -> Wheel
+    ensures { λ r. ⌜ r ≡ wheelOf elapsed occupied tops hand until ⌝ }
 {
     Wheel {
         elapsed,
-        occupied: rows,
-        stacks: stack::stacks_of(tops),
+        occupied,
+        tops: places::tops_of(tops),
         hand,
         until,
     }
@@ -135,16 +135,16 @@ fn aside(elapsed: u64, when: u64) -> u16
     ensures { λ r. ⌜ (r ≡ target elapsed (max when elapsed)) × (slots ≤ r) × (r < free) ⌝ }
 {
     if when <= elapsed {
-        return stack::EXPIRED;
+        return places::EXPIRED;
     }
-    stack::PARKING
+    places::PARKING
 }
 
 // The loose record `item` is placed: on the expired stack if its deadline is not over elapsed, else in its slot, or on the parking
 // list if it lies in the next block.
 pub fn place(
     elapsed: u64,
-    rows: &mut [u64; 6],
+    occupied: &mut [u64; 6],
     tops: &mut [u16; 4],
     heads: &mut [[u16; 64]; 6],
     deadlines: &mut [u64],
@@ -154,25 +154,45 @@ pub fn place(
     item: u16,
     when: u64,
 )
-    requires { ⌜ CanPlace (lent elapsed rows tops heads nexts prevs marks) (now deadlines) item when ⌝ }
+    requires { ⌜ CanPlace (lent elapsed occupied tops heads nexts prevs marks) (now deadlines) item when ⌝ }
     ensures { λ _. ⌜
-        PlacesTo (before elapsed rows tops heads nexts prevs marks) (old deadlines)
-        item when (after elapsed rows tops heads nexts prevs marks) (new deadlines) ⌝ }
+        PlacesTo (before elapsed occupied tops heads nexts prevs marks) (old deadlines)
+        item when (after elapsed occupied tops heads nexts prevs marks) (new deadlines) ⌝ }
 {
     if has_slot(elapsed, when) {
         deadlines[item as usize] = when;
-        wheel::insert(elapsed, rows, tops, heads, nexts, prevs, marks, when, item);
+        wheel::insert(
+            elapsed,
+            occupied,
+            tops,
+            heads,
+            nexts,
+            prevs,
+            marks,
+            when,
+            item,
+        );
         return;
     }
     deadlines[item as usize] = raised(elapsed, when);
     let list = aside(elapsed, when);
-    wheel::push(elapsed, rows, tops, heads, nexts, prevs, marks, list, item);
+    wheel::push(
+        elapsed,
+        occupied,
+        tops,
+        heads,
+        nexts,
+        prevs,
+        marks,
+        list,
+        item,
+    );
 }
 
 // The loose record `item` is freed, its turn raised by one; at the last turn it is retired.
 pub fn leave(
     elapsed: u64,
-    rows: &[u64; 6],
+    occupied: &[u64; 6],
     tops: &mut [u16; 4],
     heads: &mut [[u16; 64]; 6],
     nexts: &mut [u16],
@@ -181,26 +201,26 @@ pub fn leave(
     marks: &mut [u16],
     item: u16,
 )
-    requires { ⌜ CanFree (lent elapsed rows tops heads nexts prevs marks) (now turns) item ⌝ }
+    requires { ⌜ CanFree (lent elapsed occupied tops heads nexts prevs marks) (now turns) item ⌝ }
     ensures { λ _. ⌜
-        LeavesTo (before elapsed rows tops heads nexts prevs marks) (old turns)
-        item (after elapsed rows tops heads nexts prevs marks) (new turns) ⌝ }
+        LeavesTo (before elapsed occupied tops heads nexts prevs marks) (old turns)
+        item (after elapsed occupied tops heads nexts prevs marks) (new turns) ⌝ }
 {
     let turn = turns[item as usize];
     if turn == LAST_TURN {
-        marks[item as usize] = stack::RETIRED;
+        marks[item as usize] = places::RETIRED;
         return;
     }
     turns[item as usize] = turn + 1;
     wheel::push(
         elapsed,
-        rows,
+        occupied,
         tops,
         heads,
         nexts,
         prevs,
         marks,
-        stack::FREE,
+        places::FREE,
         item,
     );
 }
@@ -234,7 +254,7 @@ pub fn find(n: u16, turns: &[u64], marks: &[u16], key: u64) -> Found
     if n <= item {
         return Found::Nowhere;
     }
-    if !stack::is_pending(marks[item as usize]) {
+    if !places::is_pending(marks[item as usize]) {
         return Found::Nowhere;
     }
     if turns[item as usize] != turn_of(key) {

@@ -10,7 +10,7 @@ use Rattle.delay_queue.specs.Claims.{CallClaim}
 use Rattle.entries.specs.declared.Step.{Step}
 use Rattle.entries.specs.declared.Step.the-variants as S
 use Rattle.entries.specs.declared.Ending.{Ending}
-use Rattle.entries.specs.declared.Next.the-variants as X
+use Rattle.entries.specs.declared.NextStep.the-variants as X
 use Rattle.entries.specs.Reading as read
 use Rattle.recover.specs.Replay.{size}
 

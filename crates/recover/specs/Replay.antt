@@ -5,7 +5,7 @@ use mathlib.Core.List.{List}
 use Prim.Native.Nat.{ℕ, _+_}
 use lib.ListN.{length, drop, replicate}
 use Rattle.links.specs.Lists.{nobody}
-use Rattle.stack.specs.Heads.{stacksBy}
+use Rattle.places.specs.Heads.{topsBy}
 use Rattle.wheel.specs.declared.Wheel.{Wheel}
 use Rattle.queue.specs.declared.Answer.{Answer}
 use Rattle.queue.specs.Told.{told}
@@ -14,7 +14,7 @@ use Rattle.records.specs.Words.{QueueWords, words}
 use Rattle.entries.specs.declared.Step.{Step}
 use Rattle.entries.specs.declared.Ending.{Ending}
 use Rattle.entries.specs.declared.Ending.the-variants as E
-use Rattle.entries.specs.declared.Next.the-variants as X
+use Rattle.entries.specs.declared.NextStep.the-variants as X
 use Rattle.entries.specs.Entries.{stepBytes}
 use Rattle.entries.specs.Reading as read
 use Rattle.journal.specs.Journal.{Acts, unwritten}
@@ -24,7 +24,7 @@ use Rattle.journal.specs.Journal.{Acts, unwritten}
 -- the state that `no_store` hands back
 abbrev pub noWheel : Wheel
 noWheel =
-    record { elapsed = 0; occupied = replicate 6 0; stacks = stacksBy 0 nobody nobody nobody; hand = nobody; until = 0 }
+    record { elapsed = 0; occupied = replicate 6 0; tops = topsBy 0 nobody nobody nobody; hand = nobody; until = 0 }
 
 -- nobody is the head of any slot
 unfoldable pub noHeads : List (List ℕ)

@@ -3,7 +3,7 @@
 use delay_queue::Call;
 use delay_queue::Heads;
 use entries::Ending;
-use entries::Next;
+use entries::NextStep;
 use entries::Step;
 use wheel::Wheel;
 ghost use mathlib.Core.Path.{_≡_};
@@ -56,7 +56,7 @@ struct Held {
 }
 
 // How many bytes were used, and elapsed and the poll in hand of the store behind them.
-struct Went {
+struct AppliedParts {
     used: usize,
     elapsed: u64,
     hand: u16,
@@ -293,7 +293,7 @@ pub fn scan(
     loop {
         let n = entries::read_step(bytes, i);
         match n {
-            Next::Ends(e) => {
+            NextStep::Ends(e) => {
                 return Seen {
                     kept,
                     at: start + i,
@@ -303,7 +303,7 @@ pub fn scan(
                     ending: e,
                 };
             }
-            Next::One(step) => {
+            NextStep::One(step) => {
                 let number = number_of(
                     step,
                     live,
@@ -342,7 +342,7 @@ fn one(
     step: Step,
     sound: bool,
     elapsed: u64,
-    rows: &mut [u64; 6],
+    occupied: &mut [u64; 6],
     tops: &mut [u16; 4],
     heads: &mut [[u16; 64]; 6],
     values: &mut [u64],
@@ -356,11 +356,12 @@ fn one(
 ) -> Held
     requires { ⌜
         Tells (Sound (holding hand until
-        (lent elapsed rows tops heads values deadlines nexts prevs turns marks))) sound ⌝ }
+        (lent elapsed occupied tops heads values deadlines nexts prevs turns marks))) sound ⌝ }
     ensures { λ r. ⌜
-        MakesKnown step (holding hand until (given elapsed rows tops heads values deadlines nexts prevs turns marks))
+        MakesKnown step
+        (holding hand until (given elapsed occupied tops heads values deadlines nexts prevs turns marks))
         (holding (r .hand) (r .until)
-        (left (r .elapsed) rows tops heads values deadlines nexts prevs turns marks)) (r .sound) ⌝ }
+        (left (r .elapsed) occupied tops heads values deadlines nexts prevs turns marks)) (r .sound) ⌝ }
 {
     match step {
         Step::Asks(call) => {
@@ -369,7 +370,7 @@ fn one(
             let said = run::answer_all(
                 sound,
                 elapsed,
-                rows,
+                occupied,
                 tops,
                 heads,
                 values,
@@ -410,7 +411,7 @@ fn apply_parts(
     bytes: &[u8],
     sound: bool,
     elapsed: u64,
-    rows: &mut [u64; 6],
+    occupied: &mut [u64; 6],
     tops: &mut [u16; 4],
     heads: &mut [[u16; 64]; 6],
     values: &mut [u64],
@@ -421,14 +422,15 @@ fn apply_parts(
     marks: &mut [u16],
     hand: u16,
     until: u64,
-) -> Went
+) -> AppliedParts
     requires { ⌜
         Tells (Sound (holding hand until
-        (lent elapsed rows tops heads values deadlines nexts prevs turns marks))) sound ⌝ }
+        (lent elapsed occupied tops heads values deadlines nexts prevs turns marks))) sound ⌝ }
     ensures { λ r. ⌜
         Applies (old bytes) (holding hand until
-        (given elapsed rows tops heads values deadlines nexts prevs turns marks)) (r .used)
-        (holding (r .hand) (r .until) (left (r .elapsed) rows tops heads values deadlines nexts prevs turns marks)) ⌝ }
+        (given elapsed occupied tops heads values deadlines nexts prevs turns marks)) (r .used)
+        (holding (r .hand) (r .until)
+        (left (r .elapsed) occupied tops heads values deadlines nexts prevs turns marks)) ⌝ }
 {
     let mut used: usize = 0;
     let mut e = elapsed;
@@ -438,20 +440,20 @@ fn apply_parts(
     loop {
         let n = entries::read_step(bytes, used);
         match n {
-            Next::Ends(_e) => {
-                return Went {
+            NextStep::Ends(_e) => {
+                return AppliedParts {
                     used,
                     elapsed: e,
                     hand: h,
                     until: u,
                 };
             }
-            Next::One(step) => {
+            NextStep::One(step) => {
                 let r = one(
                     step,
                     fine,
                     e,
-                    rows,
+                    occupied,
                     tops,
                     heads,
                     values,
@@ -487,18 +489,18 @@ pub fn apply(
     marks: &mut [u16],
 ) -> Applied
     ensures { λ r. ⌜
-        Applies (old bytes) (before state (heads .rows) values deadlines nexts prevs turns marks) (r .used)
-        (after (r .state) (r .heads .rows) values deadlines nexts prevs turns marks) ⌝ }
+        Applies (old bytes) (before state (heads .heads) values deadlines nexts prevs turns marks) (r .used)
+        (after (r .state) (r .heads .heads) values deadlines nexts prevs turns marks) ⌝ }
 {
-    let mut here = delay_queue::rows_of(heads);
+    let mut here = delay_queue::heads_in(heads);
     let sound = judge::is_sound(state, here, values, deadlines, nexts, prevs, turns, marks);
-    let mut rows = state.occupied;
-    let mut tops = stack::tops_of(state.stacks);
+    let mut occupied = state.occupied;
+    let mut tops = places::tops_in(state.tops);
     let r = apply_parts(
         bytes,
         sound,
         state.elapsed,
-        &mut rows,
+        &mut occupied,
         &mut tops,
         &mut here,
         values,
@@ -510,7 +512,7 @@ pub fn apply(
         state.hand,
         state.until,
     );
-    let behind = records::wheel_of(r.elapsed, rows, tops, r.hand, r.until);
+    let behind = records::wheel_of(r.elapsed, occupied, tops, r.hand, r.until);
     let h = delay_queue::heads_of(here);
     Applied {
         used: r.used,
@@ -521,10 +523,10 @@ pub fn apply(
 
 // Nobody is the head of any slot.
 pub fn no_heads() -> Heads
-    ensures { λ r. ⌜ r .rows ≡ noHeads ⌝ }
+    ensures { λ r. ⌜ r .heads ≡ noHeads ⌝ }
 {
-    let rows = [[links::NOBODY; 64]; 6];
-    delay_queue::heads_of(rows)
+    let grid = [[links::NOBODY; 64]; 6];
+    delay_queue::heads_of(grid)
 }
 
 // Reads the bytes of a journal, and makes in what is lent the store after the steps that are kept, from no store.
@@ -540,7 +542,7 @@ pub fn replay(
     ensures { λ r. ⌜
         ReplayClaim (old bytes) (noStore (old values) (old deadlines) (old nexts) (old prevs) (old turns) (old marks))
         (found (r .kept) (r .at) (r .ending)
-        (after (r .state) (r .heads .rows) values deadlines nexts prevs turns marks)) ⌝ }
+        (after (r .state) (r .heads .heads) values deadlines nexts prevs turns marks)) ⌝ }
 {
     let start = unread();
     let s = scan(start, bytes, values, deadlines, nexts, prevs, turns, marks);

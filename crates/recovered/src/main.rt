@@ -47,12 +47,12 @@ fn show(
     let p = write_seen(&mut room, start, seen);
     let state = left.state;
     let heads = left.heads;
-    let rows = delay_queue::rows_of(heads);
+    let grid = delay_queue::heads_in(heads);
     let q = listing::write_store(
         &mut room,
         p,
         state,
-        rows,
+        grid,
         values,
         deadlines,
         nexts,

@@ -118,7 +118,7 @@ pub fn apply_file(
     ensures { λ r. ⌜
         (r .fine ≡ true
         → AppliedSo kept (noStore (old values) (old deadlines) (old nexts) (old prevs) (old turns) (old marks))
-        (after (r .state) (r .heads .rows) values deadlines nexts prevs turns marks)) ⌝ }
+        (after (r .state) (r .heads .heads) values deadlines nexts prevs turns marks)) ⌝ }
 {
     let mut buf = io::large_buffer();
     let mut at: usize = 0;

@@ -53,7 +53,7 @@ fn act(answer: Answer) {
 // The slot heads that a call handed back, for the next.
 fn heads_in(reply: Reply) -> [[u16; 64]; 6] {
     let heads = reply.heads;
-    delay_queue::rows_of(heads)
+    delay_queue::heads_in(heads)
 }
 
 // The key that an insert answered. A refused one has none: 0 is nobody's key, since turns begin at 1.

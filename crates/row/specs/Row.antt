@@ -30,4 +30,4 @@ flagged f s v t = cond (eqb t s) v (f t)
 pub record Lowest (f : ℕ → Bool) (n r : ℕ) : Type 0 where
   pub within : r < n
   pub marked : f r ≡ true
-  pub before : (j : ℕ) → j < r → f j ≡ false
+  pub lower : (j : ℕ) → j < r → f j ≡ false

@@ -20,16 +20,16 @@ use Rattle.run.specs.Groups.{commandWords, answerWords}
 -- ---- one call, without judging
 
 -- 02 [10]: the calls that are refused with 12 "Until that poll ends", all but the polls: "insert, remove, reset, next wake"
-abbrev pub Waits : Call → Type 0
-Waits (C.Format n turn) = ⊥
-Waits (C.Insert value when period) = Unit {0}
-Waits (C.Reset key when) = Unit {0}
-Waits (C.Remove key) = Unit {0}
-Waits (C.Poll now) = ⊥
-Waits (C.PollSome now limit) = ⊥
-Waits C.Wake = Unit {0}
-Waits C.Length = ⊥
-Waits C.Clear = ⊥
+abbrev pub MustWait : Call → Type 0
+MustWait (C.Format n turn) = ⊥
+MustWait (C.Insert value when period) = Unit {0}
+MustWait (C.Reset key when) = Unit {0}
+MustWait (C.Remove key) = Unit {0}
+MustWait (C.Poll now) = ⊥
+MustWait (C.PollSome now limit) = ⊥
+MustWait C.Wake = Unit {0}
+MustWait C.Length = ⊥
+MustWait C.Clear = ⊥
 
 -- what is claimed of the call when it judges, and whether the store that it leaves is sound
 pub record Knows (c : Call) (s : QueueWords) (a : Answer) (s′ : QueueWords) (sound : Bool) : Type 0 where
@@ -49,7 +49,7 @@ answersOf (x ∷ l) = answerWords (told (x .answer)) ++ answersOf l
 
 -- the first n commands of cs, each answered as its claim says, made s′ of the store s; their answers stand at the front of out, and the rest
 -- of it stays
-pub record Answered (s : QueueWords) (cs out : List ℕ) (n : ℕ) (s′ : QueueWords) (out′ : List ℕ) : Type 0 where
+pub record CommandsDone (s : QueueWords) (cs out : List ℕ) (n : ℕ) (s′ : QueueWords) (out′ : List ℕ) : Type 0 where
   pub calls : List Asked
   pub many : length calls ≡ n
   pub runs : Runs s calls s′
@@ -69,7 +69,7 @@ StopsAt cs out n W.NoRoom = (length out < 6 * n + 6) × ((c : Call) × (nextFour
 
 -- "with answers the same as one by one", for any words at all: as many as it says, and why it stopped there
 pub record RunClaim (s : QueueWords) (cs out : List ℕ) (n : ℕ) (why : Why) (s′ : QueueWords) (out′ : List ℕ) : Type 0 where
-  pub answered : Answered s cs out n s′ out′
+  pub answered : CommandsDone s cs out n s′ out′
   pub stops : StopsAt cs out n why
 
 -- and whether the store that it leaves is sound

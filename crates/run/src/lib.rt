@@ -2,7 +2,7 @@
 use delay_queue::Call;
 use delay_queue::Heads;
 use queue::Answer;
-use queue::Out;
+use queue::ReplyParts;
 use wheel::Wheel;
 ghost use mathlib.Core.Path.{_≡_};
 ghost use mathlib.Core.Logic.{_≢_};
@@ -19,7 +19,7 @@ ghost use Rattle.delay_queue.specs.Claims.{FormatClaim, CallClaim};
 ghost use Rattle.queue.specs.Told.{told};
 ghost use Rattle.promises.specs.OneCall.{isNo};
 ghost use Rattle.run.specs.Groups.{commandWords, answerWords, GroupIs, BlankIs, Written};
-ghost use Rattle.run.specs.Run.{Waits, Knows, RunClaim, RunKnown};
+ghost use Rattle.run.specs.Run.{MustWait, Knows, RunClaim, RunKnown};
 
 // What four words ask: a call, or nothing that is one.
 enum Group {
@@ -28,7 +28,7 @@ enum Group {
 }
 
 // An answer with elapsed and the poll in hand after it, and whether the store is sound then.
-pub struct Said {
+pub struct KnownReply {
     pub answer: Answer,
     pub elapsed: u64,
     pub hand: u16,
@@ -48,7 +48,7 @@ pub enum Why {
 
 // How many commands were answered and why no more were, elapsed and the poll in hand after them, and whether the store is
 // sound then.
-pub struct Went {
+pub struct RanParts {
     pub done: usize,
     pub why: Why,
     pub elapsed: u64,
@@ -171,7 +171,7 @@ fn write_answer(to: &mut [u64], at: usize, answer: Answer)
 // Format, of the parts: they are put together and taken apart again, which is little beside what it writes.
 fn formats(
     elapsed: u64,
-    rows: &mut [u64; 6],
+    occupied: &mut [u64; 6],
     tops: &mut [u16; 4],
     heads: &mut [[u16; 64]; 6],
     values: &mut [u64],
@@ -184,13 +184,13 @@ fn formats(
     until: u64,
     n: u64,
     turn: u64,
-) -> Out
+) -> ReplyParts
     ensures { λ r. ⌜
-        FormatClaim (holding hand until (before elapsed rows tops heads values deadlines nexts prevs turns marks))
+        FormatClaim (holding hand until (before elapsed occupied tops heads values deadlines nexts prevs turns marks))
         n turn (r .answer) (holding (r .hand) (r .until)
-        (after (r .elapsed) rows tops heads values deadlines nexts prevs turns marks)) ⌝ }
+        (after (r .elapsed) occupied tops heads values deadlines nexts prevs turns marks)) ⌝ }
 {
-    let state = records::wheel_of(elapsed, *rows, *tops, hand, until);
+    let state = records::wheel_of(elapsed, *occupied, *tops, hand, until);
     let reply = delay_queue::format(
         state,
         *heads,
@@ -207,13 +207,13 @@ fn formats(
     let fresh = reply.heads;
     let answer = reply.answer;
     let bits = made.occupied;
-    *rows = bits;
-    *tops = stack::tops_of(made.stacks);
-    *heads = delay_queue::rows_of(fresh);
+    *occupied = bits;
+    *tops = places::tops_in(made.tops);
+    *heads = delay_queue::heads_in(fresh);
     let e = made.elapsed;
     let h = made.hand;
     let u = made.until;
-    Out {
+    ReplyParts {
         answer,
         elapsed: e,
         hand: h,
@@ -223,7 +223,7 @@ fn formats(
 
 // Whether the call must wait until the poll in hand ends. A poll judges that itself.
 fn must_wait(hand: u16, call: Call) -> bool
-    ensures { λ r. ⌜ Tells ((hand ≢ nobody) × Waits call) r ⌝ }
+    ensures { λ r. ⌜ Tells ((hand ≢ nobody) × MustWait call) r ⌝ }
 {
     if hand == links::NOBODY {
         return false;
@@ -240,7 +240,7 @@ fn must_wait(hand: u16, call: Call) -> bool
 // Any call on a sound store, which stays sound.
 fn on_sound(
     elapsed: u64,
-    rows: &mut [u64; 6],
+    occupied: &mut [u64; 6],
     tops: &mut [u16; 4],
     heads: &mut [[u16; 64]; 6],
     values: &mut [u64],
@@ -252,15 +252,17 @@ fn on_sound(
     hand: u16,
     until: u64,
     call: Call,
-) -> Out
-    requires { ⌜ Sound (holding hand until (lent elapsed rows tops heads values deadlines nexts prevs turns marks)) ⌝ }
+) -> ReplyParts
+    requires { ⌜
+        Sound (holding hand until (lent elapsed occupied tops heads values deadlines nexts prevs turns marks)) ⌝ }
     ensures { λ r. ⌜
-        CallClaim call (holding hand until (before elapsed rows tops heads values deadlines nexts prevs turns marks))
+        CallClaim call
+        (holding hand until (before elapsed occupied tops heads values deadlines nexts prevs turns marks))
         (r .answer) (holding (r .hand) (r .until)
-        (after (r .elapsed) rows tops heads values deadlines nexts prevs turns marks)) ⌝ }
+        (after (r .elapsed) occupied tops heads values deadlines nexts prevs turns marks)) ⌝ }
 {
     if must_wait(hand, call) {
-        return Out {
+        return ReplyParts {
             answer: Answer::No(refusals::POLL_IN_HAND),
             elapsed,
             hand,
@@ -270,7 +272,7 @@ fn on_sound(
     match call {
         Call::Format(n, turn) => formats(
             elapsed,
-            rows,
+            occupied,
             tops,
             heads,
             values,
@@ -286,7 +288,7 @@ fn on_sound(
         ),
         Call::Poll(time) => queue::poll(
             elapsed,
-            rows,
+            occupied,
             tops,
             heads,
             values,
@@ -302,7 +304,7 @@ fn on_sound(
         ),
         Call::PollSome(time, limit) => queue::poll(
             elapsed,
-            rows,
+            occupied,
             tops,
             heads,
             values,
@@ -317,8 +319,8 @@ fn on_sound(
             limit,
         ),
         Call::Length => {
-            let n = queue::length(stack::count_of(tops), marks);
-            Out {
+            let n = queue::length(places::count_of(tops), marks);
+            ReplyParts {
                 answer: Answer::Length(n),
                 elapsed,
                 hand,
@@ -328,7 +330,7 @@ fn on_sound(
         Call::Clear => {
             let answer = queue::clear(
                 elapsed,
-                rows,
+                occupied,
                 tops,
                 heads,
                 values,
@@ -338,7 +340,7 @@ fn on_sound(
                 turns,
                 marks,
             );
-            Out {
+            ReplyParts {
                 answer,
                 elapsed: 0,
                 hand: links::NOBODY,
@@ -348,7 +350,7 @@ fn on_sound(
         Call::Insert(value, when, period) => {
             let answer = queue::insert(
                 elapsed,
-                rows,
+                occupied,
                 tops,
                 heads,
                 values,
@@ -361,7 +363,7 @@ fn on_sound(
                 when,
                 period,
             );
-            Out {
+            ReplyParts {
                 answer,
                 elapsed,
                 hand: links::NOBODY,
@@ -371,7 +373,7 @@ fn on_sound(
         Call::Reset(key, when) => {
             let answer = queue::reset(
                 elapsed,
-                rows,
+                occupied,
                 tops,
                 heads,
                 values,
@@ -383,7 +385,7 @@ fn on_sound(
                 key,
                 when,
             );
-            Out {
+            ReplyParts {
                 answer,
                 elapsed,
                 hand: links::NOBODY,
@@ -393,7 +395,7 @@ fn on_sound(
         Call::Remove(key) => {
             let answer = queue::remove(
                 elapsed,
-                rows,
+                occupied,
                 tops,
                 heads,
                 values,
@@ -404,7 +406,7 @@ fn on_sound(
                 marks,
                 key,
             );
-            Out {
+            ReplyParts {
                 answer,
                 elapsed,
                 hand: links::NOBODY,
@@ -412,10 +414,10 @@ fn on_sound(
             }
         }
         Call::Wake => {
-            let expired = stack::first_expired(tops);
-            let parked = stack::first_parked(tops);
-            let answer = queue::next_wake(elapsed, rows, deadlines, expired, parked);
-            Out {
+            let expired = places::first_expired(tops);
+            let parked = places::first_parked(tops);
+            let answer = queue::next_wake(elapsed, occupied, deadlines, expired, parked);
+            ReplyParts {
                 answer,
                 elapsed,
                 hand,
@@ -439,7 +441,7 @@ fn accepted(answer: Answer) -> bool
 pub fn known(
     sound: bool,
     elapsed: u64,
-    rows: &mut [u64; 6],
+    occupied: &mut [u64; 6],
     tops: &mut [u16; 4],
     heads: &mut [[u16; 64]; 6],
     values: &mut [u64],
@@ -451,19 +453,19 @@ pub fn known(
     hand: u16,
     until: u64,
     call: Call,
-) -> Said
+) -> KnownReply
     requires { ⌜
         Tells (Sound (holding hand until
-        (lent elapsed rows tops heads values deadlines nexts prevs turns marks))) sound ⌝ }
+        (lent elapsed occupied tops heads values deadlines nexts prevs turns marks))) sound ⌝ }
     ensures { λ r. ⌜
-        Knows call (holding hand until (before elapsed rows tops heads values deadlines nexts prevs turns marks))
+        Knows call (holding hand until (before elapsed occupied tops heads values deadlines nexts prevs turns marks))
         (r .answer) (holding (r .hand) (r .until)
-        (after (r .elapsed) rows tops heads values deadlines nexts prevs turns marks)) (r .sound) ⌝ }
+        (after (r .elapsed) occupied tops heads values deadlines nexts prevs turns marks)) (r .sound) ⌝ }
 {
     if sound {
         let out = on_sound(
             elapsed,
-            rows,
+            occupied,
             tops,
             heads,
             values,
@@ -477,7 +479,7 @@ pub fn known(
             call,
         );
         let answer = out.answer;
-        return Said {
+        return KnownReply {
             answer,
             elapsed: out.elapsed,
             hand: out.hand,
@@ -487,7 +489,7 @@ pub fn known(
     }
     let Call::Format(n, turn) = call else {
         let answer = Answer::No(refusals::NOT_SOUND);
-        return Said {
+        return KnownReply {
             answer,
             elapsed,
             hand,
@@ -497,7 +499,7 @@ pub fn known(
     };
     let out = formats(
         elapsed,
-        rows,
+        occupied,
         tops,
         heads,
         values,
@@ -513,7 +515,7 @@ pub fn known(
     );
     let answer = out.answer;
     let taken = accepted(answer);
-    Said {
+    KnownReply {
         answer,
         elapsed: out.elapsed,
         hand: out.hand,
@@ -527,7 +529,7 @@ pub fn known(
 pub fn answer_all(
     sound: bool,
     elapsed: u64,
-    rows: &mut [u64; 6],
+    occupied: &mut [u64; 6],
     tops: &mut [u16; 4],
     heads: &mut [[u16; 64]; 6],
     values: &mut [u64],
@@ -540,14 +542,14 @@ pub fn answer_all(
     until: u64,
     commands: &[u64],
     answers: &mut [u64],
-) -> Went
+) -> RanParts
     requires { ⌜
         Tells (Sound (holding hand until
-        (lent elapsed rows tops heads values deadlines nexts prevs turns marks))) sound ⌝ }
+        (lent elapsed occupied tops heads values deadlines nexts prevs turns marks))) sound ⌝ }
     ensures { λ r. ⌜
-        RunKnown (holding hand until (before elapsed rows tops heads values deadlines nexts prevs turns marks))
+        RunKnown (holding hand until (before elapsed occupied tops heads values deadlines nexts prevs turns marks))
         (old commands) (old answers) (r .done) (r .why) (holding (r .hand) (r .until)
-        (after (r .elapsed) rows tops heads values deadlines nexts prevs turns marks)) (new answers) (r .sound) ⌝ }
+        (after (r .elapsed) occupied tops heads values deadlines nexts prevs turns marks)) (new answers) (r .sound) ⌝ }
 {
     let mut e = elapsed;
     let mut h = hand;
@@ -565,7 +567,7 @@ pub fn answer_all(
             commands[at + 3],
         );
         let Group::Asks(call) = group else {
-            return Went {
+            return RanParts {
                 done: i,
                 why: Why::NoCommand,
                 elapsed: e,
@@ -575,7 +577,7 @@ pub fn answer_all(
             };
         };
         if room <= i {
-            return Went {
+            return RanParts {
                 done: i,
                 why: Why::NoRoom,
                 elapsed: e,
@@ -589,7 +591,7 @@ pub fn answer_all(
         let said = known(
             fine,
             e,
-            rows,
+            occupied,
             tops,
             heads,
             values,
@@ -610,7 +612,7 @@ pub fn answer_all(
         write_answer(answers, to, answer);
         i = next;
     }
-    Went {
+    RanParts {
         done: i,
         why: Why::NoWords,
         elapsed: e,
@@ -637,15 +639,15 @@ pub fn run(
     ensures { λ r. ⌜
         RunClaim (given state heads values deadlines nexts prevs turns marks)
         (old commands) (old answers) (r .done) (r .why)
-        (left (r .state) (r .heads .rows) values deadlines nexts prevs turns marks) (new answers) ⌝ }
+        (left (r .state) (r .heads .heads) values deadlines nexts prevs turns marks) (new answers) ⌝ }
 {
     let sound = judge::is_sound(state, heads, values, deadlines, nexts, prevs, turns, marks);
-    let mut rows = state.occupied;
-    let mut tops = stack::tops_of(state.stacks);
+    let mut occupied = state.occupied;
+    let mut tops = places::tops_in(state.tops);
     let went = answer_all(
         sound,
         state.elapsed,
-        &mut rows,
+        &mut occupied,
         &mut tops,
         &mut heads,
         values,
@@ -659,7 +661,7 @@ pub fn run(
         commands,
         answers,
     );
-    let after = records::wheel_of(went.elapsed, rows, tops, went.hand, went.until);
+    let after = records::wheel_of(went.elapsed, occupied, tops, went.hand, went.until);
     let h = delay_queue::heads_of(heads);
     let why = went.why;
     Ran {

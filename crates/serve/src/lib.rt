@@ -17,8 +17,8 @@ ghost use lib.ListN.{length, take};
 ghost use Rattle.contracts.specs.Lent.{old, new};
 ghost use Rattle.records.specs.Store.{before, after};
 ghost use Rattle.feed.specs.Feed.{answerRoom};
-ghost use Rattle.feed.specs.Serving.{Answered};
-ghost use Rattle.lines.specs.Running.{Passes, Closes, Ran};
+ghost use Rattle.feed.specs.Serving.{LineAnswered};
+ghost use Rattle.lines.specs.Running.{Passes, Closes, ProgramRan};
 
 // Whether each answer is followed by the contents of the lists, how many bytes of an unfinished line are kept, the
 // store, and whether all writes went well.
@@ -51,12 +51,12 @@ fn show(
     if at == 0 {
         return pen;
     }
-    let stacks = state.stacks;
-    if stacks.n == 0 {
+    let top = state.tops;
+    if top.n == 0 {
         return pen;
     }
-    let rows = delay_queue::rows_of(heads);
-    contents::write_lists(out, pen, state, rows, nexts)
+    let grid = delay_queue::heads_in(heads);
+    contents::write_lists(out, pen, state, grid, nexts)
 }
 
 // Writes the answers, which end at `at`, and what is shown behind them. Says whether all writes went well.
@@ -106,14 +106,14 @@ fn answer(
     ensures { λ r. ⌜ r .kept ≤ 81 ⌝ }
     ensures { λ r. ⌜
         Passes
-        (Answered limits)
+        (LineAnswered limits)
         (length (old line))
         (take (run .kept) (old line))
         (old got)
-        (before (run .state) (run .heads .rows) values deadlines nexts prevs turns marks)
+        (before (run .state) (run .heads .heads) values deadlines nexts prevs turns marks)
         (take (r .kept) (new line))
         []
-        (after (r .state) (r .heads .rows) values deadlines nexts prevs turns marks) ⌝ }
+        (after (r .state) (r .heads .heads) values deadlines nexts prevs turns marks) ⌝ }
 {
     let lists = run.lists;
     let most = room(lists);
@@ -172,11 +172,11 @@ fn finish(
     requires { ⌜ (run .kept ≤ 81) × (length (now line) ≡ 81) × (length (now out) ≡ 4096) ⌝ }
     ensures { λ r. ⌜
         Closes
-        (Answered limits)
+        (LineAnswered limits)
         (take (run .kept) (old line))
-        (before (run .state) (run .heads .rows) values deadlines nexts prevs turns marks)
+        (before (run .state) (run .heads .heads) values deadlines nexts prevs turns marks)
         (got .ended)
-        (after (r .state) (r .heads .rows) values deadlines nexts prevs turns marks) ⌝ }
+        (after (r .state) (r .heads .heads) values deadlines nexts prevs turns marks) ⌝ }
 {
     if !input::at_end(got) {
         io::write_all(STDERR_FILENO, b"replay: cannot read\n");
@@ -221,7 +221,8 @@ struct Outcome {
 }
 
 fn comes_to(bytes: usize, last: Got, run: Progress) -> Outcome
-    ensures { λ r. ⌜ r ≡ record { bytes = bytes; last = last; state = run .state; heads = run .heads; fine = run .fine } ⌝ }
+    ensures { λ r. ⌜
+        r ≡ record { bytes = bytes; last = last; state = run .state; heads = run .heads; fine = run .fine } ⌝ }
 {
     let state = run.state;
     let heads = run.heads;
@@ -251,14 +252,14 @@ fn serve(
 ) -> Outcome
     requires { ⌜ (start .kept ≤ 81) × (length (now line) ≡ 81) × (length (now out) ≡ 4096) ⌝ }
     ensures { λ r. ⌜
-        Ran
-        (Answered limits)
+        ProgramRan
+        (LineAnswered limits)
         (length (old line))
         (take (start .kept) (old line))
-        (before (start .state) (start .heads .rows) values deadlines nexts prevs turns marks)
+        (before (start .state) (start .heads .heads) values deadlines nexts prevs turns marks)
         (r .bytes)
         (r .last .ended)
-        (after (r .state) (r .heads .rows) values deadlines nexts prevs turns marks) ⌝ }
+        (after (r .state) (r .heads .heads) values deadlines nexts prevs turns marks) ⌝ }
 {
     let mut buf = io::buffer();
     let mut run = start;
@@ -357,8 +358,8 @@ fn with_room(limits: bool, lists: bool) {
     let mut marks = numbers();
     let mut line = line_space();
     let mut out = io::buffer();
-    let rows = no_heads();
-    let heads = delay_queue::heads_of(rows);
+    let grid = no_heads();
+    let heads = delay_queue::heads_of(grid);
     let state = delay_queue::no_store();
     let start = Progress {
         lists,

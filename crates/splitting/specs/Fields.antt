@@ -11,7 +11,7 @@ use Rattle.splitting.specs.declared.First.the-variants as S
 -- the first field of l ends at e
 pub record EndsAt (l : List ℕ) (e : ℕ) : Type 0 where
   pub within : e ≤ length l
-  pub before : (k : ℕ) → k < e → getD l k 0 ≡ code " " → ⊥
+  pub inside : (k : ℕ) → k < e → getD l k 0 ≡ code " " → ⊥
   pub space : e < length l → getD l e 0 ≡ code " "
 
 -- l is the number n, a space, and then m

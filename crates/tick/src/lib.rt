@@ -20,7 +20,7 @@ pub struct Seen {
 }
 
 // What a poll through the front part hands back.
-pub struct Polled {
+pub struct TickReply {
     pub reply: Reply,
     pub front: Front,
 }
@@ -70,11 +70,11 @@ pub fn poll(
     turns: &mut [u64],
     marks: &mut [u16],
     tick: u32,
-) -> Polled
+) -> TickReply
     ensures { λ r. ⌜
         TickPollClaim (front .time) (before state heads values deadlines nexts prevs turns marks)
         tick (r .reply .answer) (r .front .time)
-        (after (r .reply .state) (r .reply .heads .rows) values deadlines nexts prevs turns marks) ⌝ }
+        (after (r .reply .state) (r .reply .heads .heads) values deadlines nexts prevs turns marks) ⌝ }
 {
     let seen = read(front, tick);
     let answer = seen.answer;
@@ -92,14 +92,14 @@ pub fn poll(
                 marks,
                 moved.time,
             );
-            Polled {
+            TickReply {
                 reply,
                 front: moved,
             }
         }
         _ => {
             let reply = unchanged(answer, state, heads);
-            Polled { reply, front }
+            TickReply { reply, front }
         }
     }
 }
@@ -128,11 +128,11 @@ pub fn poll_some(
     marks: &mut [u16],
     tick: u32,
     limit: u64,
-) -> Polled
+) -> TickReply
     ensures { λ r. ⌜
         TickSomeClaim (front .time) (before state heads values deadlines nexts prevs turns marks)
         tick limit (r .reply .answer) (r .front .time)
-        (after (r .reply .state) (r .reply .heads .rows) values deadlines nexts prevs turns marks) ⌝ }
+        (after (r .reply .state) (r .reply .heads .heads) values deadlines nexts prevs turns marks) ⌝ }
 {
     let seen = read(front, tick);
     let answer = seen.answer;
@@ -152,14 +152,14 @@ pub fn poll_some(
                 now,
                 limit,
             );
-            Polled {
+            TickReply {
                 reply,
                 front: later,
             }
         }
         _ => {
             let same = unchanged(answer, state, heads);
-            Polled { reply: same, front }
+            TickReply { reply: same, front }
         }
     }
 }

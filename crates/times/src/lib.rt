@@ -34,13 +34,13 @@ pub fn slot_for(when: u64, level: usize) -> usize
     ((when >> (level * 6)) % 64) as usize
 }
 
-// Where the slot starts in the level's turn, 64 slots, that elapsed is in.
+// Where the slot starts in the level's lap, 64 slots, that elapsed is in.
 pub fn slot_start(elapsed: u64, level: usize, slot: usize) -> u64
     requires { ⌜ (level < 6) × (slot < 64) ⌝ }
     ensures { λ r. ⌜ r ≡ startAt elapsed level slot ⌝ }
 {
-    let turns = elapsed >> (level * 6 + 6);
-    (turns * 64 + slot as u64) * slot_range(level)
+    let laps = elapsed >> (level * 6 + 6);
+    (laps * 64 + slot as u64) * slot_range(level)
 }
 
 // The level of a deadline that lies in elapsed's block, so that it is one of the six.

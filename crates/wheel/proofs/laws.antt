@@ -9,9 +9,9 @@ pub mod Single
 pub mod Midway
 pub mod Going
 pub mod Belongs
-pub mod Rows
+pub mod Occupied
 pub mod Words
 pub mod Expiration
-pub mod Turns
+pub mod Moves
 pub mod Passed
 pub mod Judged

@@ -5,7 +5,7 @@ use mathlib.Core.Logic.{_≢_}
 use Prim.Native.Nat.{ℕ, suc, _≤_, _<_}
 use Rattle.times.specs.Times.{slotOf, floor, Lies, NextBlock}
 use Rattle.links.specs.Lists.{Mem}
-use Rattle.stack.specs.Places.{slots, parking, levelAt, slotAt}
+use Rattle.places.specs.Places.{slots, parking, levelAt, slotAt}
 use Rattle.wheel.specs.Wheel.{Lists}
 
 -- in a slot of its own, which does not start before elapsed

@@ -1,6 +1,6 @@
 -- Heights: "A timer's height is its level, 0 on the expired stack." 02 [12]: on the "parking list .., height 6".
 use Prim.Native.Nat.{ℕ}
-use Rattle.stack.specs.Places.{expired, levelAt}
+use Rattle.places.specs.Places.{expired, levelAt}
 use Rattle.wheel.specs.Wheel.{Lists}
 use Rattle.wheel.specs.Sums.{total}
 

@@ -9,13 +9,13 @@ use Rattle.times.specs.Times.{slotOf, NextBlock}
 use Rattle.row.specs.Row.{flagAt}
 use Rattle.links.specs.Lists.{nobody}
 use Rattle.links.specs.Links.{at}
-use Rattle.stack.specs.Places.{slotPlace, parking, expired, levelAt, slotAt}
+use Rattle.places.specs.Places.{slotPlace, parking, expired, levelAt, slotAt}
 use Rattle.wheel.specs.declared.Next.{Next}
 use Rattle.wheel.specs.declared.Next.the-variants.{At, Nothing}
 use Rattle.wheel.specs.declared.Wake.{Wake}
 use Rattle.wheel.specs.declared.Wake.the-variants.{At as Wake·At, Never}
 use Rattle.wheel.specs.Wheel.{Lists, NextList, NoneWaits}
-use Rattle.wheel.specs.Rows.{Rows}
+use Rattle.wheel.specs.Occupied.{Occupied}
 use Rattle.wheel.specs.Limited.{start}
 
 -- a slot that elapsed has passed is never occupied
@@ -24,12 +24,12 @@ pub record NotPassed (e : ℕ) (occ : List ℕ) : Type 0 where
 
 -- what a look asks: the head of the parking list, if it has one, has a deadline
 pub record CanLook (e : ℕ) (occ ds : List ℕ) (head : ℕ) : Type 0 where
-  pub rows : NotPassed e occ
+  pub occupied : NotPassed e occ
   pub deadline : head ≢ nobody → head < length ds
 
 -- and what it sees of the lists L: the occupied rows, and the head of the parking list, whose deadline lies in the next block
 pub record Sees (d : ℕ → ℕ) (e : ℕ) (occ : List ℕ) (head : ℕ) (L : Lists) : Type 0 where
-  pub rows : Rows occ L
+  pub occupied : Occupied occ L
   pub none : head ≡ nobody → L parking ≡ []
   pub some : head ≢ nobody → (l : List ℕ) × (L parking ≡ head ∷ l)
   pub block : head ≢ nobody → NextBlock e (d head)

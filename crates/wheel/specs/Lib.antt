@@ -5,8 +5,8 @@ pub mod Limited
 pub mod Midway
 pub mod Drain
 pub mod Poll
-pub mod Rows
+pub mod Occupied
 pub mod Words
 pub mod Expiration
-pub mod Turns
+pub mod Moves
 pub mod Judged

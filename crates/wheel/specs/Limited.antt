@@ -8,7 +8,7 @@ use Prim.Native.Nat.{ℕ, suc, _-_, _≤_, _<_}
 use lib.Dec.{eqb}
 use Rattle.times.specs.Times.{startAt, blockEnd}
 use Rattle.links.specs.Lists.{change}
-use Rattle.stack.specs.Places.{slotPlace, parking, levelAt, slotAt}
+use Rattle.places.specs.Places.{slotPlace, parking, levelAt, slotAt}
 use Rattle.wheel.specs.Wheel.{Lists, FirstSlot, NextList, NoneWaits, arrive}
 
 -- the answer of the whole poll, or "not yet", with the place whose drain is in hand

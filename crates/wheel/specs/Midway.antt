@@ -8,7 +8,7 @@ use mathlib.Core.Option.{none}
 use Prim.Native.Nat.{ℕ, suc, _-_, _≤_, _<_, max}
 use Rattle.times.specs.Times.{slotOf, levelOf, floor, block, NextBlock}
 use Rattle.links.specs.Lists.{nobody}
-use Rattle.stack.specs.Places.{slotPlace, parking, expired, levelAt}
+use Rattle.places.specs.Places.{slotPlace, parking, expired, levelAt}
 use Rattle.wheel.specs.Wheel.{Lists, Rule}
 use Rattle.wheel.specs.Between.{Draining}
 use Rattle.wheel.specs.Limited.{Outcome, start, Limited}
@@ -24,7 +24,7 @@ pub record InHand (d : ℕ → ℕ) (until p e : ℕ) (L : Lists) : Type 0 where
   pub high : 0 < levelAt p
   pub below : p < expired
   pub filled : (x : ℕ) × (l : List ℕ) × (L p ≡ x ∷ l)
-  pub stack : L expired ≡ []
+  pub expired : L expired ≡ []
   pub late : e ≤ start e p
   pub due : start e p ≤ until
   pub rule : Draining d (levelAt p - 1) p (start e p) L
@@ -40,7 +40,7 @@ pub record Comes (d : ℕ → ℕ) (now : ℕ) (o : Outcome) (e : ℕ) (L : List
   pub from : ℕ
   pub lists : Lists
   pub rule : Rule d from lists
-  pub stack : lists expired ≡ []
+  pub expired : lists expired ≡ []
   pub due : from ≤ now
   pub limit : ℕ
   pub moves : ℕ

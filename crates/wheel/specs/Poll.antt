@@ -3,7 +3,7 @@
 use mathlib.Core.Option.{Option, none, some}
 use Prim.Native.Nat.{ℕ, _*_, _/_, _≤_, _<_, max}
 use Rattle.links.specs.Lists.{Mem}
-use Rattle.stack.specs.Places.{expired}
+use Rattle.places.specs.Places.{expired}
 use Rattle.wheel.specs.Wheel.{Lists}
 
 -- y waits in a slot or is parked

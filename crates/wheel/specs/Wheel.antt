@@ -5,7 +5,7 @@ use mathlib.Core.Option.{Option, none, some}
 use Prim.Native.Nat.{ℕ, suc, _+_, _*_, _%_, _≤_, _<_}
 use Rattle.times.specs.Times.{slotOf, startAt, levelOf, block, NextBlock, blockEnd}
 use Rattle.links.specs.Lists.{Mem, change}
-use Rattle.stack.specs.Places.{slotPlace, slots, parking, expired, put}
+use Rattle.places.specs.Places.{slotPlace, slots, parking, expired, put}
 
 -- the list of each place; a place below `slots` is slot p % 64 of level p / 64
 abbrev pub Lists : Type 0
@@ -28,7 +28,7 @@ pub record OnWheel (p e w : ℕ) : Type 0 where
 pub record Rule (d : ℕ → ℕ) (e : ℕ) (L : Lists) : Type 0 where
   pub wheel : (p x : ℕ) → p < slots → Mem x (L p) → OnWheel p e (d x)
   pub parked : (x : ℕ) → Mem x (L parking) → NextBlock e (d x)
-  pub stack : (x : ℕ) → Mem x (L expired) → d x ≡ e
+  pub expired : (x : ℕ) → Mem x (L expired) → d x ≡ e
 
 -- ---- the next slot
 
@@ -39,7 +39,7 @@ pub record FirstSlot (e : ℕ) (L : Lists) (k s : ℕ) : Type 0 where
   pub steps : ℕ
   pub near : steps < 64
   pub is : s ≡ (slotOf e k + steps) % 64
-  pub before : (j : ℕ) → j < steps → L (slotPlace k ((slotOf e k + j) % 64)) ≡ []
+  pub passed : (j : ℕ) → j < steps → L (slotPlace k ((slotOf e k + j) % 64)) ≡ []
   pub head : ℕ
   pub rest : List ℕ
   pub filled : L (slotPlace k s) ≡ head ∷ rest

@@ -3,58 +3,58 @@ use mathlib.Core.Path.{_≡_}
 use mathlib.Core.List.{List, [], _∷_}
 use Prim.Native.Nat.{ℕ, _≤_, _<_}
 use Rattle.links.specs.Lists.{nobody, without, change}
-use Rattle.contracts.specs.Lent.{Lent, Turned, old, new}
-use Rattle.stack.specs.Places.{slots, places, put}
-use Rattle.stack.specs.Words.{StackWords, words as stacked, count as countIn, markOf as markIn}
-use Rattle.stack.specs.Whole as stack
+use Rattle.contracts.specs.Lent.{Lent, Returned, old, new}
+use Rattle.places.specs.Places.{slots, places, put}
+use Rattle.places.specs.Words.{PlaceWords, words as placeWordsOf, count as countIn, markOf as markIn}
+use Rattle.places.specs.Whole as places
 use Rattle.wheel.specs.Wheel.{Lists, arrive}
-use Rattle.wheel.specs.Rows.{Rows}
+use Rattle.wheel.specs.Occupied.{Occupied}
 
 pub record WheelWords : Type 0 where
   pub elapsed : ℕ
   pub occupied : List ℕ
-  pub stack : StackWords
+  pub places : PlaceWords
 
-abbrev pub wheelWords : ℕ → List ℕ → StackWords → WheelWords
-wheelWords e occ t = record { elapsed = e; occupied = occ; stack = t }
+abbrev pub wheelWords : ℕ → List ℕ → PlaceWords → WheelWords
+wheelWords e occ t = record { elapsed = e; occupied = occ; places = t }
 
 abbrev pub words : ℕ → List ℕ → List ℕ → List (List ℕ) → List ℕ → List ℕ → List ℕ → WheelWords
-words e occ tops hh ns ps ms = wheelWords e occ (stacked tops hh ns ps ms)
+words e occ tops hh ns ps ms = wheelWords e occ (placeWordsOf tops hh ns ps ms)
 
 -- as the functions have them: in a `requires`, and in an `ensures` at the call and at the return
 module _ (elapsed : ℕ) where
-  module _ (rows tops : Lent (List ℕ)) (heads : Lent (List (List ℕ))) (nexts prevs marks : Lent (List ℕ)) where
+  module _ (occupied tops : Lent (List ℕ)) (heads : Lent (List (List ℕ))) (nexts prevs marks : Lent (List ℕ)) where
     abbrev pub lent : WheelWords
-    lent = words elapsed (rows .now) (tops .now) (heads .now) (nexts .now) (prevs .now) (marks .now)
+    lent = words elapsed (occupied .now) (tops .now) (heads .now) (nexts .now) (prevs .now) (marks .now)
 
-  module _ (rows tops : Turned (List ℕ)) (heads : Turned (List (List ℕ))) (nexts prevs marks : Turned (List ℕ)) where
+  module _ (occupied tops : Returned (List ℕ)) (heads : Returned (List (List ℕ))) (nexts prevs marks : Returned (List ℕ)) where
     abbrev pub before : WheelWords
-    before = words elapsed (old rows) (old tops) (old heads) (old nexts) (old prevs) (old marks)
+    before = words elapsed (old occupied) (old tops) (old heads) (old nexts) (old prevs) (old marks)
 
     abbrev pub after : WheelWords
-    after = words elapsed (new rows) (new tops) (new heads) (new nexts) (new prevs) (new marks)
+    after = words elapsed (new occupied) (new tops) (new heads) (new nexts) (new prevs) (new marks)
 
 abbrev pub count : WheelWords → ℕ
-count t = countIn (t .stack)
+count t = countIn (t .places)
 
 abbrev pub markOf : WheelWords → ℕ → ℕ
-markOf t i = markIn (t .stack) i
+markOf t i = markIn (t .places) i
 
 -- the list of each place
 abbrev pub lists : WheelWords → Lists
-lists t = stack.lists (t .stack)
+lists t = places.lists (t .places)
 
 -- every list is whole, and the rows are those of the lists
 pub record WheelWhole (t : WheelWords) : Type 0 where
-  pub stack : stack.Whole (t .stack)
-  pub rows : Rows (t .occupied) (lists t)
+  pub places : places.Whole (t .places)
+  pub occupied : Occupied (t .occupied) (lists t)
 
 -- t′ is whole and has the lists L; elapsed, the number of records and the words past them are as they were
 pub record Becomes (t : WheelWords) (L : Lists) (t′ : WheelWords) : Type 0 where
   pub whole : WheelWhole t′
   pub lists : lists t′ ≡ L
   pub elapsed : t′ .elapsed ≡ t .elapsed
-  pub kept : stack.StackKept (t .stack) (t′ .stack)
+  pub kept : places.PlacesKept (t .places) (t′ .places)
 
 -- the record i is there and loose
 pub record LooseIn (t : WheelWords) (i : ℕ) : Type 0 where

@@ -2,30 +2,30 @@
 //
 // A function is lent the wheel in parts, always in this order: elapsed, the occupied row of each level, and the list layer's
 // `tops`, `heads`, `nexts`, `prevs` and `marks`. What it only reads, or only names in its contract, is shared.
-use stack::Stacks;
+use places::Tops;
 ghost use mathlib.Core.Path.{_≡_};
 ghost use Prim.Native.Nat.{_-_, _^_, _≤_, _<_};
 ghost use Rattle.times.specs.Times.{levelOf};
 ghost use Rattle.contracts.specs.Lent.{old};
 ghost use Rattle.contracts.specs.Tells.{Tells};
 ghost use Rattle.links.specs.Links.{at};
-ghost use Rattle.stack.specs.Places.{slotPlace, slots, expired, places};
-ghost use Rattle.stack.specs.Heads.{headOf};
-ghost use Rattle.stack.specs.Words.{stacksOf};
+ghost use Rattle.places.specs.Places.{slotPlace, slots, expired, places};
+ghost use Rattle.places.specs.Heads.{headOf};
+ghost use Rattle.places.specs.Words.{topsOf};
 ghost use Rattle.wheel.specs.Wheel.{Lists};
 ghost use Rattle.wheel.specs.Limited.{start};
 ghost use Rattle.wheel.specs.Expiration.{CanLook, Sees, NextIs, CanGo, GoesTo, WakeIs};
 ghost use Rattle.wheel.specs.Words.{lent, before, after, WheelWhole, Arrives, Comes, Pops, Leaves};
 ghost use Rattle.wheel.specs.Words.{CanAdd, CanPush, CanPop, CanLeave};
 ghost use Rattle.wheel.specs.Judged.{CanJudge};
-ghost use Rattle.wheel.specs.Turns.{CanInsert, CanTake, CanMove, MovesOne, DrainsTo, CanPoll, PollsTo};
+ghost use Rattle.wheel.specs.Moves.{CanInsert, CanTake, CanMove, MovesOne, DrainsTo, CanPoll, PollsTo};
 
 // Elapsed, the occupied row of each level, the list layer's state, and the list whose drain is in hand with the now of its
 // poll (nobody and 0 if no poll is), as the caller keeps them.
 pub struct Wheel {
     pub elapsed: u64,
     pub occupied: [u64; 6],
-    pub stacks: Stacks,
+    pub tops: Tops,
     pub hand: u16,
     pub until: u64,
 }
@@ -45,7 +45,7 @@ pub enum Next {
 // The loose record `item`, with the deadline `when`, joins its slot of the level.
 fn add_entry(
     elapsed: u64,
-    rows: &mut [u64; 6],
+    occupied: &mut [u64; 6],
     tops: &[u16; 4],
     heads: &mut [[u16; 64]; 6],
     nexts: &mut [u16],
@@ -55,20 +55,20 @@ fn add_entry(
     when: u64,
     item: u16,
 )
-    requires { ⌜ CanAdd (lent elapsed rows tops heads nexts prevs marks) level item ⌝ }
+    requires { ⌜ CanAdd (lent elapsed occupied tops heads nexts prevs marks) level item ⌝ }
     ensures { λ _. ⌜
-        Arrives (before elapsed rows tops heads nexts prevs marks)
-        level when item (after elapsed rows tops heads nexts prevs marks) ⌝ }
+        Arrives (before elapsed occupied tops heads nexts prevs marks)
+        level when item (after elapsed occupied tops heads nexts prevs marks) ⌝ }
 {
     let slot = times::slot_for(when, level);
-    stack::push_slot(heads, nexts, prevs, marks, level, slot, item);
-    rows[level] = row::set(rows[level], slot);
+    places::push_slot(heads, nexts, prevs, marks, level, slot, item);
+    occupied[level] = row::set(occupied[level], slot);
 }
 
 // The loose record `item` joins a list that is no slot.
 pub fn push(
     elapsed: u64,
-    rows: &[u64; 6],
+    occupied: &[u64; 6],
     tops: &mut [u16; 4],
     heads: &mut [[u16; 64]; 6],
     nexts: &mut [u16],
@@ -77,18 +77,18 @@ pub fn push(
     place: u16,
     item: u16,
 )
-    requires { ⌜ CanPush (lent elapsed rows tops heads nexts prevs marks) place item ⌝ }
+    requires { ⌜ CanPush (lent elapsed occupied tops heads nexts prevs marks) place item ⌝ }
     ensures { λ _. ⌜
-        Comes (before elapsed rows tops heads nexts prevs marks)
-        place item (after elapsed rows tops heads nexts prevs marks) ⌝ }
+        Comes (before elapsed occupied tops heads nexts prevs marks)
+        place item (after elapsed occupied tops heads nexts prevs marks) ⌝ }
 {
-    stack::push(tops, heads, nexts, prevs, marks, place, item);
+    places::push(tops, heads, nexts, prevs, marks, place, item);
 }
 
 // The head of a list that is no slot leaves it, and is loose. From an empty one nobody does.
 pub fn pop(
     elapsed: u64,
-    rows: &[u64; 6],
+    occupied: &[u64; 6],
     tops: &mut [u16; 4],
     heads: &mut [[u16; 64]; 6],
     nexts: &mut [u16],
@@ -96,18 +96,19 @@ pub fn pop(
     marks: &mut [u16],
     place: u16,
 ) -> u16
-    requires { ⌜ WheelWhole (lent elapsed rows tops heads nexts prevs marks) × (slots ≤ place) × (place < places) ⌝ }
+    requires { ⌜
+        WheelWhole (lent elapsed occupied tops heads nexts prevs marks) × (slots ≤ place) × (place < places) ⌝ }
     ensures { λ r. ⌜
-        Pops (before elapsed rows tops heads nexts prevs marks)
-        place r (after elapsed rows tops heads nexts prevs marks) ⌝ }
+        Pops (before elapsed occupied tops heads nexts prevs marks)
+        place r (after elapsed occupied tops heads nexts prevs marks) ⌝ }
 {
-    stack::pop(tops, heads, nexts, prevs, marks, place)
+    places::pop(tops, heads, nexts, prevs, marks, place)
 }
 
 // The head of a slot leaves it, and is loose. From an empty one nobody does.
 fn pop_entry(
     elapsed: u64,
-    rows: &mut [u64; 6],
+    occupied: &mut [u64; 6],
     tops: &[u16; 4],
     heads: &mut [[u16; 64]; 6],
     nexts: &mut [u16],
@@ -116,26 +117,26 @@ fn pop_entry(
     level: usize,
     slot: usize,
 ) -> u16
-    requires { ⌜ CanPop (lent elapsed rows tops heads nexts prevs marks) level slot ⌝ }
+    requires { ⌜ CanPop (lent elapsed occupied tops heads nexts prevs marks) level slot ⌝ }
     ensures { λ r. ⌜
-        Pops (before elapsed rows tops heads nexts prevs marks)
-        (slotPlace level slot) r (after elapsed rows tops heads nexts prevs marks) ⌝ }
+        Pops (before elapsed occupied tops heads nexts prevs marks)
+        (slotPlace level slot) r (after elapsed occupied tops heads nexts prevs marks) ⌝ }
 {
-    let item = stack::pop_slot(heads, nexts, prevs, marks, level, slot);
+    let item = places::pop_slot(heads, nexts, prevs, marks, level, slot);
     if item == links::NOBODY {
         return item;
     }
     if heads[level][slot] != links::NOBODY {
         return item;
     }
-    rows[level] = row::clear(rows[level], slot);
+    occupied[level] = row::clear(occupied[level], slot);
     item
 }
 
 // The record `item` leaves its list, whichever it is, and is loose.
 pub fn remove(
     elapsed: u64,
-    rows: &mut [u64; 6],
+    occupied: &mut [u64; 6],
     tops: &mut [u16; 4],
     heads: &mut [[u16; 64]; 6],
     nexts: &mut [u16],
@@ -143,35 +144,35 @@ pub fn remove(
     marks: &mut [u16],
     item: u16,
 )
-    requires { ⌜ CanLeave (lent elapsed rows tops heads nexts prevs marks) item ⌝ }
+    requires { ⌜ CanLeave (lent elapsed occupied tops heads nexts prevs marks) item ⌝ }
     ensures { λ _. ⌜
-        Leaves (before elapsed rows tops heads nexts prevs marks)
-        item (after elapsed rows tops heads nexts prevs marks) ⌝ }
+        Leaves (before elapsed occupied tops heads nexts prevs marks)
+        item (after elapsed occupied tops heads nexts prevs marks) ⌝ }
 {
     let place = marks[item as usize];
-    stack::remove(tops, heads, nexts, prevs, marks, item);
-    if !stack::is_slot(place) {
+    places::remove(tops, heads, nexts, prevs, marks, item);
+    if !places::is_slot(place) {
         return;
     }
-    let level = stack::level_of(place);
-    let slot = stack::slot_of(place);
+    let level = places::level_of(place);
+    let slot = places::slot_of(place);
     if heads[level][slot] != links::NOBODY {
         return;
     }
-    rows[level] = row::clear(rows[level], slot);
+    occupied[level] = row::clear(occupied[level], slot);
 }
 
 // The first occupied slot, from elapsed on, of the lowest non-empty level: its lowest one, since none that elapsed has
 // passed is occupied. Where no slot is, the parking list, of which `parking` is the head. It starts where its deadlines' block
 // does: read off one of them, that is a u64 in the last block too.
-pub fn next_expiration(elapsed: u64, rows: &[u64; 6], deadlines: &[u64], parking: u16) -> Next
-    requires { ⌜ CanLook elapsed (now rows) (now deadlines) parking ⌝ }
+pub fn next_expiration(elapsed: u64, occupied: &[u64; 6], deadlines: &[u64], parking: u16) -> Next
+    requires { ⌜ CanLook elapsed (now occupied) (now deadlines) parking ⌝ }
     ensures { λ r. ⌜
-        ((L : Lists) → Sees (at (old deadlines)) elapsed (old rows) parking L → NextIs elapsed L r) ⌝ }
+        ((L : Lists) → Sees (at (old deadlines)) elapsed (old occupied) parking L → NextIs elapsed L r) ⌝ }
 {
     let mut level: usize = 0;
     while level < times::NUM_LEVELS {
-        let row = rows[level];
+        let row = occupied[level];
         if row != 0 {
             let slot = row::first_slot(row);
             let deadline = times::slot_start(elapsed, level, slot);
@@ -200,12 +201,12 @@ pub enum Wake {
 }
 
 // The start of what comes next, if anything does.
-pub fn poll_at(elapsed: u64, rows: &[u64; 6], deadlines: &[u64], parking: u16) -> Wake
-    requires { ⌜ CanLook elapsed (now rows) (now deadlines) parking ⌝ }
+pub fn poll_at(elapsed: u64, occupied: &[u64; 6], deadlines: &[u64], parking: u16) -> Wake
+    requires { ⌜ CanLook elapsed (now occupied) (now deadlines) parking ⌝ }
     ensures { λ r. ⌜
-        ((L : Lists) → Sees (at (old deadlines)) elapsed (old rows) parking L → WakeIs elapsed L r) ⌝ }
+        ((L : Lists) → Sees (at (old deadlines)) elapsed (old occupied) parking L → WakeIs elapsed L r) ⌝ }
 {
-    let next = next_expiration(elapsed, rows, deadlines, parking);
+    let next = next_expiration(elapsed, occupied, deadlines, parking);
     match next {
         Next::At(expiration) => Wake::At(expiration.deadline),
         Next::Nothing => Wake::Never,
@@ -215,7 +216,7 @@ pub fn poll_at(elapsed: u64, rows: &[u64; 6], deadlines: &[u64], parking: u16) -
 // The loose record `item` is placed at the deadline `when`, which lies in elapsed's block.
 pub fn insert(
     elapsed: u64,
-    rows: &mut [u64; 6],
+    occupied: &mut [u64; 6],
     tops: &[u16; 4],
     heads: &mut [[u16; 64]; 6],
     nexts: &mut [u16],
@@ -224,15 +225,15 @@ pub fn insert(
     when: u64,
     item: u16,
 )
-    requires { ⌜ CanInsert (lent elapsed rows tops heads nexts prevs marks) when item ⌝ }
+    requires { ⌜ CanInsert (lent elapsed occupied tops heads nexts prevs marks) when item ⌝ }
     ensures { λ _. ⌜
-        Arrives (before elapsed rows tops heads nexts prevs marks)
-        (levelOf elapsed when) when item (after elapsed rows tops heads nexts prevs marks) ⌝ }
+        Arrives (before elapsed occupied tops heads nexts prevs marks)
+        (levelOf elapsed when) when item (after elapsed occupied tops heads nexts prevs marks) ⌝ }
 {
     let level = times::level_for(elapsed, when);
     add_entry(
         elapsed,
-        rows,
+        occupied,
         tops,
         heads,
         nexts,
@@ -247,7 +248,7 @@ pub fn insert(
 // The head of a slot, or of the parking list as slot 0 of level 6, leaves it, and is loose. From an empty one nobody does.
 fn take_entry(
     elapsed: u64,
-    rows: &mut [u64; 6],
+    occupied: &mut [u64; 6],
     tops: &mut [u16; 4],
     heads: &mut [[u16; 64]; 6],
     nexts: &mut [u16],
@@ -256,30 +257,40 @@ fn take_entry(
     level: usize,
     slot: usize,
 ) -> u16
-    requires { ⌜ CanTake (lent elapsed rows tops heads nexts prevs marks) level slot ⌝ }
+    requires { ⌜ CanTake (lent elapsed occupied tops heads nexts prevs marks) level slot ⌝ }
     ensures { λ r. ⌜
-        Pops (before elapsed rows tops heads nexts prevs marks)
-        (slotPlace level slot) r (after elapsed rows tops heads nexts prevs marks) ⌝ }
+        Pops (before elapsed occupied tops heads nexts prevs marks)
+        (slotPlace level slot) r (after elapsed occupied tops heads nexts prevs marks) ⌝ }
 {
     if level < times::NUM_LEVELS {
-        return pop_entry(elapsed, rows, tops, heads, nexts, prevs, marks, level, slot);
+        return pop_entry(
+            elapsed,
+            occupied,
+            tops,
+            heads,
+            nexts,
+            prevs,
+            marks,
+            level,
+            slot,
+        );
     }
     pop(
         elapsed,
-        rows,
+        occupied,
         tops,
         heads,
         nexts,
         prevs,
         marks,
-        stack::PARKING,
+        places::PARKING,
     )
 }
 
 // One move: the head of a list above level 0 goes to its slot one level down. From an empty list nobody does.
 fn move_entry(
     elapsed: u64,
-    rows: &mut [u64; 6],
+    occupied: &mut [u64; 6],
     tops: &mut [u16; 4],
     heads: &mut [[u16; 64]; 6],
     nexts: &mut [u16],
@@ -289,19 +300,29 @@ fn move_entry(
     level: usize,
     slot: usize,
 ) -> u16
-    requires { ⌜ CanMove (lent elapsed rows tops heads nexts prevs marks) (now deadlines) level slot ⌝ }
+    requires { ⌜ CanMove (lent elapsed occupied tops heads nexts prevs marks) (now deadlines) level slot ⌝ }
     ensures { λ r. ⌜
-        MovesOne (at (old deadlines)) (before elapsed rows tops heads nexts prevs marks)
-        (level - 1) (slotPlace level slot) r (after elapsed rows tops heads nexts prevs marks) ⌝ }
+        MovesOne (at (old deadlines)) (before elapsed occupied tops heads nexts prevs marks)
+        (level - 1) (slotPlace level slot) r (after elapsed occupied tops heads nexts prevs marks) ⌝ }
 {
-    let item = take_entry(elapsed, rows, tops, heads, nexts, prevs, marks, level, slot);
+    let item = take_entry(
+        elapsed,
+        occupied,
+        tops,
+        heads,
+        nexts,
+        prevs,
+        marks,
+        level,
+        slot,
+    );
     if item == links::NOBODY {
         return item;
     }
     let when = deadlines[item as usize];
     add_entry(
         elapsed,
-        rows,
+        occupied,
         tops,
         heads,
         nexts,
@@ -318,7 +339,7 @@ fn move_entry(
 // could have been.
 fn poll_expiration(
     elapsed: u64,
-    rows: &mut [u64; 6],
+    occupied: &mut [u64; 6],
     tops: &mut [u16; 4],
     heads: &mut [[u16; 64]; 6],
     nexts: &mut [u16],
@@ -329,10 +350,10 @@ fn poll_expiration(
     slot: usize,
     limit: u64,
 ) -> u64
-    requires { ⌜ CanMove (lent elapsed rows tops heads nexts prevs marks) (now deadlines) level slot ⌝ }
+    requires { ⌜ CanMove (lent elapsed occupied tops heads nexts prevs marks) (now deadlines) level slot ⌝ }
     ensures { λ r. ⌜
-        DrainsTo (at (old deadlines)) (before elapsed rows tops heads nexts prevs marks)
-        (level - 1) (slotPlace level slot) limit r (after elapsed rows tops heads nexts prevs marks) ⌝ }
+        DrainsTo (at (old deadlines)) (before elapsed occupied tops heads nexts prevs marks)
+        (level - 1) (slotPlace level slot) limit r (after elapsed occupied tops heads nexts prevs marks) ⌝ }
 {
     let mut left = limit;
     loop {
@@ -341,7 +362,7 @@ fn poll_expiration(
         }
         let item = move_entry(
             elapsed,
-            rows,
+            occupied,
             tops,
             heads,
             nexts,
@@ -364,20 +385,20 @@ fn list_place(level: usize, slot: usize) -> u16
     ensures { λ r. ⌜ r ≡ slotPlace level slot ⌝ }
 {
     if level < times::NUM_LEVELS {
-        return stack::slot_place(level, slot);
+        return places::slot_place(level, slot);
     }
-    stack::PARKING
+    places::PARKING
 }
 
 // The head of that list.
 fn list_head(tops: &[u16; 4], heads: &[[u16; 64]; 6], level: usize, slot: usize) -> u16
     requires { ⌜ (slot < 64) × (slotPlace level slot < expired) ⌝ }
-    ensures { λ r. ⌜ r ≡ headOf (stacksOf (old tops)) (old heads) (slotPlace level slot) ⌝ }
+    ensures { λ r. ⌜ r ≡ headOf (topsOf (old tops)) (old heads) (slotPlace level slot) ⌝ }
 {
     if level < times::NUM_LEVELS {
         return heads[level][slot];
     }
-    stack::first_parked(tops)
+    places::first_parked(tops)
 }
 
 // Where the list of a slot starts, or the parking list, if that is a u64.
@@ -385,10 +406,10 @@ pub fn list_start(elapsed: u64, place: u16) -> u64
     requires { ⌜ (place < expired) × (start elapsed place < 2 ^ 64) ⌝ }
     ensures { λ r. ⌜ r ≡ start elapsed place ⌝ }
 {
-    if place == stack::PARKING {
+    if place == places::PARKING {
         return times::block_end(elapsed);
     }
-    times::slot_start(elapsed, stack::level_of(place), stack::slot_of(place))
+    times::slot_start(elapsed, places::level_of(place), places::slot_of(place))
 }
 
 // What a poll hands out, or nobody, its moves and drains, and elapsed after it. With a drain in hand the poll has not ended:
@@ -402,15 +423,15 @@ pub struct Polled {
 }
 
 // Where a poll goes on: with the list whose drain is in hand, and if there is none with the first one.
-fn next_list(elapsed: u64, rows: &[u64; 6], deadlines: &[u64], parking: u16, hand: u16) -> Next
-    requires { ⌜ CanGo elapsed (now rows) (now deadlines) parking hand ⌝ }
-    ensures { λ r. ⌜ GoesTo (at (old deadlines)) elapsed (old rows) parking hand r ⌝ }
+fn next_list(elapsed: u64, occupied: &[u64; 6], deadlines: &[u64], parking: u16, hand: u16) -> Next
+    requires { ⌜ CanGo elapsed (now occupied) (now deadlines) parking hand ⌝ }
+    ensures { λ r. ⌜ GoesTo (at (old deadlines)) elapsed (old occupied) parking hand r ⌝ }
 {
     if hand == links::NOBODY {
-        return next_expiration(elapsed, rows, deadlines, parking);
+        return next_expiration(elapsed, occupied, deadlines, parking);
     }
-    let level = stack::level_of(hand);
-    let slot = stack::slot_of(hand);
+    let level = places::level_of(hand);
+    let slot = places::slot_of(hand);
     let deadline = list_start(elapsed, hand);
     Next::At(Expiration {
         level,
@@ -423,7 +444,7 @@ fn next_list(elapsed: u64, rows: &[u64; 6], deadlines: &[u64], parking: u16, han
 // which is `hand` if a drain is in hand, and drains it unless it is a slot of level 0.
 pub fn poll(
     elapsed: u64,
-    rows: &mut [u64; 6],
+    occupied: &mut [u64; 6],
     tops: &mut [u16; 4],
     heads: &mut [[u16; 64]; 6],
     nexts: &mut [u16],
@@ -434,10 +455,10 @@ pub fn poll(
     time: u64,
     limit: u64,
 ) -> Polled
-    requires { ⌜ CanPoll (lent elapsed rows tops heads nexts prevs marks) (now deadlines) hand time ⌝ }
+    requires { ⌜ CanPoll (lent elapsed occupied tops heads nexts prevs marks) (now deadlines) hand time ⌝ }
     ensures { λ r. ⌜
-        PollsTo (at (old deadlines)) time limit hand (before elapsed rows tops heads nexts prevs marks)
-        (r .item) (r .hand) (r .moves) (r .drains) (after (r .elapsed) rows tops heads nexts prevs marks) ⌝ }
+        PollsTo (at (old deadlines)) time limit hand (before elapsed occupied tops heads nexts prevs marks)
+        (r .item) (r .hand) (r .moves) (r .drains) (after (r .elapsed) occupied tops heads nexts prevs marks) ⌝ }
 {
     let mut e = elapsed;
     let mut place = hand;
@@ -445,7 +466,7 @@ pub fn poll(
     let mut moves = 0u64;
     let mut drains = 0u64;
     let item = loop {
-        let next = next_list(e, rows, deadlines, stack::first_parked(tops), place);
+        let next = next_list(e, occupied, deadlines, places::first_parked(tops), place);
         let Next::At(expiration) = next else {
             e = time;
             break links::NOBODY;
@@ -458,11 +479,11 @@ pub fn poll(
             break links::NOBODY;
         }
         if level == 0 {
-            break pop_entry(e, rows, tops, heads, nexts, prevs, marks, level, slot);
+            break pop_entry(e, occupied, tops, heads, nexts, prevs, marks, level, slot);
         }
         left = poll_expiration(
             e,
-            rows,
+            occupied,
             tops,
             heads,
             nexts,
@@ -494,29 +515,29 @@ pub fn poll(
 // Whether every list is whole, and the rows name exactly the slots that have a head.
 pub fn is_whole(
     elapsed: u64,
-    rows: &[u64; 6],
+    occupied: &[u64; 6],
     tops: &[u16; 4],
     heads: &[[u16; 64]; 6],
     nexts: &[u16],
     prevs: &[u16],
     marks: &[u16],
 ) -> bool
-    requires { ⌜ CanJudge (lent elapsed rows tops heads nexts prevs marks) ⌝ }
-    ensures { λ r. ⌜ Tells (WheelWhole (before elapsed rows tops heads nexts prevs marks)) r ⌝ }
+    requires { ⌜ CanJudge (lent elapsed occupied tops heads nexts prevs marks) ⌝ }
+    ensures { λ r. ⌜ Tells (WheelWhole (before elapsed occupied tops heads nexts prevs marks)) r ⌝ }
 {
-    let mut left = stack::count_of(tops);
+    let mut left = places::count_of(tops);
     let mut level: usize = 0;
     while level < times::NUM_LEVELS {
-        let seen = stack::walk_level(tops, heads, nexts, prevs, marks, level, left);
+        let seen = places::walk_level(tops, heads, nexts, prevs, marks, level, left);
         let walk = seen.walk;
         let links::Walk::Left(l) = walk else {
             return false;
         };
-        if seen.filled != rows[level] {
+        if seen.filled != occupied[level] {
             return false;
         }
         left = l;
         level += 1;
     }
-    stack::walk_rest(tops, heads, nexts, prevs, marks, left)
+    places::walk_rest(tops, heads, nexts, prevs, marks, left)
 }

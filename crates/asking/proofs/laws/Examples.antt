@@ -60,7 +60,7 @@ unsaid b l k h = line b l F.Bad L.Bad k h refl .bad .0 refl
 one-field : (s : List ℕ) → T (every isOther s) → ((n : ℕ) → Decimal s n → ⊥) → Holds 3 (code " " ∷ s) F.Bad
 one-field s t n =
     none-at-all 3 s
-    (first-bad s (length s) (record { within = omega arith; before = other; space = λ h. absurd (omega arith) }) (λ m d. n m (rw (take-length s) at d)))
+    (first-bad s (length s) (record { within = omega arith; inside = other; space = λ h. absurd (omega arith) }) (λ m d. n m (rw (take-length s) at d)))
   where
     other : (i : ℕ) → i < length s → getD s i 0 ≡ code " " → ⊥
     other i h e = T-not (eqb (getD s i 0) 32) (at isOther s t i h) (rw e tt)
@@ -94,14 +94,14 @@ two-spaces =
     first (suc k) h e = omega arith
 
     ends : EndsAt (bytes "7  70 0") 1
-    ends = record { within = omega arith; before = first; space = λ h. refl }
+    ends = record { within = omega arith; inside = first; space = λ h. refl }
 
     seven : Decimal (bytes "7") 7
     seven = record { some = omega arith; digits = digits (bytes "7") tt; spare = λ h. absurd (omega arith); number = refl; fits = omega arith }
 
     no-first : Begins (bytes " 70 0") S.Bad
     no-first =
-        first-bad (bytes " 70 0") 0 (record { within = omega arith; before = λ k h. absurd (omega arith); space = λ h. refl })
+        first-bad (bytes " 70 0") 0 (record { within = omega arith; inside = λ k h. absurd (omega arith); space = λ h. refl })
         (λ n d. omega (arith, d .some))
 
 no-limit : (c : Call) → Says (bytes "q 70") c → ⊥

@@ -1,4 +1,4 @@
--- The reader's steps: what each test and each turn of its code shows.
+-- The reader's steps: what each test and each pass of its code shows.
 use mathlib.Core.Path.{_≡_, sym, ap, ap₂, _∙_, subst}
 use mathlib.Core.List.{List, [], _∷_, nil≢cons}
 use Prim.Native.Nat.{ℕ, _+_, _-_, _≤_, _<_}

@@ -1,6 +1,6 @@
 -- `answer_line` meets its claim: heard, done and written, or `bad` written and nothing else touched.
 use borrow.Author.Needs.{needs}
-use Rattle.bench.proofs.laws.Line.{line-asks, line-rows, line-not}
+use Rattle.bench.proofs.laws.Line.{line-asks, line-heads, line-not}
 use Rattle.bench.proofs.answer_line.Statement.{statement}
 use Rattle.bench.proofs.answer_line.Tie as tie
 
@@ -12,12 +12,12 @@ to-ask c =
     let e = d .before .before .before .before in
     e .before .before
 
-abbrev to-rows : tie.After-ask → tie.After-rows-of
-to-rows c =
+abbrev to-occupied : tie.After-ask → tie.After-heads-in
+to-occupied c =
     let a = c .before .before .before .before in
     a .before .before .before
 
-abbrev to-asked : tie.After-rows-of → tie.After-asked
+abbrev to-asked : tie.After-heads-in → tie.After-asked
 to-asked c = c .before .before
 
 abbrev to-bad : tie.After-slice-known15 → tie.After-write-bad
@@ -32,8 +32,8 @@ hear-requires c κs = search needs
 enum-known-asked : tie.Need-enum-known-asked
 enum-known-asked c = search needs
 
-rows-of-requires : tie.Need-rows-of-requires
-rows-of-requires c κs = search needs
+heads-in-requires : tie.Need-heads-in-requires
+heads-in-requires c κs = search needs
 
 ask-requires : tie.Need-ask-requires
 ask-requires c κs = search needs
@@ -71,9 +71,9 @@ same-length-7 c = search needs
 returns : tie.Need-returns
 returns c =
     let at-ask = to-ask c in
-    let at-rows = to-rows at-ask in
-    let at-asked = to-asked at-rows in
-    line-rows _ _ _ _ _ _ _ (at-rows .rows-of .ensures)
+    let at-occupied = to-occupied at-ask in
+    let at-asked = to-asked at-occupied in
+    line-heads _ _ _ _ _ _ _ (at-occupied .heads-in .ensures)
     (line-asks _ (at-asked .before .before .hear .ensures) (at-asked .asked .given .1) _ (at-ask .ask .ensures) (c .before .before .write-answer .ensures))
 
 same-length-8 : tie.Need-same-length-8
@@ -91,7 +91,7 @@ answer-line-spec =
     (tie.spec
     hear-requires
     enum-known-asked
-    rows-of-requires
+    heads-in-requires
     ask-requires
     write-answer-requires
     enum-told

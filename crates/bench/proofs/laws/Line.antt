@@ -32,9 +32,9 @@ module _ {limits : Bool} {l o : List ℕ} {s : QueueWords} {at : ℕ} {o′ : Li
       }
 
 -- the heads, handed on as their rows
-pub line-rows : {limits : Bool} {l o o′ : List ℕ} {at end : ℕ} {s′ : QueueWords} (w : Wheel) {hh hh′ : List (List ℕ)} (vs ds ns ps ts ms : List ℕ) → hh ≡ hh′
+pub line-heads : {limits : Bool} {l o o′ : List ℕ} {at end : ℕ} {s′ : QueueWords} (w : Wheel) {hh hh′ : List (List ℕ)} (vs ds ns ps ts ms : List ℕ) → hh ≡ hh′
     → LineClaim limits l (words w hh vs ds ns ps ts ms) o at s′ o′ end → LineClaim limits l (words w hh′ vs ds ns ps ts ms) o at s′ o′ end
-line-rows {limits} {l} {o} {o′} {at} {end} {s′} w vs ds ns ps ts ms e C =
+line-heads {limits} {l} {o} {o′} {at} {end} {s′} w vs ds ns ps ts ms e C =
     subst (λ (h : List (List ℕ)). LineClaim limits l (words w h vs ds ns ps ts ms) o at s′ o′ end) e C
 
 -- it asks no call

@@ -5,7 +5,7 @@ use mathlib.Core.List.{List, List-discrete}
 use Prim.Native.Nat.{ℕ}
 use native.Mathlib.Decide.{ℕ-discrete}
 use Rattle.links.specs.Links.{links}
-use Rattle.stack.specs.Words.{stackWords}
+use Rattle.places.specs.Words.{placeWords}
 use Rattle.wheel.specs.Words.{wheelWords}
 use Rattle.queue.specs.declared.Answer.{Answer}
 use Rattle.records.specs.Words.{QueueWords, queueWords}
@@ -39,17 +39,17 @@ pub same-store : (s t : QueueWords) → ((P : Type 0) → Dec P → (s ≡ t →
 same-store s t f =
     let number : (g : QueueWords → ℕ) → g s ≡ g t = λ g. f (g s ≡ g t) (ℕ-discrete (g s) (g t)) (λ e. ap g e) in
     let list : (g : QueueWords → List ℕ) → g s ≡ g t = λ g. f (g s ≡ g t) (List-discrete ℕ-discrete (g s) (g t)) (λ e. ap g e) in
-    let n = number (λ x. x .wheel .stack .stacks .n) in
-    let expired = number (λ x. x .wheel .stack .stacks .expired) in
-    let free = number (λ x. x .wheel .stack .stacks .free) in
-    let parking = number (λ x. x .wheel .stack .stacks .parking) in
-    let heads : s .wheel .stack .heads ≡ t .wheel .stack .heads =
-    f (s .wheel .stack .heads ≡ t .wheel .stack .heads) (List-discrete (List-discrete ℕ-discrete) (s .wheel .stack .heads) (t .wheel .stack .heads))
-    (λ e. ap (λ (x : QueueWords). x .wheel .stack .heads) e)
+    let n = number (λ x. x .wheel .places .tops .n) in
+    let expired = number (λ x. x .wheel .places .tops .expired) in
+    let free = number (λ x. x .wheel .places .tops .free) in
+    let parking = number (λ x. x .wheel .places .tops .parking) in
+    let heads : s .wheel .places .heads ≡ t .wheel .places .heads =
+    f (s .wheel .places .heads ≡ t .wheel .places .heads) (List-discrete (List-discrete ℕ-discrete) (s .wheel .places .heads) (t .wheel .places .heads))
+    (λ e. ap (λ (x : QueueWords). x .wheel .places .heads) e)
     in
-    let nexts = list (λ x. x .wheel .stack .links .nexts) in
-    let prevs = list (λ x. x .wheel .stack .links .prevs) in
-    let marks = list (λ x. x .wheel .stack .links .marks) in
+    let nexts = list (λ x. x .wheel .places .links .nexts) in
+    let prevs = list (λ x. x .wheel .places .links .prevs) in
+    let marks = list (λ x. x .wheel .places .links .marks) in
     let elapsed = number (λ x. x .wheel .elapsed) in
     let occupied = list (λ x. x .wheel .occupied) in
     let values = list (λ x. x .values) in
@@ -60,7 +60,7 @@ same-store s t f =
     λ i.
     queueWords
     (wheelWords (elapsed i) (occupied i)
-    (stackWords (record { n = n i; expired = expired i; free = free i; parking = parking i }) (heads i) (links (nexts i) (prevs i) (marks i))))
+    (placeWords (record { n = n i; expired = expired i; free = free i; parking = parking i }) (heads i) (links (nexts i) (prevs i) (marks i))))
     (values i)
     (deadlines i)
     (turns i)

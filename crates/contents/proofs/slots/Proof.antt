@@ -1,9 +1,9 @@
--- `slots` meets its contract: every turn passes one slot, the last one the parking list.
+-- `slots` meets its contract: every step passes one slot, the last one the parking list.
 use borrow.Author.Needs.{needs}
 use mathlib.Core.Path.{_≡_}
 use Prim.Native.Nat.{_≤_, _-_}
 use lib.ListN.{length}
-use Rattle.stack.specs.Places.{expired}
+use Rattle.places.specs.Places.{expired}
 use Rattle.contents.proofs.slots.Statement.{statement}
 use Rattle.contents.proofs.slots.Tie as tie
 
@@ -13,8 +13,8 @@ Inv-loop out₀ heads nexts n tops p₀ place₀ out p place = (place ≤ expire
 abbrev μ-loop : tie.MeasureT-loop
 μ-loop out₀ heads nexts n tops p₀ place₀ out p place = expired - place
 
-tops-of-requires : tie.Need-tops-of-requires Inv-loop μ-loop
-tops-of-requires c κs = search needs
+tops-in-requires : tie.Need-tops-in-requires Inv-loop μ-loop
+tops-in-requires c κs = search needs
 
 loop-holds : tie.Need-loop-holds Inv-loop μ-loop
 loop-holds c = search needs
@@ -52,7 +52,7 @@ slots-spec =
     (tie.spec
     Inv-loop
     μ-loop
-    tops-of-requires
+    tops-in-requires
     loop-holds
     head-of-requires
     level-of-requires

@@ -5,14 +5,14 @@ use Rattle.records.specs.Words.{Standing}
 use Rattle.records.proofs.laws.Lent.{lent-as}
 use Rattle.queue.specs.Calls.{ClearOn}
 use Rattle.records.proofs.laws.Inner.{standing-hold}
-use Rattle.delay_queue.proofs.laws.Back.{back, turned-down, is-sound, taken-clear}
+use Rattle.delay_queue.proofs.laws.Back.{back, sent-back, is-sound, taken-clear}
 use Rattle.delay_queue.proofs.clear.Statement.{statement}
 use Rattle.delay_queue.proofs.clear.Tie as tie
 
-abbrev to-else1 : tie.After-tops-of → tie.Else1
+abbrev to-else1 : tie.After-tops-in → tie.Else1
 to-else1 c = c .before .before
 
-abbrev to-tops : tie.After-clear-arg4 → tie.After-tops-of
+abbrev to-tops : tie.After-clear-arg4 → tie.After-tops-in
 to-tops c =
     let a = c .before .before .before .before in
     a .before .before .before
@@ -43,16 +43,16 @@ same-length-4 c = search needs
 
 returns : tie.Need-returns
 returns c =
-    turned-down _ _ _ _ _ _ (c .before .before .is-sound .ensures) (c .before .if1 .taken) (c .refused .ensures)
+    sent-back _ _ _ _ _ _ (c .before .before .is-sound .ensures) (c .before .if1 .taken) (c .refused .ensures)
 
-tops-of-requires : tie.Need-tops-of-requires
-tops-of-requires c κs = search needs
+tops-in-requires : tie.Need-tops-in-requires
+tops-in-requires c κs = search needs
 
 clear-requires : tie.Need-clear-requires
 clear-requires c κs =
     let at-tops = to-tops c in
     let else1 = to-else1 at-tops in
-    lent-as Standing (at-tops .tops-of .ensures)
+    lent-as Standing (at-tops .tops-in .ensures)
     (standing-hold (is-sound (else1 .before .is-sound .ensures) (else1 .if1 .left) .standing) nobody 0)
 
 packed-requires : tie.Need-packed-requires
@@ -75,7 +75,7 @@ returns-2 c =
     let at-clear = to-clear c in
     let at-tops = to-tops (at-clear .before) in
     let else1 = to-else1 at-tops in
-    taken-clear (is-sound (else1 .before .is-sound .ensures) (else1 .if1 .left)) (at-tops .tops-of .ensures)
+    taken-clear (is-sound (else1 .before .is-sound .ensures) (else1 .if1 .left)) (at-tops .tops-in .ensures)
     (back _ _ _ _ _ _ (c .packed .ensures) (ClearOn _) (at-clear .clear .ensures _ _))
 
 pub clear-spec : {M : Type 1} → statement M
@@ -89,7 +89,7 @@ clear-spec =
     same-length-3
     same-length-4
     returns
-    tops-of-requires
+    tops-in-requires
     clear-requires
     packed-requires
     same-length-5

@@ -53,7 +53,7 @@ stayed = (stay-none (λ _. Grid) yes, tt)
 module _ {M : Type 1} (𝓤 : URA M) (H : Heap 𝓤) (A : Atoms 𝓤) (W : Given 𝓤 H A) (mem : Memory → SProp 𝓤) (run : Routine → Fun 𝓤) (x : List (List ℕ))
     (is : Is Grid x (gridVal x ∷ [])) where
   abbrev h : Heads
-  h = record { rows = x }
+  h = record { heads = x }
 
   abbrev mach : Val
   mach = vstruct (vcons (gridVal x) vnil)

@@ -8,14 +8,14 @@ use native.Mathlib.Omega.{arith}
 use lib.ListN.{length}
 use borrow.Author.Tests.{not-true, not-false}
 use Rattle.links.specs.Lists.{nobody}
-use Rattle.stack.specs.Places.{expired}
-use Rattle.stack.specs.declared.Stacks.{Stacks}
-use Rattle.stack.specs.Words.{headAt}
-use Rattle.stack.proofs.laws.Heads.{head-expired}
-use Rattle.stack.proofs.laws.Whole as stack-laws
+use Rattle.places.specs.Places.{expired}
+use Rattle.places.specs.declared.Tops.{Tops}
+use Rattle.places.specs.Words.{headAt}
+use Rattle.places.proofs.laws.Heads.{head-expired}
+use Rattle.places.proofs.laws.Whole as place-laws
 use Rattle.wheel.proofs.laws.Between.{rule-between}
 use Rattle.wheel.specs.Expiration.{CanLook}
-use Rattle.wheel.proofs.laws.Turns.{wheel-asks, wheel-sees}
+use Rattle.wheel.proofs.laws.Moves.{wheel-asks, wheel-sees}
 use Rattle.wheel.specs.declared.Wheel.{Wheel}
 use Rattle.queue.specs.declared.Answer.{Answer}
 use Rattle.queue.specs.declared.Answer.the-variants as A
@@ -28,32 +28,32 @@ use Rattle.queue.proofs.laws.Resumed.{polls-whole}
 use Rattle.queue.specs.Inner.{Shows, pendingIn}
 use Rattle.queue.proofs.laws.Polls.{pending-is}
 use Rattle.records.specs.Words.{QueueWords, words, holding, AtRest, MidPoll, Sound, count, elapsed, markOf, view}
-use Rattle.records.proofs.laws.Lent.{stacked, stacked-same, lent-as}
+use Rattle.records.proofs.laws.Lent.{placeWordsOf, stacked-same, lent-as}
 use Rattle.contracts.specs.Tells.{Tells}
 use Rattle.delay_queue.specs.declared.Call.{Call}
 use Rattle.delay_queue.specs.Claims.{Judging, InsertClaim, ResetClaim, RemoveClaim, PollClaim, PollSomeClaim, ClearClaim, CallClaim}
 use Rattle.delay_queue.specs.Free.{FreeNo}
 
 -- what goes out is a with w and hh
-abbrev pub Goes : Answer → Wheel → List (List ℕ) → Answer → Wheel → List (List ℕ) → Type 0
-Goes a′ w′ hh′ a w hh = (a′ ≡ a) × (w′ ≡ w) × (hh′ ≡ hh)
+abbrev pub GivesBack : Answer → Wheel → List (List ℕ) → Answer → Wheel → List (List ℕ) → Type 0
+GivesBack a′ w′ hh′ a w hh = (a′ ≡ a) × (w′ ≡ w) × (hh′ ≡ hh)
 
 module _ (vs ds ns ps ts ms : List ℕ) where
-  pub back : {a a′ : Answer} {w w′ : Wheel} {hh hh′ : List (List ℕ)} → Goes a′ w′ hh′ a w hh → (On : Answer → QueueWords → Type 0)
+  pub back : {a a′ : Answer} {w w′ : Wheel} {hh hh′ : List (List ℕ)} → GivesBack a′ w′ hh′ a w hh → (On : Answer → QueueWords → Type 0)
       → On a (words w hh vs ds ns ps ts ms) → On a′ (words w′ hh′ vs ds ns ps ts ms)
   back G On x = subst (λ (z : Answer × Wheel × List (List ℕ)). On (z .0) (words (z .1) (z .2) vs ds ns ps ts ms))
       (sym (λ i. (G .0 i, G .1 i, G .2 i))) x
 
   -- an answer alone
-  pub back-same : {a a′ : Answer} {w w′ : Wheel} {hh hh′ : List (List ℕ)} → Goes a′ w′ hh′ a w hh → (On : Answer → Type 0) → On a
+  pub back-same : {a a′ : Answer} {w w′ : Wheel} {hh hh′ : List (List ℕ)} → GivesBack a′ w′ hh′ a w hh → (On : Answer → Type 0) → On a
       → On a′ × (words w′ hh′ vs ds ns ps ts ms ≡ words w hh vs ds ns ps ts ms)
   back-same G On x = (subst On (sym (G .0)) x, λ i. words (G .1 i) (G .2 i) vs ds ns ps ts ms)
 
   -- not sound
-  pub turned-down : {a : Answer} {w w′ : Wheel} {hh hh′ : List (List ℕ)} {b : Bool} {On : Type 0}
+  pub sent-back : {a : Answer} {w w′ : Wheel} {hh hh′ : List (List ℕ)} {b : Bool} {On : Type 0}
       → Tells (Sound (words w hh vs ds ns ps ts ms)) b → not b ≡ true
-      → Goes a w′ hh′ (A.No 2) w hh → Judging (words w hh vs ds ns ps ts ms) a (words w′ hh′ vs ds ns ps ts ms) On
-  turned-down {b = b} T e G =
+      → GivesBack a w′ hh′ (A.No 2) w hh → Judging (words w hh vs ds ns ps ts ms) a (words w′ hh′ vs ds ns ps ts ms) On
+  sent-back {b = b} T e G =
       record {
         bad = λ f. record { told = ap told (G .0); same = λ i. words (G .1 i) (G .2 i) vs ds ns ps ts ms };
         good = λ S. absurd (T .no (not-true b e) S);
@@ -97,11 +97,11 @@ away F d e q =
       };
     }
 
-pub turned-away : (vs ds ns ps ts ms : List ℕ) {a : Answer} {w w′ : Wheel} {hh hh′ : List (List ℕ)} {r : ℕ} {On : Type 0}
-    → FreeNo (words w hh vs ds ns ps ts ms) r → r ≢ 0 → Goes a w′ hh′ (A.No r) w hh
+pub sent-away : (vs ds ns ps ts ms : List ℕ) {a : Answer} {w w′ : Wheel} {hh hh′ : List (List ℕ)} {r : ℕ} {On : Type 0}
+    → FreeNo (words w hh vs ds ns ps ts ms) r → r ≢ 0 → GivesBack a w′ hh′ (A.No r) w hh
     → Judging (words w hh vs ds ns ps ts ms) a (words w′ hh′ vs ds ns ps ts ms)
     (Freely (words w hh vs ds ns ps ts ms) a (words w′ hh′ vs ds ns ps ts ms) On)
-turned-away vs ds ns ps ts ms F d G = away F d (ap told (G .0)) (λ i. words (G .1 i) (G .2 i) vs ds ns ps ts ms)
+sent-away vs ds ns ps ts ms F d G = away F d (ap told (G .0)) (λ i. words (G .1 i) (G .2 i) vs ds ns ps ts ms)
 
 pub no-free : {s : QueueWords} {r : ℕ} {On : Type 0} → FreeNo s r → r ≢ 0 → Judging s (A.No r) s (Freely s (A.No r) s On)
 no-free F d = away F d refl refl
@@ -114,35 +114,35 @@ pub parted : {s : QueueWords} → Sound s × AtRest s → Sound (holding nobody 
 parted F = subst Sound (sym (settled F)) (F .0)
 
 -- the call was asked of the stacks st, lent
-taken-free : {s s′ : QueueWords} {a : Answer} {st : Stacks} (On : QueueWords → Type 0) → Sound s × AtRest s → st ≡ s .wheel .stack .stacks
-    → On (holding nobody 0 (stacked st s)) → Judging s a s′ (Freely s a s′ (On s))
+taken-free : {s s′ : QueueWords} {a : Answer} {st : Tops} (On : QueueWords → Type 0) → Sound s × AtRest s → st ≡ s .wheel .places .tops
+    → On (holding nobody 0 (placeWordsOf st s)) → Judging s a s′ (Freely s a s′ (On s))
 taken-free {s} On F q x =
     record {
       bad = λ f. absurd (f (F .0));
       good = λ S. record { held = λ d. absurd (d (F .1)); free = λ _. subst On (settled F) (subst (λ s. On (holding nobody 0 s)) (stacked-same {s = s} q) x) };
     }
 
-module _ {s s′ : QueueWords} {a : Answer} {st : Stacks} where
-  module _ (F : Sound s × AtRest s) (q : st ≡ s .wheel .stack .stacks) where
-    pub taken-insert : {value when period : ℕ} → InsertOn (holding nobody 0 (stacked st s)) value when period a s′ → InsertClaim s value when period a s′
+module _ {s s′ : QueueWords} {a : Answer} {st : Tops} where
+  module _ (F : Sound s × AtRest s) (q : st ≡ s .wheel .places .tops) where
+    pub taken-insert : {value when period : ℕ} → InsertOn (holding nobody 0 (placeWordsOf st s)) value when period a s′ → InsertClaim s value when period a s′
     taken-insert {value} {when} {period} x = taken-free (λ s. InsertOn s value when period a s′) F q x
 
-    pub taken-reset : {key when : ℕ} → ResetOn (holding nobody 0 (stacked st s)) key when a s′ → ResetClaim s key when a s′
+    pub taken-reset : {key when : ℕ} → ResetOn (holding nobody 0 (placeWordsOf st s)) key when a s′ → ResetClaim s key when a s′
     taken-reset {key} {when} x = taken-free (λ s. ResetOn s key when a s′) F q x
 
-    pub taken-remove : {key : ℕ} → RemoveOn (holding nobody 0 (stacked st s)) key a s′ → RemoveClaim s key a s′
+    pub taken-remove : {key : ℕ} → RemoveOn (holding nobody 0 (placeWordsOf st s)) key a s′ → RemoveClaim s key a s′
     taken-remove {key} x = taken-free (λ s. RemoveOn s key a s′) F q x
 
   -- polls and clears judge a poll in hand themselves
-  module _ (S : Sound s) (q : st ≡ s .wheel .stack .stacks) where
-    pub taken-poll : {now limit : ℕ} → PollsOn (stacked st s) now limit a s′ → PollSomeClaim s now limit a s′
+  module _ (S : Sound s) (q : st ≡ s .wheel .places .tops) where
+    pub taken-poll : {now limit : ℕ} → PollsOn (placeWordsOf st s) now limit a s′ → PollSomeClaim s now limit a s′
     taken-poll {now} {limit} x = taken-up S (subst (λ s. PollsOn s now limit a s′) (stacked-same q) x)
 
-    pub taken-clear : ClearOn (stacked st s) a s′ → ClearClaim s a s′
+    pub taken-clear : ClearOn (placeWordsOf st s) a s′ → ClearClaim s a s′
     taken-clear x = taken-up S (subst (λ s. ClearOn s a s′) (stacked-same q) x)
 
 -- asked of the stacks st, lent
-pub tells-lent : {s : QueueWords} {st : Stacks} {b : Bool} → st ≡ s .wheel .stack .stacks → Tells (Sound s) b → Tells (Sound (stacked st s)) b
+pub tells-lent : {s : QueueWords} {st : Tops} {b : Bool} → st ≡ s .wheel .places .tops → Tells (Sound s) b → Tells (Sound (placeWordsOf st s)) b
 tells-lent {b = b} q T = lent-as (λ s. Tells (Sound s) b) q T
 
 pub taken-alone : {s : QueueWords} {a : Answer} {On : Type 0} → Sound s × AtRest s → On → Judging s a s (Freely s a s On)
@@ -155,34 +155,34 @@ whole-claim P = record { bad = P .bad; good = λ S. polls-whole S (omega arith) 
 -- ---- next wake and length
 
 pub can-look : {s : QueueWords} → Sound s × AtRest s
-    → CanLook (elapsed s) (s .wheel .occupied) (s .deadlines) (s .wheel .stack .stacks .parking)
+    → CanLook (elapsed s) (s .wheel .occupied) (s .deadlines) (s .wheel .places .tops .parking)
 can-look {s} F =
     let S = F .0 in
     wheel-asks (S .standing .whole) (rule-between (S .rule .free (F .1))) (s .deadlines) (S .standing .fits .room .deadlines)
 
 -- the words of a sound store are those of its view
 abbrev pub ShowsOf : QueueWords → View → Type 0
-ShowsOf s v = let st = s .wheel .stack .stacks in Shows (elapsed s) (s .wheel .occupied) (s .deadlines) (st .expired) (st .parking) v
+ShowsOf s v = let st = s .wheel .places .tops in Shows (elapsed s) (s .wheel .occupied) (s .deadlines) (st .expired) (st .parking) v
 
 shows : {s : QueueWords} → Sound s × AtRest s → ShowsOf s (view s)
 shows {s} F =
     let S = F .0 in
-    let W = S .standing .whole .stack in
-    let head : headAt (s .wheel .stack) expired ≡ s .wheel .stack .stacks .expired = head-expired (s .wheel .stack .stacks) (s .wheel .stack .heads) in
+    let W = S .standing .whole .places in
+    let head : headAt (s .wheel .places) expired ≡ s .wheel .places .tops .expired = head-expired (s .wheel .places .tops) (s .wheel .places .heads) in
     record {
       elapsed = refl;
       wheel = wheel-sees (S .standing .whole) (rule-between (S .rule .free (F .1)));
-      empty = λ z. stack-laws.list-empty W expired (head ∙ z);
-      first = λ d. rw head at (stack-laws.list-cons W expired (λ z. d (sym head ∙ z)));
+      empty = λ z. place-laws.list-empty W expired (head ∙ z);
+      first = λ d. rw head at (place-laws.list-cons W expired (λ z. d (sym head ∙ z)));
     }
 
 -- x and p are the heads as they were read
-pub wake-done : {s : QueueWords} {a : Answer} {x p : ℕ} → x ≡ s .wheel .stack .stacks .expired → p ≡ s .wheel .stack .stacks .parking
+pub wake-done : {s : QueueWords} {a : Answer} {x p : ℕ} → x ≡ s .wheel .places .tops .expired → p ≡ s .wheel .places .tops .parking
     → Sound s × AtRest s → ((v : View) → Shows (elapsed s) (s .wheel .occupied) (s .deadlines) x p v → NextWake v (told a)) → WakeOn s a
 wake-done {s} ex ep F f = record { done = f (view s) (rw (ex, ep) (shows F)) }
 
-pub marks-long : {s : QueueWords} → Sound s → count s ≤ length (s .wheel .stack .links .marks)
-marks-long S = stack-laws.room (S .standing .whole .stack) .marks
+pub marks-long : {s : QueueWords} → Sound s → count s ≤ length (s .wheel .places .links .marks)
+marks-long S = place-laws.room (S .standing .whole .places) .marks
 
 pub length-done : {s : QueueWords} {n : ℕ} → Sound s → n ≡ pendingIn (markOf s) (count s) → LengthOn s (A.Length n)
 length-done S e = record { done = ap len (e ∙ pending-is S) }

@@ -11,14 +11,14 @@ use Rattle.row.proofs.laws.Rows.{row-none}
 use Rattle.links.specs.Lists.{Mem, nobody, change}
 use Rattle.links.proofs.laws.Lists.{change-other}
 use Rattle.links.specs.Links.{at}
-use Rattle.stack.specs.Places.{slotPlace, parking, expired, free}
-use Rattle.stack.specs.Words.{StackWords}
-use Rattle.stack.specs.Format.{over, range, formatted}
-use Rattle.stack.proofs.laws.Format.{over-step, over-at, over-kept, length-over, format-kept, format-whole, format-lists}
-use Rattle.stack.specs.Whole as stack
-use Rattle.stack.proofs.laws.Whole as stack-laws
+use Rattle.places.specs.Places.{slotPlace, parking, expired, free}
+use Rattle.places.specs.Words.{PlaceWords}
+use Rattle.places.specs.Format.{over, range, formatted}
+use Rattle.places.proofs.laws.Format.{over-step, over-at, over-kept, length-over, format-kept, format-whole, format-lists}
+use Rattle.places.specs.Whole as places
+use Rattle.places.proofs.laws.Whole as place-laws
 use Rattle.wheel.specs.declared.Wheel.{Wheel}
-use Rattle.wheel.specs.Rows.{filled, flags}
+use Rattle.wheel.specs.Occupied.{filled, flags}
 use Rattle.wheel.specs.Words.{wheelWords}
 use Rattle.queue.specs.declared.Answer.{Answer}
 use Rattle.queue.specs.declared.Answer.the-variants as A
@@ -27,7 +27,7 @@ use Rattle.records.proofs.laws.View.{view-eq}
 use Rattle.records.specs.Slices.{slicesOf, valueAt, periodAt, Fits}
 use Rattle.records.specs.Words.{QueueWords, queueWords, words, slices, Sound}
 use Rattle.delay_queue.specs.Claims.{InRange, first, Formatted, FormatClaim}
-use Rattle.delay_queue.proofs.laws.Back.{Goes}
+use Rattle.delay_queue.proofs.laws.Back.{GivesBack}
 use Rattle.delay_queue.specs.Format.{FormatNo, Makes}
 
 -- ---- the number
@@ -95,8 +95,8 @@ module _ (n x : ℕ) (l : List ℕ) (h : 2 * n ≤ length l) where
 -- ---- the store
 
 module _ (s : QueueWords) {n turn : ℕ} (F : Fits (slices s) n) (T : InRange turn) where
-  abbrev made : StackWords
-  made = formatted n (s .wheel .stack .links .nexts) (s .wheel .stack .links .prevs) (s .wheel .stack .links .marks)
+  abbrev made : PlaceWords
+  made = formatted n (s .wheel .places .links .nexts) (s .wheel .places .links .prevs) (s .wheel .places .links .marks)
 
   abbrev new : QueueWords
   new = queueWords (wheelWords 0 (replicate 6 0) made) (over (2 * n) (λ i. 0) (s .values)) (over n (λ i. 0) (s .deadlines))
@@ -105,20 +105,20 @@ module _ (s : QueueWords) {n turn : ℕ} (F : Fits (slices s) n) (T : InRange tu
   small : n ≤ nobody
   small = omega arith
 
-  whole : stack.Whole made
+  whole : places.Whole made
   whole = format-whole n _ _ _ (F .some) small (F .room .links)
 
-  is : stack.lists made ≡ change (λ p. []) free (range n 0)
+  is : places.lists made ≡ change (λ p. []) free (range n 0)
   is = format-lists n _ _ _ (F .some) small (F .room .links)
 
   -- no list of timers has a member
-  empty : (p : ℕ) → p < free → stack.lists made p ≡ []
+  empty : (p : ℕ) → p < free → places.lists made p ≡ []
   empty p h = ap (λ L. L p) is ∙ change-other (λ q. []) free (range n 0) p (omega arith)
 
-  nobody-in : (p x : ℕ) → p < free → Mem x (stack.lists made p) → ⊥
+  nobody-in : (p x : ℕ) → p < free → Mem x (places.lists made p) → ⊥
   nobody-in p x h m = rw (empty p h) at m
 
-  sized : made .stacks .n ≡ n
+  sized : made .tops .n ≡ n
   unfolding formatted
   sized = refl
 
@@ -136,17 +136,17 @@ module _ (s : QueueWords) {n turn : ℕ} (F : Fits (slices s) n) (T : InRange tu
             room = record {
               values = omega (arith, sized, length-over (2 * n) (λ i. 0) (s .values));
               deadlines = omega (arith, sized, length-over n (λ i. 0) (s .deadlines));
-              links = stack-laws.room whole;
+              links = place-laws.room whole;
               turns = omega (arith, sized, length-over n (λ i. turn) (s .turns));
             };
           };
           whole = record {
-            stack = whole;
-            rows = record {
+            places = whole;
+            occupied = record {
               six = refl;
               row = λ k hk.
                   getD-replicate {A = ℕ} 6 k 0 0 hk
-                  ∙ sym (row-none (flags (stack.lists made) k) 64 (λ j hj. ap filled (empty (slotPlace k j) (omega arith))));
+                  ∙ sym (row-none (flags (places.lists made) k) 64 (λ j hj. ap filled (empty (slotPlace k j) (omega arith))));
             };
           };
           turns = λ i h. let e : at (over n (λ j. turn) (s .turns)) i ≡ turn = over-at n
@@ -157,7 +157,7 @@ module _ (s : QueueWords) {n turn : ℕ} (F : Fits (slices s) n) (T : InRange tu
           free = λ _. record {
             wheel = λ p x h m. absurd (nobody-in p x (omega arith) m);
             parked = λ x m. absurd (nobody-in parking x (omega arith) m);
-            stack = λ x m. absurd (nobody-in expired x (omega arith) m);
+            expired = λ x m. absurd (nobody-in expired x (omega arith) m);
           };
           inside = λ d. absurd (d refl);
         };
@@ -199,7 +199,7 @@ module _ (s : QueueWords) (n turn : ℕ) where
       record { short = λ f. absurd (f (t .0)); outside = λ F f. absurd (f (t .1)); done = λ F T. formats s F T M e }
 
 pub format-refused : (vs ds ns ps ts ms : List ℕ) {n turn r : ℕ} {a : Answer} {w w′ : Wheel} {hh hh′ : List (List ℕ)}
-    → FormatNo (Fits (slicesOf vs ds ns ps ts ms) n) (InRange turn) r → r ≢ 0 → Goes a w′ hh′ (A.No r) w hh
+    → FormatNo (Fits (slicesOf vs ds ns ps ts ms) n) (InRange turn) r → r ≢ 0 → GivesBack a w′ hh′ (A.No r) w hh
     → FormatClaim (words w hh vs ds ns ps ts ms) n turn a (words w′ hh′ vs ds ns ps ts ms)
 format-refused vs ds ns ps ts ms {n} {turn} {w = w} {hh = hh} N d G =
     format-no (words w hh vs ds ns ps ts ms) n turn N d (G .0) (λ i. words (G .1 i) (G .2 i) vs ds ns ps ts ms)

@@ -1,4 +1,4 @@
--- `make` meets its contract: the lists by `stack::format`, the rest word by word.
+-- `make` meets its contract: the lists by `places::format`, the rest word by word.
 use borrow.Author.Needs.{needs}
 use mathlib.Core.Path.{refl, ap}
 use lib.ListN.{replicate}

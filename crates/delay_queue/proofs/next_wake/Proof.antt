@@ -5,7 +5,7 @@ use Rattle.delay_queue.proofs.laws.Back.{no-free, taken-alone, can-look
 use Rattle.delay_queue.proofs.next_wake.Statement.{statement}
 use Rattle.delay_queue.proofs.next_wake.Tie as tie
 
-abbrev to-else1 : tie.After-rows2 → tie.Else1
+abbrev to-else1 : tie.After-occupied2 → tie.Else1
 to-else1 c = c .before .before .before
 
 free-no-requires : tie.Need-free-no-requires

@@ -3,14 +3,14 @@ use borrow.Author.Needs.{needs}
 use Rattle.records.specs.Words.{Sound}
 use Rattle.records.proofs.laws.Lent.{lent-as}
 use Rattle.queue.specs.Calls.{PollsOn}
-use Rattle.delay_queue.proofs.laws.Back.{back, turned-down, is-sound, taken-poll}
+use Rattle.delay_queue.proofs.laws.Back.{back, sent-back, is-sound, taken-poll}
 use Rattle.delay_queue.proofs.poll_some.Statement.{statement}
 use Rattle.delay_queue.proofs.poll_some.Tie as tie
 
-abbrev to-else1 : tie.After-tops-of → tie.Else1
+abbrev to-else1 : tie.After-tops-in → tie.Else1
 to-else1 c = c .before .before
 
-abbrev to-tops : tie.After-poll-arg5 → tie.After-tops-of
+abbrev to-tops : tie.After-poll-arg5 → tie.After-tops-in
 to-tops c =
     let a = c .before .before .before .before in
     a .before .before .before .before
@@ -44,16 +44,16 @@ same-length-5 c = search needs
 
 returns : tie.Need-returns
 returns c =
-    turned-down _ _ _ _ _ _ (c .before .before .is-sound .ensures) (c .before .if1 .taken) (c .refused .ensures)
+    sent-back _ _ _ _ _ _ (c .before .before .is-sound .ensures) (c .before .if1 .taken) (c .refused .ensures)
 
-tops-of-requires : tie.Need-tops-of-requires
-tops-of-requires c κs = search needs
+tops-in-requires : tie.Need-tops-in-requires
+tops-in-requires c κs = search needs
 
 poll-requires : tie.Need-poll-requires
 poll-requires c κs =
     let at-tops = to-tops c in
     let else1 = to-else1 at-tops in
-    lent-as Sound (at-tops .tops-of .ensures)
+    lent-as Sound (at-tops .tops-in .ensures)
     (is-sound (else1 .before .is-sound .ensures) (else1 .if1 .left))
 
 packed-requires : tie.Need-packed-requires
@@ -79,7 +79,7 @@ returns-2 c =
     let at-poll = to-poll c in
     let at-tops = to-tops (at-poll .before) in
     let else1 = to-else1 at-tops in
-    taken-poll (is-sound (else1 .before .is-sound .ensures) (else1 .if1 .left)) (at-tops .tops-of .ensures)
+    taken-poll (is-sound (else1 .before .is-sound .ensures) (else1 .if1 .left)) (at-tops .tops-in .ensures)
     (back _ _ _ _ _ _ (c .packed .ensures) (PollsOn _ _ _) (at-poll .poll .ensures))
 
 pub poll-some-spec : {M : Type 1} → statement M
@@ -94,7 +94,7 @@ poll-some-spec =
     same-length-4
     same-length-5
     returns
-    tops-of-requires
+    tops-in-requires
     poll-requires
     packed-requires
     same-length-6

@@ -3,14 +3,14 @@ use borrow.Author.Needs.{needs}
 use Rattle.records.specs.Words.{Sound}
 use Rattle.records.proofs.laws.Lent.{lent-as}
 use Rattle.queue.specs.Calls.{ResetOn}
-use Rattle.delay_queue.proofs.laws.Back.{back, turned-away, parted, taken-reset}
+use Rattle.delay_queue.proofs.laws.Back.{back, sent-away, parted, taken-reset}
 use Rattle.delay_queue.proofs.reset.Statement.{statement}
 use Rattle.delay_queue.proofs.reset.Tie as tie
 
-abbrev to-else1 : tie.After-tops-of → tie.Else1
+abbrev to-else1 : tie.After-tops-in → tie.Else1
 to-else1 c = c .before .before
 
-abbrev to-tops : tie.After-reset-arg4 → tie.After-tops-of
+abbrev to-tops : tie.After-reset-arg4 → tie.After-tops-in
 to-tops c =
     let a = c .before .before .before .before in
     a .before .before .before
@@ -41,16 +41,16 @@ same-length-4 c = search needs
 
 returns : tie.Need-returns
 returns c =
-    turned-away _ _ _ _ _ _ (c .before .before .free-no .ensures) (c .before .if1 .taken) (c .refused .ensures)
+    sent-away _ _ _ _ _ _ (c .before .before .free-no .ensures) (c .before .if1 .taken) (c .refused .ensures)
 
-tops-of-requires : tie.Need-tops-of-requires
-tops-of-requires c κs = search needs
+tops-in-requires : tie.Need-tops-in-requires
+tops-in-requires c κs = search needs
 
 reset-requires : tie.Need-reset-requires
 reset-requires c κs =
     let at-tops = to-tops c in
     let else1 = to-else1 at-tops in
-    lent-as Sound (at-tops .tops-of .ensures)
+    lent-as Sound (at-tops .tops-in .ensures)
     (parted (else1 .before .free-no .ensures .taken (else1 .if1 .left)))
 
 packed-requires : tie.Need-packed-requires
@@ -73,7 +73,7 @@ returns-2 c =
     let at-reset = to-reset c in
     let at-tops = to-tops (at-reset .before) in
     let else1 = to-else1 at-tops in
-    taken-reset (else1 .before .free-no .ensures .taken (else1 .if1 .left)) (at-tops .tops-of .ensures)
+    taken-reset (else1 .before .free-no .ensures .taken (else1 .if1 .left)) (at-tops .tops-in .ensures)
     (back _ _ _ _ _ _ (c .packed .ensures) (ResetOn _ _ _) (at-reset .reset .ensures))
 
 pub reset-spec : {M : Type 1} → statement M
@@ -87,7 +87,7 @@ reset-spec =
     same-length-3
     same-length-4
     returns
-    tops-of-requires
+    tops-in-requires
     reset-requires
     packed-requires
     same-length-5

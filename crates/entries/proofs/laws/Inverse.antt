@@ -12,8 +12,8 @@ use Rattle.entries.specs.declared.Step.{Step}
 use Rattle.entries.specs.declared.Step.the-variants as S
 use Rattle.entries.specs.declared.Ending.{Ending}
 use Rattle.entries.specs.declared.Ending.the-variants as E
-use Rattle.entries.specs.declared.Next.{Next}
-use Rattle.entries.specs.declared.Next.the-variants as X
+use Rattle.entries.specs.declared.NextStep.{NextStep}
+use Rattle.entries.specs.declared.NextStep.the-variants as X
 use Rattle.entries.specs.declared.Entry.{Entry}
 use Rattle.entries.specs.Entries.{stepBytes}
 use Rattle.entries.specs.Reading.{entryIn, known, zeros, checked, pairOf, stepOf, next, Unfinished, part, half}
@@ -35,11 +35,11 @@ pair-damage : Damage E.Pair
 pair-damage e = let n : _≡_ {A = ℕ} 0 1 = cc in omega arith
 
 -- an entry shows damage by itself, or it is x
-data CheckedIs (e : Entry) (x : Next) : Next → Type 0 where
+data CheckedIs (e : Entry) (x : NextStep) : NextStep → Type 0 where
   fine : zeros e ≡ true → CheckedIs e x x
   spoilt : {d : Ending} → Damage d → CheckedIs e x (X.Ends d)
 
-checked-is : (e : Entry) (x : Next) → CheckedIs e x (checked e x)
+checked-is : (e : Entry) (x : NextStep) → CheckedIs e x (checked e x)
 unfolding checked
 checked-is e x = by (known (e .kind)) (zeros e) refl
   where
@@ -50,7 +50,7 @@ checked-is e x = by (known (e .kind)) (zeros e) refl
 
 -- ---- what an entry says where l stands behind it
 
-pub data StepIs (e : Entry) (l : List ℕ) : Next → Type 0 where
+pub data StepIs (e : Entry) (l : List ℕ) : NextStep → Type 0 where
   format : e .kind ≡ 1 → StepIs e l (X.One (S.Asks (C.Format (e .a) (e .b))))
   insert : e .kind ≡ 2 → StepIs e l (X.One (S.Asks (C.Insert (e .a) (e .b) 0)))
   reset : e .kind ≡ 3 → StepIs e l (X.One (S.Asks (C.Reset (e .a) (e .b))))
@@ -66,8 +66,8 @@ pub data StepIs (e : Entry) (l : List ℕ) : Next → Type 0 where
   broken : {d : Ending} → Damage d → StepIs e l (X.Ends d)
 
 module _ (e : Entry) (l : List ℕ) where
-  this : {x y : Next} → x ≡ y → StepIs e l x → StepIs e l y
-  this q i = subst (λ (z : Next). StepIs e l z) q i
+  this : {x y : NextStep} → x ≡ y → StepIs e l x → StepIs e l y
+  this q i = subst (λ (z : NextStep). StepIs e l z) q i
 
   nine : e .kind ≡ 9 → StepIs e l (stepOf e l)
   nine k =
@@ -86,7 +86,7 @@ module _ (e : Entry) (l : List ℕ) where
           (λ n. this (pair-made e p t n) (pair k h z t (omega arith))))
           (λ t. this (pair-kind e p t) (broken pair-damage))
 
-      by : {x : Next} → 18 ≤ length l → CheckedIs p (pairOf e p) x → StepIs e l x
+      by : {x : NextStep} → 18 ≤ length l → CheckedIs p (pairOf e p) x → StepIs e l x
       by h (fine z) = made h z
       by h (spoilt d) = broken d
 
@@ -116,24 +116,24 @@ module _ (e : Entry) (l : List ℕ) where
 
 -- ---- what bytes begin with
 
-pub data NextIs (l : List ℕ) : Next → Type 0 where
+pub data NextIs (l : List ℕ) : NextStep → Type 0 where
   short : length l < 18 → NextIs l (X.Ends E.Cut)
-  whole : {x : Next} → 18 ≤ length l → zeros (entryIn l) ≡ true → StepIs (entryIn l) (drop 18 l) x → NextIs l x
+  whole : {x : NextStep} → 18 ≤ length l → zeros (entryIn l) ≡ true → StepIs (entryIn l) (drop 18 l) x → NextIs l x
   damaged : {d : Ending} → Damage d → NextIs l (X.Ends d)
 
-pub next-is : (l : List ℕ) {x : Next} → next l ≡ x → NextIs l x
+pub next-is : (l : List ℕ) {x : NextStep} → next l ≡ x → NextIs l x
 next-is l {x} q =
-    subst (λ (y : Next). NextIs l y) q
-    (by-cases (decLt (length l) 18) (λ (h : length l < 18). turned (next-cut l 0 h) (short h))
-    (λ h. turned (next-read l 0 (omega arith) refl refl refl) (by (omega arith) (checked-is e (stepOf e (drop 18 l))))))
+    subst (λ (y : NextStep). NextIs l y) q
+    (by-cases (decLt (length l) 18) (λ (h : length l < 18). carried (next-cut l 0 h) (short h))
+    (λ h. carried (next-read l 0 (omega arith) refl refl refl) (by (omega arith) (checked-is e (stepOf e (drop 18 l))))))
   where
     e : Entry
     e = entryIn l
 
-    turned : {y z : Next} → y ≡ z → NextIs l y → NextIs l z
-    turned r i = subst (λ (w : Next). NextIs l w) r i
+    carried : {y z : NextStep} → y ≡ z → NextIs l y → NextIs l z
+    carried r i = subst (λ (w : NextStep). NextIs l w) r i
 
-    by : {y : Next} → 18 ≤ length l → CheckedIs e (stepOf e (drop 18 l)) y → NextIs l y
+    by : {y : NextStep} → 18 ≤ length l → CheckedIs e (stepOf e (drop 18 l)) y → NextIs l y
     by h (fine z) = whole h z (step-is e (drop 18 l))
     by h (spoilt d) = damaged d
 

@@ -12,8 +12,8 @@ use lib.Seq.{take-append-le, drop-append-le, length-take-le}
 use Rattle.entries.specs.declared.Step.{Step}
 use Rattle.entries.specs.declared.Ending.{Ending}
 use Rattle.entries.specs.declared.Ending.the-variants as E
-use Rattle.entries.specs.declared.Next.{Next}
-use Rattle.entries.specs.declared.Next.the-variants as X
+use Rattle.entries.specs.declared.NextStep.{NextStep}
+use Rattle.entries.specs.declared.NextStep.the-variants as X
 use Rattle.entries.specs.declared.Entry.{Entry}
 use Rattle.entries.specs.Entries.{stepBytes}
 use Rattle.entries.specs.Reading.{worth, wordAt, entryIn, zeros, checked, pairOf, repeating, stepOf, next, Unfinished, part, half}
@@ -60,7 +60,7 @@ pair-front e l r h =
     ∙ ap (λ (p : Entry). checked p (pairOf e p)) (entry-front l r h)
     ∙ pair-read e l 0 h refl refl
 
-zero-first : (e : Entry) (x y : Next) → zeros e ≡ false → checked e x ≡ checked e y
+zero-first : (e : Entry) (x y : NextStep) → zeros e ≡ false → checked e x ≡ checked e y
 unfolding checked
 zero-first e x y z = simp z
 
@@ -84,8 +84,8 @@ module _ (l r : List ℕ) (n : (next l ≡ X.Ends E.Cut → ⊥)) where
       by-cases (ℕ-discrete (e .kind) 9)
       (λ (k : e .kind ≡ 9).
       by-cases (decLt (length m) 18) (λ (h : length m < 18). lone (zeros e) refl k h)
-      (λ h. ap (λ (x : Next). checked e x) (sym (step-nine e (m ++ r) k) ∙ pair-front e m r (omega arith) ∙ step-nine e m k)))
-      (λ k. ap (λ (x : Next). checked e x) (step-alone e (m ++ r) m k))
+      (λ h. ap (λ (x : NextStep). checked e x) (sym (step-nine e (m ++ r) k) ∙ pair-front e m r (omega arith) ∙ step-nine e m k)))
+      (λ k. ap (λ (x : NextStep). checked e x) (step-alone e (m ++ r) m k))
 
   next-front : next (l ++ r) ≡ next l
   next-front =

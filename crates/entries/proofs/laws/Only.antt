@@ -11,7 +11,7 @@ use lib.Seq.{take-add, drop-drop, length-take-le}
 use Rattle.delay_queue.specs.declared.Call.the-variants as C
 use Rattle.entries.specs.declared.Step.{Step}
 use Rattle.entries.specs.declared.Step.the-variants as S
-use Rattle.entries.specs.declared.Next.the-variants as X
+use Rattle.entries.specs.declared.NextStep.the-variants as X
 use Rattle.entries.specs.declared.Entry.{Entry}
 use Rattle.entries.specs.Entries.{bytesOf, entry, insertBytes, stepBytes, Fits64, Fit}
 use Rattle.entries.specs.Reading.{Bytes, worth, wordAt, entryIn, bare, fieldZeros, zeros, next}

@@ -15,8 +15,8 @@ use lib.Seq.{take-suc, drop-drop, getD-drop}
 use Rattle.delay_queue.specs.declared.Call.the-variants as C
 use Rattle.entries.specs.declared.Step.the-variants as S
 use Rattle.entries.specs.declared.Ending.the-variants as E
-use Rattle.entries.specs.declared.Next.{Next}
-use Rattle.entries.specs.declared.Next.the-variants as X
+use Rattle.entries.specs.declared.NextStep.{NextStep}
+use Rattle.entries.specs.declared.NextStep.the-variants as X
 use Rattle.entries.specs.declared.Entry.{Entry}
 use Rattle.entries.specs.Reading.{worth, wordAt, entryIn, bare, fieldZeros, zeros, checked, pairOf, repeating, stepOf, next}
 
@@ -37,10 +37,10 @@ unfolding wordAt worth
 word-start = record { so-far = refl; below = omega arith }
 
 -- a byte more
-pub word-turn : {l : List ℕ} {at i acc : ℕ} → Wording l at i acc → at + i < length l → getD l (at + i) 0 < 256
+pub word-step : {l : List ℕ} {at i acc : ℕ} → Wording l at i acc → at + i < length l → getD l (at + i) 0 < 256
     → Wording l at (i + 1) (acc * 256 + getD l (at + i) 0)
 unfolding wordAt
-word-turn {l} {at} {i} {acc} w h b =
+word-step {l} {at} {i} {acc} w h b =
     let e = getD-drop at l i 0 in
     let g : i < length (drop at l) = omega (arith, length-drop at l) in
     record {
@@ -89,7 +89,7 @@ none-due k a b h = simp (ne-eqb k 4 (h .0), ne-eqb k 5 (h .1), ne-eqb k 10 (h .2
 
 -- ---- damage
 
-module _ (e : Entry) (x : Next) where
+module _ (e : Entry) (x : NextStep) where
   pub kind-low : e .kind ≡ 0 → X.Ends E.Kind ≡ checked e x
   unfolding checked
   kind-low h = simp (le-ltb 0 (e .kind) (omega arith))
@@ -127,7 +127,7 @@ module _ (e : Entry) (l : List ℕ) (at : ℕ) where
   unfolding repeating
   pair-cut h = let g = length-drop at l in simp (lt-ltb (length (drop at l)) 18 (omega arith))
 
-  pub pair-read : {x : Next} {p : Entry} → at + 18 ≤ length l → p ≡ entryIn (drop at l) → x ≡ checked p (pairOf e p) → x ≡ repeating e (drop at l)
+  pub pair-read : {x : NextStep} {p : Entry} → at + 18 ≤ length l → p ≡ entryIn (drop at l) → x ≡ checked p (pairOf e p) → x ≡ repeating e (drop at l)
   unfolding repeating
   pair-read {x} {p} h q r =
       let g = length-drop at l in
@@ -166,11 +166,11 @@ pub next-cut : (l : List ℕ) (at : ℕ) → length l < at + 18 → X.Ends E.Cut
 unfolding next
 next-cut l at h = let g = length-drop at l in simp (lt-ltb (length (drop at l)) 18 (omega arith))
 
-pub next-read : (l : List ℕ) (at : ℕ) {x y : Next} {e : Entry} → at + 18 ≤ length l → e ≡ entryIn (drop at l) → y ≡ stepOf e (drop (at + 18) l)
+pub next-read : (l : List ℕ) (at : ℕ) {x y : NextStep} {e : Entry} → at + 18 ≤ length l → e ≡ entryIn (drop at l) → y ≡ stepOf e (drop (at + 18) l)
     → x ≡ checked e y → x ≡ next (drop at l)
 unfolding next
 next-read l at {x} {y} {e} h q r z =
     let g = length-drop at l in
     simp (le-ltb (length (drop at l)) 18 (omega arith))
-    (z ∙ ap (λ (u : Next). checked e u) (r ∙ ap (λ (d : List ℕ). stepOf e d) (sym (drop-drop 18 at l)))
+    (z ∙ ap (λ (u : NextStep). checked e u) (r ∙ ap (λ (d : List ℕ). stepOf e d) (sym (drop-drop 18 at l)))
     ∙ ap (λ (u : Entry). checked u (stepOf u (drop 18 (drop at l)))) q)

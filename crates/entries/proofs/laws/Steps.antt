@@ -12,8 +12,8 @@ use Rattle.delay_queue.specs.declared.Call.the-variants as C
 use Rattle.entries.specs.declared.Step.{Step}
 use Rattle.entries.specs.declared.Step.the-variants as S
 use Rattle.entries.specs.declared.Ending.the-variants as E
-use Rattle.entries.specs.declared.Next.{Next}
-use Rattle.entries.specs.declared.Next.the-variants as X
+use Rattle.entries.specs.declared.NextStep.{NextStep}
+use Rattle.entries.specs.declared.NextStep.the-variants as X
 use Rattle.entries.specs.declared.Entry.{Entry}
 use Rattle.writing.specs.Writing.{digitsOf}
 use Rattle.entries.specs.Entries.{entry, stepBytes, Fits64, Fit}
@@ -57,7 +57,7 @@ module _ (k a b : ℕ) (kind : (0 < k) × (k ≤ 11)) (fa : Fits64 a) (fb : Fits
   behind = drop-at (entry k a b) l 18 (entry-length k a b)
 
   -- an entry with its zeros is the step of its kind
-  entry-next : {x : Next} → fieldZeros k a b ≡ true → x ≡ stepOf (parts k a b) l → next (entry k a b ++ l) ≡ x
+  entry-next : {x : NextStep} → fieldZeros k a b ≡ true → x ≡ stepOf (parts k a b) l → next (entry k a b ++ l) ≡ x
   unfolding zeros
   entry-next {x} z e =
       let c : x ≡ checked (parts k a b) x = no-damage (parts k a b) x (λ g. omega arith) (kind .1) z in

@@ -1,9 +1,9 @@
--- `push_word` writes byte after byte, the first first (`digits-turn`).
+-- `push_word` writes byte after byte, the first first (`digits-step`).
 use borrow.Author.Needs.{needs}
 use mathlib.Core.Path.{refl}
 use Prim.Native.Nat.{ℕ}
 use native.Mathlib.Omega.{arith}
-use Rattle.writing.proofs.laws.Writing.{Digits, power-pos, digits-start, digits-turn, digits-end}
+use Rattle.writing.proofs.laws.Writing.{Digits, power-pos, digits-start, digits-step, digits-end}
 use Rattle.entries.proofs.push_word.Statement.{statement}
 use Rattle.entries.proofs.push_word.Tie as tie
 
@@ -35,7 +35,7 @@ loop-less : tie.Need-loop-less Inv-loop μ-loop
 loop-less c = omega (arith, c .loop-test .taken)
 
 loop-again : tie.Need-loop-again Inv-loop μ-loop
-loop-again c = digits-turn _ (c .before .loop .inv) (omega arith) (c .loop-test .taken) (c .before .before .pre .0) refl
+loop-again c = digits-step _ (c .before .loop .inv) (omega arith) (c .loop-test .taken) (c .before .before .pre .0) refl
 
 same-length : tie.Need-same-length Inv-loop μ-loop
 same-length c = c .before .loop .inv .size

@@ -2,7 +2,7 @@
 use borrow.Author.Needs.{needs}
 use mathlib.Core.Path.{_≡_, ap, _∙_}
 use native.Mathlib.Omega.{arith}
-use Rattle.entries.specs.declared.Next.{Next}
+use Rattle.entries.specs.declared.NextStep.{NextStep}
 use Rattle.entries.specs.Reading.{checked, pairOf}
 use Rattle.entries.proofs.laws.Reading.{pair-cut, pair-read}
 use Rattle.entries.proofs.repeats.Statement.{statement}
@@ -28,7 +28,7 @@ returns-2 c =
     let b = c .before .before in
     let a = b .before .before .before .args in
     let e : c .check .result ≡ checked (b .entry-at .result) (pairOf (a .e) (b .entry-at .result)) =
-    c .check .ensures ∙ ap (λ (x : Next). checked (b .entry-at .result) x) (c .before .pair .ensures)
+    c .check .ensures ∙ ap (λ (x : NextStep). checked (b .entry-at .result) x) (c .before .pair .ensures)
     in
     pair-read (a .e) (a .bytes .now) (a .at) (omega (arith, b .before .if1 .left)) (b .entry-at .ensures) e
 

@@ -1,8 +1,8 @@
--- `word` reads byte after byte (`word-turn`).
+-- `word` reads byte after byte (`word-step`).
 use mathlib.Core.Path.{_≡_, ap, _∙_}
 use Prim.Native.Nat.{ℕ, _+_, _-_, _≤_, _<_}
 use native.Mathlib.Omega.{arith}
-use Rattle.entries.proofs.laws.Reading.{Wording, word-start, word-turn, word-fits}
+use Rattle.entries.proofs.laws.Reading.{Wording, word-start, word-step, word-fits}
 use Rattle.entries.specs.Reading.{wordAt}
 use Rattle.entries.proofs.word.Statement.{statement}
 use Rattle.entries.proofs.word.Tie as tie
@@ -48,7 +48,7 @@ loop-again : tie.Need-loop-again Inv-loop μ-loop
 loop-again c =
     let b = c .before in
     let byte = c .shared-slice-known .given (b .before .before .args .at + b .before .loop .i) in
-    (word-turn (b .before .loop .inv .0) (omega arith) (omega (arith, byte)), omega arith)
+    (word-step (b .before .loop .inv .0) (omega arith) (omega (arith, byte)), omega arith)
 
 returns : tie.Need-returns Inv-loop μ-loop
 returns c =

@@ -1,7 +1,7 @@
 -- `answer_last` meets its claim: nothing is kept (`last-none`), or it is answered as a line (`last-line`).
 use borrow.Author.Needs.{needs}
 use native.Mathlib.Omega.{arith}
-use Rattle.feed.proofs.laws.Turns.{last-none, last-line}
+use Rattle.feed.proofs.laws.NextLines.{last-none, last-line}
 use Rattle.feed.proofs.answer_last.Statement.{statement}
 use Rattle.feed.proofs.answer_last.Tie as tie
 

@@ -1,7 +1,7 @@
 -- `answer_lines` meets its claim: judged once, and then `answer_parts`.
 use borrow.Author.Needs.{needs}
 use Rattle.delay_queue.proofs.laws.Back.{tells-lent}
-use Rattle.feed.proofs.laws.Turns.{feed-rows}
+use Rattle.feed.proofs.laws.NextLines.{feed-heads}
 use Rattle.feed.proofs.answer_lines.Statement.{statement}
 use Rattle.feed.proofs.answer_lines.Tie as tie
 
@@ -13,40 +13,40 @@ to-parts c =
     let e = d .before .before .before .before in
     e .before .before
 
-abbrev to-sound : tie.After-tops-of → tie.After-is-sound
+abbrev to-sound : tie.After-tops-in → tie.After-is-sound
 to-sound c = c .before .before
 
-abbrev to-lent : tie.After-answer-parts-arg8 → tie.After-tops-of
+abbrev to-lent : tie.After-answer-parts-arg8 → tie.After-tops-in
 to-lent c =
     let a = c .before .before .before .before in
     let b = a .before .before .before .before in
     b .before .before .before
 
-abbrev to-tops : tie.After-answer-parts → tie.After-tops-of
+abbrev to-tops : tie.After-answer-parts → tie.After-tops-in
 to-tops c =
     let a = c .before .before .before .before in
     let b = a .before .before .before .before in
     b .before .before .before .before
 
-abbrev to-rows-of : tie.After-tops-of → tie.After-rows-of
-to-rows-of c =
+abbrev to-heads-in : tie.After-tops-in → tie.After-heads-in
+to-heads-in c =
     let a = c .before .before .before .before in
     let b = a .before .before .before .before in
     b .before
 
-rows-of-requires : tie.Need-rows-of-requires
-rows-of-requires c κs = search needs
+heads-in-requires : tie.Need-heads-in-requires
+heads-in-requires c κs = search needs
 
 is-sound-requires : tie.Need-is-sound-requires
 is-sound-requires c κs = search needs
 
-tops-of-requires : tie.Need-tops-of-requires
-tops-of-requires c κs = search needs
+tops-in-requires : tie.Need-tops-in-requires
+tops-in-requires c κs = search needs
 
 answer-parts-requires : tie.Need-answer-parts-requires
 answer-parts-requires c κs =
     let at-tops = to-lent c in
-    tells-lent (at-tops .tops-of .ensures) (to-sound at-tops .is-sound .ensures)
+    tells-lent (at-tops .tops-in .ensures) (to-sound at-tops .is-sound .ensures)
 
 wheel-of-requires : tie.Need-wheel-of-requires
 wheel-of-requires c κs = search needs
@@ -83,15 +83,15 @@ returns c =
     let at-parts = to-parts c in
     let at-tops = to-tops at-parts in
     rw (c .heads-of .ensures, c .before .wheel-of .ensures)
-    (feed-rows _ _ _ _ _ _ _ (at-tops .tops-of .ensures) (to-rows-of at-tops .rows-of .ensures) (at-parts .answer-parts .ensures))
+    (feed-heads _ _ _ _ _ _ _ (at-tops .tops-in .ensures) (to-heads-in at-tops .heads-in .ensures) (at-parts .answer-parts .ensures))
 
 pub answer-lines-spec : {M : Type 1} → statement M
 answer-lines-spec =
     tie.close
     (tie.spec
-    rows-of-requires
+    heads-in-requires
     is-sound-requires
-    tops-of-requires
+    tops-in-requires
     answer-parts-requires
     wheel-of-requires
     heads-of-requires

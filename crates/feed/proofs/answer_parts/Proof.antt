@@ -1,4 +1,4 @@
--- `answer_parts` meets its claim: what comes of where it stands comes of where it began (`Reaches`), a turn more does not change that
+-- `answer_parts` meets its claim: what comes of where it stands comes of where it began (`Reaches`), a line more does not change that
 -- (`reaches-more`), and it stops where it does not go on.
 use borrow.Author.Needs.{needs}
 use mathlib.Core.Path.{_≡_, refl, _∙_}
@@ -8,17 +8,17 @@ use lib.ListN.{length}
 use Rattle.contracts.specs.Tells.{Tells}
 use Rattle.records.specs.Words.{parts, holding, Sound}
 use Rattle.feed.specs.Feed.{stand, stops}
-use Rattle.feed.proofs.laws.Turns.{Reaches, reaches-none, reaches-more, turn-forth}
+use Rattle.feed.proofs.laws.NextLines.{Reaches, reaches-none, reaches-more, next-forth}
 use Rattle.feed.proofs.answer_parts.Statement.{statement}
 use Rattle.feed.proofs.answer_parts.Tie as tie
 
 abbrev Inv-loop : tie.InvT-loop
-Inv-loop limits got from line₀ n sound elapsed rows₀ tops₀ heads₀ values₀ deadlines₀ nexts₀ prevs₀ turns₀ marks₀ hand until out₀ i₀ k₀ end₀ e₀ h₀ u₀ fine₀
-    line rows tops heads
+Inv-loop limits got from line₀ n sound elapsed occupied₀ tops₀ heads₀ values₀ deadlines₀ nexts₀ prevs₀ turns₀ marks₀ hand until out₀ i₀ k₀ end₀ e₀ h₀ u₀ fine₀
+    line occupied tops heads
     values deadlines nexts prevs turns marks out i k end e h u fine =
-    Reaches limits got (stand from line₀ n (holding hand until (parts elapsed rows₀ tops₀ heads₀ values₀ deadlines₀ nexts₀ prevs₀ turns₀ marks₀)) out₀ 0)
-    (stand i line k (holding h u (parts e rows tops heads values deadlines nexts prevs turns marks)) out end)
-    × Tells (Sound (holding h u (parts e rows tops heads values deadlines nexts prevs turns marks))) fine
+    Reaches limits got (stand from line₀ n (holding hand until (parts elapsed occupied₀ tops₀ heads₀ values₀ deadlines₀ nexts₀ prevs₀ turns₀ marks₀)) out₀ 0)
+    (stand i line k (holding h u (parts e occupied tops heads values deadlines nexts prevs turns marks)) out end)
+    × Tells (Sound (holding h u (parts e occupied tops heads values deadlines nexts prevs turns marks))) fine
     × (length line ≡ length line₀)
     × (length values ≡ length values₀)
     × (length deadlines ≡ length deadlines₀)
@@ -29,8 +29,8 @@ Inv-loop limits got from line₀ n sound elapsed rows₀ tops₀ heads₀ values
     × (length out ≡ length out₀)
 
 abbrev μ-loop : tie.MeasureT-loop
-μ-loop limits got from line₀ n sound elapsed rows₀ tops₀ heads₀ values₀ deadlines₀ nexts₀ prevs₀ turns₀ marks₀ hand until out₀ i₀ k₀ end₀ e₀ h₀ u₀ fine₀
-    line rows tops heads
+μ-loop limits got from line₀ n sound elapsed occupied₀ tops₀ heads₀ values₀ deadlines₀ nexts₀ prevs₀ turns₀ marks₀ hand until out₀ i₀ k₀ end₀ e₀ h₀ u₀ fine₀
+    line occupied tops heads
     values deadlines nexts prevs turns marks out i k end e h u fine =
     length got - i
 
@@ -40,14 +40,14 @@ to-start c =
     let b = a .before .before .before .before in
     b .before
 
-abbrev to-then : tie.After-turn-arg11 Inv-loop μ-loop → tie.Then1 Inv-loop μ-loop
+abbrev to-then : tie.After-next-line-arg11 Inv-loop μ-loop → tie.Then1 Inv-loop μ-loop
 to-then c =
     let a = c .before .before .before .before in
     let b = a .before .before .before .before in
     b .before .before .before
 
-abbrev to-turn : tie.After-slice-known16 Inv-loop μ-loop → tie.After-turn Inv-loop μ-loop
-to-turn c =
+abbrev to-next-line : tie.After-slice-known16 Inv-loop μ-loop → tie.After-next-line Inv-loop μ-loop
+to-next-line c =
     let a = c .before .before .before .before in
     let b = a .before .before .before .before in
     let d = b .before .before .before .before in
@@ -59,26 +59,26 @@ loop-holds c = (reaches-none, to-start c .pre, refl, refl, refl, refl, refl, ref
 goes-requires : tie.Need-goes-requires Inv-loop μ-loop
 goes-requires c κs = search needs
 
-turn-requires : tie.Need-turn-requires Inv-loop μ-loop
-turn-requires c κs = to-then c .before .before .loop .inv .1
+next-line-requires : tie.Need-next-line-requires Inv-loop μ-loop
+next-line-requires c κs = to-then c .before .before .loop .inv .1
 
 loop-less : tie.Need-loop-less Inv-loop μ-loop
 loop-less c =
-    let at-turn = to-turn c in
-    let at-then = to-then (at-turn .before) in
+    let at-next-line = to-next-line c in
+    let at-then = to-then (at-next-line .before) in
     let g = at-then .before .goes .ensures .yes (at-then .if1 .taken) in
-    omega (arith, g .0, turn-forth (g .0) (at-turn .turn .ensures .turn))
+    omega (arith, g .0, next-forth (g .0) (at-next-line .next-line .ensures .does))
 
 loop-again : tie.Need-loop-again Inv-loop μ-loop
 loop-again c =
-    let at-turn = to-turn c in
-    let at-then = to-then (at-turn .before) in
+    let at-next-line = to-next-line c in
+    let at-then = to-then (at-next-line .before) in
     let I = at-then .before .before .loop .inv in
     let g = at-then .before .goes .ensures .yes (at-then .if1 .taken) in
-    let lengths = at-turn .turn .kept .1 .1 .1 in
+    let lengths = at-next-line .next-line .kept .1 .1 .1 in
     let seven = lengths .1 .1 .1 .1 .1 .1 .1 in (
-      reaches-more (I .0) g (at-turn .turn .ensures .turn),
-      at-turn .turn .ensures .tells,
+      reaches-more (I .0) g (at-next-line .next-line .ensures .does),
+      at-next-line .next-line .ensures .tells,
       lengths .0 ∙ I .2,
       seven .0 ∙ I .3,
       seven .1 .0 ∙ I .4,
@@ -126,7 +126,7 @@ answer-parts-spec =
     μ-loop
     loop-holds
     goes-requires
-    turn-requires
+    next-line-requires
     loop-less
     loop-again
     same-length

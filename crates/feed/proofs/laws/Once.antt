@@ -19,8 +19,8 @@ use Rattle.bench.proofs.laws.Hearing.{as-heard}
 use Rattle.bench.proofs.laws.Once.{same-store, line-once}
 use Rattle.lines.proofs.laws.Once.{take-once}
 use Rattle.lines.specs.Taking.{TakeClaim}
-use Rattle.feed.specs.Replies.{Reply, Replies, none, reply}
-use Rattle.feed.specs.Feed.{Stand, stand, Turn, answered, goes-on, FeedClaim, stops, turns, LastClaim}
+use Rattle.feed.specs.Replies.{ReplyTo, Replies, none, reply}
+use Rattle.feed.specs.Feed.{Stand, stand, NextLine, answered, goes-on, FeedClaim, stops, lines-on, LastClaim}
 
 -- ---- `answer_lines`
 
@@ -28,25 +28,25 @@ same-stand : {i j k l : ℕ} {p q : List ℕ} {w x : QueueWords} {o r : List ℕ
     → stand i p k w o d ≡ stand j q l x r e
 same-stand a b c d e f = λ i. stand (a i) (b i) (c i) (d i) (e i) (f i)
 
-turn-once : {limits : Bool} {got : List ℕ} {a b c : Stand} → Turn limits got a b → Turn limits got a c → b ≡ c
-turn-once {limits = limits} {a = a} (answered {i = i} {k = k} {l = l} {w = w} {o = o} {e = e} T C) (answered {k = k′} {l = l′} U D) =
+next-once : {limits : Bool} {got : List ℕ} {a b c : Stand} → NextLine limits got a b → NextLine limits got a c → b ≡ c
+next-once {limits = limits} {a = a} (answered {i = i} {k = k} {l = l} {w = w} {o = o} {e = e} T C) (answered {k = k′} {l = l′} U D) =
     let t = take-once true true T U in
     let E : LineClaim limits (take k′ l′) (a .store) (a .out) (a .at) w o e =
     subst (λ (x : List ℕ). LineClaim limits x (a .store) (a .out) (a .at) w o e) (ap₂ (λ (x : ℕ) (y : List ℕ). take x y) (t .1) (t .3)) C
     in
     let r = line-once E D in
     same-stand (t .0) (t .3) refl (r .0) (r .2) (r .1)
-turn-once (answered T C) (goes-on U) = absurd (true≢false (take-once true false T U .2))
-turn-once (goes-on T) (answered U C) = absurd (false≢true (take-once false true T U .2))
-turn-once (goes-on T) (goes-on U) = let t = take-once false false T U in same-stand (t .0) (t .3) (t .1) refl refl refl
+next-once (answered T C) (goes-on U) = absurd (true≢false (take-once true false T U .2))
+next-once (goes-on T) (answered U C) = absurd (false≢true (take-once false true T U .2))
+next-once (goes-on T) (goes-on U) = let t = take-once false false T U in same-stand (t .0) (t .3) (t .1) refl refl refl
 
 -- two outcomes that both keep the claim are the same
 pub feed-once : {limits : Bool} {got : List ℕ} {a b c : Stand} → FeedClaim limits got a b → FeedClaim limits got a c → b ≡ c
 feed-once (stops h) (stops k) = refl
-feed-once (stops h) (turns g t f) = absurd (h g)
-feed-once (turns g t f) (stops h) = absurd (h g)
-feed-once {limits} {got} {c = c} (turns g t f) (turns {b = b} k u e) =
-    feed-once f (subst (λ (x : Stand). FeedClaim limits got x c) (sym (turn-once t u)) e)
+feed-once (stops h) (lines-on g t f) = absurd (h g)
+feed-once (lines-on g t f) (stops h) = absurd (h g)
+feed-once {limits} {got} {c = c} (lines-on g t f) (lines-on {b = b} k u e) =
+    feed-once f (subst (λ (x : Stand). FeedClaim limits got x c) (sym (next-once t u)) e)
 
 -- ---- `answer_last`
 
@@ -62,8 +62,8 @@ last-once {l = l} a b =
 
 -- ---- answers to lines
 
-heard-reply : {limits : Bool} {l : List ℕ} {w w′ w″ : QueueWords} {t u : List ℕ} (r : Line) → Heard limits l r → Reply limits l w t w′
-    → Reply limits l w u w″
+heard-reply : {limits : Bool} {l : List ℕ} {w w′ w″ : QueueWords} {t u : List ℕ} (r : Line) → Heard limits l r → ReplyTo limits l w t w′
+    → ReplyTo limits l w u w″
     → (t ≡ u) × (w′ ≡ w″)
 heard-reply {w = w} {w′ = w′} {w″ = w″} {t = t} r (asks {c = c} h) a b =
     let x = a .asks c h in
@@ -75,7 +75,7 @@ heard-reply {w = w} {w′ = w′} {w″ = w″} {t = t} r (asks {c = c} h) a b =
     (one-written z (y .written), e .1)
 heard-reply r (bad n) a b = (one-written (a .bad n .1) (b .bad n .1), a .bad n .0 ∙ sym (b .bad n .0))
 
-reply-once : {limits : Bool} {l : List ℕ} {w w′ w″ : QueueWords} {t u : List ℕ} → Reply limits l w t w′ → Reply limits l w u w″
+reply-once : {limits : Bool} {l : List ℕ} {w w′ w″ : QueueWords} {t u : List ℕ} → ReplyTo limits l w t w′ → ReplyTo limits l w u w″
     → (t ≡ u) × (w′ ≡ w″)
 reply-once {limits} {l} {w′ = w′} {w″ = w″} {t = t} {u = u} a b = (
   as-heard limits l (List-discrete ℕ-discrete t u) (λ r H. heard-reply r H a b .0),

@@ -10,13 +10,13 @@ use lib.Seq.{take-all}
 use Rattle.records.specs.Words.{QueueWords}
 use Rattle.bench.specs.Line.{Asks}
 use Rattle.lines.specs.Lines.{linesFrom, linesOf, firsts, last, joined}
-use Rattle.lines.specs.Running.{Along, none as no-line, more, Passes, Closes, Ran}
+use Rattle.lines.specs.Running.{Along, none as no-line, more, Passes, Closes, ProgramRan}
 use Rattle.lines.proofs.laws.Lines.{whole-line, input-ends}
 use Rattle.lines.proofs.laws.Passed.{passed-none, passed-more, passed-line, passed-end}
 use Rattle.lines.proofs.laws.Running.{passes-more, ran-all}
-use Rattle.feed.specs.Replies.{Reply, Replies, none, reply}
-use Rattle.feed.specs.Feed.{Stand, Goes, Turn, answered, goes-on, FeedClaim, stops, turns, LastClaim, answerRoom}
-use Rattle.feed.specs.Serving.{Answered, Feeds, Fed, call, used, none as nothing, Serving}
+use Rattle.feed.specs.Replies.{ReplyTo, Replies, none, reply}
+use Rattle.feed.specs.Feed.{Stand, CanGoOn, NextLine, answered, goes-on, FeedClaim, stops, lines-on, LastClaim, answerRoom}
+use Rattle.feed.specs.Serving.{LineAnswered, Feeds, Fed, call, used, none as nothing, Serving}
 use Rattle.feed.proofs.laws.Wrote.{between, replied, reply-whole, reply-forth, reply-size}
 
 -- ---- step behind step
@@ -27,7 +27,7 @@ replies-more none b = b
 replies-more {limits = limits} {ms = ms} {s = s} {s′ = s′} {u = u} (reply {l = l} {ls = ls} {t = t} {u = v} x a) b =
     subst (λ (y : List ℕ). Replies limits (l ∷ ls ++ ms) s y s′) (sym (append-assoc t v u)) (reply x (replies-more a b))
 
-one-reply : {limits : Bool} {l : List ℕ} {s s′ : QueueWords} {t : List ℕ} → Reply limits l s t s′ → Replies limits (l ∷ []) s t s′
+one-reply : {limits : Bool} {l : List ℕ} {s s′ : QueueWords} {t : List ℕ} → ReplyTo limits l s t s′ → Replies limits (l ∷ []) s t s′
 one-reply {limits} {l} {s} {s′} {t} x = subst (λ (y : List ℕ). Replies limits (l ∷ []) s y s′) (append-nil t) (reply x none)
 
 feeds-none : {limits : Bool} {m : ℕ} {k s : List ℕ} {w : QueueWords} → Feeds limits m k s w [] k s w
@@ -47,15 +47,15 @@ pub record Answers (limits : Bool) (m : ℕ) (got : List ℕ) (a b : Stand) : Ty
   pub feeds : Feeds limits m (take (a .kept) (a .line)) (drop (a .next) got) (a .store) text (take (b .kept) (b .line)) (drop (b .next) got) (b .store)
   pub written : take (b .at) (b .out) ≡ take (a .at) (a .out) ++ text
 
--- one turn answers one line at most
-record TurnTells (limits : Bool) (got : List ℕ) (a b : Stand) : Type 0 where
+-- one step answers one line at most
+record NextLineTells (limits : Bool) (got : List ℕ) (a b : Stand) : Type 0 where
   answers : Answers limits (length (a .line)) got a b
   size : length (b .line) ≡ length (a .line)
   one : length (answers .feeds .lines) ≤ 1
 
 module _ {limits : Bool} {got : List ℕ} where
-  turn-tells : {a b : Stand} → 0 < length (a .line) → a .at + answerRoom ≤ length (a .out) → Turn limits got a b → TurnTells limits got a b
-  turn-tells {a} some h (answered {k = k} {l = l} {o = o} {e = e} T C) =
+  next-tells : {a b : Stand} → 0 < length (a .line) → a .at + answerRoom ≤ length (a .out) → NextLine limits got a b → NextLineTells limits got a b
+  next-tells {a} some h (answered {k = k} {l = l} {o = o} {e = e} T C) =
       record {
         answers = record {
           text = between o (a .at) e;
@@ -65,7 +65,7 @@ module _ {limits : Bool} {got : List ℕ} where
         size = T .size;
         one = omega arith;
       }
-  turn-tells {a} some h (goes-on T) =
+  next-tells {a} some h (goes-on T) =
       record {
         answers = record {
           text = [];
@@ -90,11 +90,11 @@ module _ {limits : Bool} {got : List ℕ} where
   pub feed-answers : {a b : Stand} → 0 < length (a .line) → FeedClaim limits got a b → Answers limits (length (a .line)) got a b
   feed-answers {a} some (stops h) =
       record { text = []; feeds = feeds-none; written = sym (append-nil (take (a .at) (a .out))) }
-  feed-answers {a} some (turns {b = b} {c = c} g t f) =
-      let x = turn-tells some (g .1) t in
+  feed-answers {a} some (lines-on {b = b} {c = c} g t f) =
+      let x = next-tells some (g .1) t in
       answers-more (x .answers) (subst (λ (m : ℕ). Answers limits m got b c) (x .size) (feed-answers (omega (arith, x .size)) f))
 
-  no-second : {a b : Stand} → a .at ≡ 0 → length (a .out) ≡ answerRoom → Goes got a → Turn limits got a b → Goes got b → ⊥
+  no-second : {a b : Stand} → a .at ≡ 0 → length (a .out) ≡ answerRoom → CanGoOn got a → NextLine limits got a b → CanGoOn got b → ⊥
   no-second z r g (answered T C) k = omega (arith, reply-forth (g .1) C, reply-size (g .1) C, k .1)
   no-second z r g (goes-on T) k = omega (arith, T .unfinished refl .0, k .0)
 
@@ -109,29 +109,29 @@ module _ {limits : Bool} {got : List ℕ} where
     },
     omega arith,
   )
-  one-answer some z r (turns g t (stops h)) = let x = turn-tells some (g .1) t in (x .answers, x .one)
-  one-answer some z r (turns g t (turns k u f)) = absurd (no-second z r g t k)
+  one-answer some z r (lines-on g t (stops h)) = let x = next-tells some (g .1) t in (x .answers, x .one)
+  one-answer some z r (lines-on g t (lines-on k u f)) = absurd (no-second z r g t k)
 
 -- ---- calls, each of whose answers are written before the next
 
-replies-along : {limits : Bool} {ls : List (List ℕ)} {w w′ : QueueWords} {t : List ℕ} → Replies limits ls w t w′ → Along (Answered limits) ls w w′
+replies-along : {limits : Bool} {ls : List (List ℕ)} {w w′ : QueueWords} {t : List ℕ} → Replies limits ls w t w′ → Along (LineAnswered limits) ls w w′
 replies-along none = no-line
 replies-along (reply {t = t} x a) = more (record { text = t; reply = x }) (replies-along a)
 
 -- a call more, from where the calls before it came to
 pub calls-more : {limits : Bool} {m : ℕ} {k s : List ℕ} {w : QueueWords} {got : List ℕ} {a b : Stand} → 0 < m → length (a .line) ≡ m
-    → Passes (Answered limits) m k s w (take (a .kept) (a .line)) (drop (a .next) got) (a .store) → FeedClaim limits got a b
-    → Passes (Answered limits) m k s w (take (b .kept) (b .line)) (drop (b .next) got) (b .store)
+    → Passes (LineAnswered limits) m k s w (take (a .kept) (a .line)) (drop (a .next) got) (a .store) → FeedClaim limits got a b
+    → Passes (LineAnswered limits) m k s w (take (b .kept) (b .line)) (drop (b .next) got) (b .store)
 calls-more {limits = limits} {got = got} {a = a} {b = b} h e P F =
     let x = subst (λ (m : ℕ). Answers limits m got a b) e (feed-answers (omega arith) F) in
     passes-more P (record { lines = x .feeds .lines; passed = x .feeds .passed; along = replies-along (x .feeds .replies) })
 
 -- the chunk is used up
 pub calls-used : {limits : Bool} {m : ℕ} {k s k′ : List ℕ} {w w′ : QueueWords} (got : List ℕ) {i : ℕ} → length got ≤ i
-    → Passes (Answered limits) m k s w k′ (drop i got) w′
-    → Passes (Answered limits) m k s w k′ [] w′
+    → Passes (LineAnswered limits) m k s w k′ (drop i got) w′
+    → Passes (LineAnswered limits) m k s w k′ [] w′
 calls-used {limits} {m} {k} {s} {k′} {w} {w′} got h P =
-    subst (λ (x : List ℕ). Passes (Answered limits) m k s w k′ x w′) (drop-of-length-le got h) P
+    subst (λ (x : List ℕ). Passes (LineAnswered limits) m k s w k′ x w′) (drop-of-length-le got h) P
 
 -- a call at the front of the output: what stands there from its front to where the answers end is what the lines were answered with
 pub call-feeds : {limits : Bool} {got : List ℕ} {a b : Stand} → 0 < length (a .line) → a .at ≡ 0 → FeedClaim limits got a b
@@ -181,7 +181,7 @@ so-far nothing = feeds-none
 -- ---- 81 bytes are enough to see of a line
 
 -- a line over 80 bytes says no call, and neither does its front
-first-81 : {limits : Bool} {l : List ℕ} {w w′ : QueueWords} {t : List ℕ} → Reply limits (take 81 l) w t w′ → Reply limits l w t w′
+first-81 : {limits : Bool} {l : List ℕ} {w w′ : QueueWords} {t : List ℕ} → ReplyTo limits (take 81 l) w t w′ → ReplyTo limits l w t w′
 first-81 {limits} {l} R =
     record {
       asks = λ c x. R .asks c (subst (λ (y : List ℕ). Asks limits y c) (sym (take-all 81 l (omega (arith, x .says .short)))) x);
@@ -195,7 +195,7 @@ all-81 (l ∷ ls) (reply x a) = reply (first-81 x) (all-81 ls a)
 -- what `finish` of a program does: the last line is answered where there is room
 pub closes-last : {limits : Bool} (l : List ℕ) {o o′ : List ℕ} {w w′ : QueueWords} {e : ℕ} {t : Bool} → t ≡ true → answerRoom ≤ length o
     → LastClaim limits l w o w′ o′ e
-    → Closes (Answered limits) l w t w′
+    → Closes (LineAnswered limits) l w t w′
 closes-last l i h C =
     record { closed = λ f. replies-along (last-replies l h C); broken = λ f. absurd (true≢false (sym i ∙ f)) }
 
@@ -214,12 +214,12 @@ all-answered {limits} {cs} {w} {w′} {v} S =
     (subst (λ (t : List ℕ). Replies limits (firsts 81 (linesOf (joined cs))) w t w′) (sym (S .all))
     (subst (λ (ls : List (List ℕ)). Replies limits ls w (S .first ++ S .then) w′) (sym e) r))
 
-along-replies : {limits : Bool} {ls : List (List ℕ)} {w w′ : QueueWords} → Along (Answered limits) ls w w′ → (v : List ℕ) × Replies limits ls w v w′
+along-replies : {limits : Bool} {ls : List (List ℕ)} {w w′ : QueueWords} → Along (LineAnswered limits) ls w w′ → (v : List ℕ) × Replies limits ls w v w′
 along-replies no-line = ([], none)
 along-replies (more x r) = let y = along-replies r in (x .text ++ y .0, reply (x .reply) (y .1))
 
 -- the same of what a program's loop claims: where the input has ended, all of it was answered, whatever chunks it came in
-pub ran-answers : {limits : Bool} {w w′ : QueueWords} {n : ℕ} → Ran (Answered limits) 81 [] w n true w′
+pub ran-answers : {limits : Bool} {w w′ : QueueWords} {n : ℕ} → ProgramRan (LineAnswered limits) 81 [] w n true w′
     → (cs : List (List ℕ)) × (v : List ℕ) × (length (joined cs) ≡ n) × Replies limits (linesOf (joined cs)) w v w′
 ran-answers R =
     let x = ran-all (omega arith) R in

@@ -14,7 +14,7 @@ use Rattle.decimals.specs.Text.{bytes, Spaced}
 use Rattle.answering.specs.Text.{Written, PutClaim}
 use Rattle.answering.proofs.laws.Answering.{at-most-114}
 use Rattle.bench.specs.Line.{Asks, LineClaim}
-use Rattle.feed.specs.Replies.{Reply}
+use Rattle.feed.specs.Replies.{ReplyTo}
 use Rattle.feed.specs.Feed.{answerRoom}
 
 -- what stands in o′ from at to end
@@ -79,7 +79,7 @@ module _ {limits : Bool} {l o o′ : List ℕ} {s s′ : QueueWords} {at end : �
   either d f = by-cases d (λ k. k) (λ k. absurd (k (f _ (unasked (λ c x. k (f _ (asked c x)))))))
 
   -- the answer in the slice is the text of the reply
-  pub replied : Reply limits l s (between o′ at end) s′
+  pub replied : ReplyTo limits l s (between o′ at end) s′
   replied =
       record {
         asks = λ c x.

@@ -1,4 +1,4 @@
--- `harness_gauge` ends and stays within the row of times: every turn takes one hand-out.
+-- `harness_gauge` ends and stays within the row of times: every step takes one hand-out.
 use borrow.Author.Needs.{needs}
 use Prim.Native.Nat.{_≤_, _-_}
 use Rattle.harness.proofs.harness_gauge.Statement.{statement}

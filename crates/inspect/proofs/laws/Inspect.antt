@@ -7,7 +7,7 @@ use native.Mathlib.Omega.{arith}
 use lib.ListN.{length, take}
 use lib.Seq.{take-all}
 use Rattle.lines.specs.Lines.{linesOf, firsts, joined}
-use Rattle.lines.specs.Running.{none, more, Reads, Ran}
+use Rattle.lines.specs.Running.{none, more, Reads, ProgramRan}
 use Rattle.lines.proofs.laws.Lines.{whole-line}
 use Rattle.lines.proofs.laws.Running.{reads-none, ran-all}
 use Rattle.inspector.specs.declared.State.{State}
@@ -40,7 +40,7 @@ all-81 (l ∷ ls) (more {a = w} {b = w₁} p r) = more {b = w₁} (inspected-81 
 
 -- Where a run has read its input to the end, with 1,024 words or more for keys and deadlines, the lines have come to what is to be said of them,
 -- whatever chunks they came in.
-pub all-read : {ks ds : List ℕ} {n : ℕ} {w : Words} → most ≤ length ks → most ≤ length ds → Ran Inspected 81 [] (words (S.Good 0 0 0) ks ds) n true w
+pub all-read : {ks ds : List ℕ} {n : ℕ} {w : Words} → most ≤ length ks → most ≤ length ds → ProgramRan Inspected 81 [] (words (S.Good 0 0 0) ks ds) n true w
     → (cs : List (List ℕ)) × (length (joined cs) ≡ n) × VerdictClaim (linesOf (joined cs)) (w .state)
 all-read {ks} {ds} {w = w} h k R =
     let x = ran-all (omega arith) R in

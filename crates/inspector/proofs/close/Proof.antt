@@ -1,11 +1,11 @@
--- `close` moves one word up a turn (`close-turn`).
+-- `close` moves one word up a step (`close-step`).
 use borrow.Author.Needs.{needs}
 use mathlib.Core.Path.{_≡_, refl, ap, _∙_}
 use Prim.Native.Nat.{ℕ, _+_, _-_, _≤_, _<_}
 use native.Mathlib.Omega.{arith}
 use lib.ListN.{length, drop, length-set}
 use lib.Seq.{paste}
-use Rattle.inspector.proofs.laws.Closing.{Closed, close-none, close-turn}
+use Rattle.inspector.proofs.laws.Closing.{Closed, close-none, close-step}
 use Rattle.inspector.proofs.close.Statement.{statement}
 use Rattle.inspector.proofs.close.Tie as tie
 
@@ -49,7 +49,7 @@ loop-again c =
     let h = c .before .loop-test .taken in (
       omega arith,
       omega (arith, h),
-      close-turn _ _ _ (I .0) (omega (arith, h, l .before .pre)) (I .2),
+      close-step _ _ _ (I .0) (omega (arith, h, l .before .pre)) (I .2),
       simp length-set (I .3),
     )
 

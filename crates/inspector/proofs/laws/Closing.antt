@@ -1,4 +1,4 @@
--- The turns of `close`: the words behind one that goes move up.
+-- The steps of `close`: the words behind one that goes move up.
 use mathlib.Core.Path.{_≡_, sym, ap, ap₂, _∙_}
 use mathlib.Core.List.{List}
 use Prim.Native.Nat.{ℕ, suc, _+_, _-_, _≤_, _<_}
@@ -37,8 +37,8 @@ module _ (w : List ℕ) (i j : ℕ) (low : i ≤ j) (high : j + 1 < length w) wh
       ∙ ap (λ (m : ℕ). getD w m 0) q
       ∙ sym (getD-drop (i + 1) w k 0)
 
-  pub close-turn : {v : List ℕ} → v ≡ Closed w i j → set v j (getD v (j + 1) 0) ≡ Closed w i (j + 1)
-  close-turn {v} e =
+  pub close-step : {v : List ℕ} → v ≡ Closed w i j → set v j (getD v (j + 1) 0) ≡ Closed w i (j + 1)
+  close-step {v} e =
       let q : suc k ≡ j + 1 - i = omega arith in
       ap (λ (l : List ℕ). set l j (getD l (j + 1) 0)) e
       ∙ ap₂ (λ (m x : ℕ). set (Closed w i j) m x) (sym place) still

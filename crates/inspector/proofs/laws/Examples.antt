@@ -33,7 +33,7 @@ unfolding worth every Step
 a-out = record {
   entry = E.Out 100 1;
   says = says (E.Out 100 1) (bytes "100" ∷ bytes "1" ∷ []) refl (omega arith) (omega arith);
-  step = (record { before = []; deadline = 100; behind = []; is = refl; first = tt }, omega arith, (omega arith, tt), refl);
+  step = (record { front = []; deadline = 100; behind = []; is = refl; first = tt }, omega arith, (omega arith, tt), refl);
 }
 
 b-set : Right most (bytes "i 2 60") start (store (timer 2 60 ∷ []) 0)
@@ -59,12 +59,12 @@ b-out s r =
     let x : Step most (store (timer 2 60 ∷ timer 3 50 ∷ []) 0) (E.Out 100 2) s =
     subst (λ (e : Entry). Step most (store (timer 2 60 ∷ timer 3 50 ∷ []) 0) e s) (one-entry (r .entry) (E.Out 100 2) (r .says) said) (r .step)
     in
-    let b : Pends 2 (timer 2 60 ∷ timer 3 50 ∷ []) = record { before = []; deadline = 60; behind = timer 3 50 ∷ []; is = refl; first = tt } in
+    let b : Pends 2 (timer 2 60 ∷ timer 3 50 ∷ []) = record { front = []; deadline = 60; behind = timer 3 50 ∷ []; is = refl; first = tt } in
     omega (arith, pends-once (x .0) b .1, x .2 .1 .0)
 
 pub own-refused : FirstBad (bytes "i 1 100" ∷ bytes "p 100 1" ∷ bytes "i 2 60" ∷ bytes "i 3 50" ∷ bytes "p 100 2" ∷ []) 5
 own-refused = record {
-  before = bytes "i 1 100" ∷ bytes "p 100 1" ∷ bytes "i 2 60" ∷ bytes "i 3 50" ∷ [];
+  front = bytes "i 1 100" ∷ bytes "p 100 1" ∷ bytes "i 2 60" ∷ bytes "i 3 50" ∷ [];
   line = bytes "p 100 2";
   behind = [];
   log = refl;

@@ -67,8 +67,8 @@ apart-out t (u ∷ a) b p =
     ((free-append (u .key) a b (f .0) (f .1 .1), r .0), (λ e. f .1 .0 (sym e), r .1))
 
 module _ {key : ℕ} {p : List Timer} (h : Pends key p) (a : Apart p) where
-  others : Apart (h .before ++ h .behind) × Free key (h .before ++ h .behind)
-  others = apart-out (timer key (h .deadline)) (h .before) (h .behind) (subst (λ (l : List Timer). Apart l) (h .is) a)
+  others : Apart (h .front ++ h .behind) × Free key (h .front ++ h .behind)
+  others = apart-out (timer key (h .deadline)) (h .front) (h .behind) (subst (λ (l : List Timer). Apart l) (h .is) a)
 
 step-apart : (m : ℕ) (s : Store) (e : Entry) (s′ : Store) → Apart (s .pending) → Step m s e s′ → Apart (s′ .pending)
 unfolding Step
@@ -84,7 +84,7 @@ step-apart m s (E.Insert key when) s′ a p =
 step-apart m s (E.Reset key when) s′ a p =
     let h = p .0 in
     let o = others h a in
-    subst (λ (u : Store). Apart (u .pending)) (sym (p .1)) (apart-in (timer key (max when (s .clock))) (h .before) (h .behind) (o .0) (o .1))
+    subst (λ (u : Store). Apart (u .pending)) (sym (p .1)) (apart-in (timer key (max when (s .clock))) (h .front) (h .behind) (o .0) (o .1))
 step-apart m s (E.Remove key) s′ a p = subst (λ (u : Store). Apart (u .pending)) (sym (p .1)) (others (p .0) a .0)
 step-apart m s (E.Out time key) s′ a p = subst (λ (u : Store). Apart (u .pending)) (sym (p .3)) (others (p .0) a .0)
 step-apart m s (E.Nothing time) s′ a p = subst (λ (u : Store). Apart (u .pending)) (sym (p .1)) a
@@ -157,5 +157,5 @@ pub equals-free : {ls : List (List ℕ)} {s : Store} → AllRight ls start s →
     → (s′ : Store) × AllRight (ls ++ l ∷ []) start s′
 unfolding Step
 equals-free {s = s} a {time = time} {key = key} q p h least =
-    let s′ = store (p .before ++ p .behind) (s .clock) in
+    let s′ = store (p .front ++ p .behind) (s .clock) in
     (s′, along-more a (more (record { entry = E.Out time key; says = q; step = (p, h, least, refl) }) none))

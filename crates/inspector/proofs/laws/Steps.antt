@@ -20,8 +20,8 @@ split-once key (t ∷ a) b (u ∷ c) d f g e =
     let k = split-once key a b c d (f .1) (g .1) (tail-eq-of-cons-eq e) in
     (ap₂ (λ (v : Timer) (l : List Timer). v ∷ l) (head-eq-of-cons-eq e) (k .0), k .1, k .2)
 
-pub pends-once : {key : ℕ} {p : List Timer} (a b : Pends key p) → (a .before ≡ b .before) × (a .deadline ≡ b .deadline) × (a .behind ≡ b .behind)
-pends-once {key} a b = split-once key (a .before) (a .behind) (b .before) (b .behind) (a .first) (b .first) (sym (a .is) ∙ b .is)
+pub pends-once : {key : ℕ} {p : List Timer} (a b : Pends key p) → (a .front ≡ b .front) × (a .deadline ≡ b .deadline) × (a .behind ≡ b .behind)
+pends-once {key} a b = split-once key (a .front) (a .behind) (b .front) (b .behind) (a .first) (b .first) (sym (a .is) ∙ b .is)
 
 not-free : (key x : ℕ) (a b : List Timer) → Free key (a ++ timer key x ∷ b) → ⊥
 not-free key x [] b f = f .0 refl
@@ -29,7 +29,7 @@ not-free key x (t ∷ a) b f = not-free key x a b (f .1)
 
 -- and is not pending and pending at once
 pub free-pends : {key : ℕ} {p : List Timer} → Free key p → Pends key p → ⊥
-free-pends {key} f h = not-free key (h .deadline) (h .before) (h .behind) (subst (λ (l : List Timer). Free key l) (h .is) f)
+free-pends {key} f h = not-free key (h .deadline) (h .front) (h .behind) (subst (λ (l : List Timer). Free key l) (h .is) f)
 
 -- ---- an entry leaves one store
 
@@ -59,18 +59,18 @@ pends-told key [] = inl tt
 pends-told key (t ∷ p) =
     by-cases (ℕ-discrete (t .key) key)
     (λ (h : t .key ≡ key).
-    inr (record { before = []; deadline = t .deadline; behind = p; is = ap (λ (k : ℕ). timer k (t .deadline) ∷ p) h; first = tt }))
+    inr (record { front = []; deadline = t .deadline; behind = p; is = ap (λ (k : ℕ). timer k (t .deadline) ∷ p) h; first = tt }))
     (λ n.
     ⊎-elim (λ (f : Free key p). inl (n, f))
     (λ (h : Pends key p).
-    inr (record { before = t ∷ h .before; deadline = h .deadline; behind = h .behind; is = ap (λ (l : List Timer). t ∷ l) (h .is); first = (n, h .first) }))
+    inr (record { front = t ∷ h .front; deadline = h .deadline; behind = h .behind; is = ap (λ (l : List Timer). t ∷ l) (h .is); first = (n, h .first) }))
     (pends-told key p))
 
 -- some store is left, or none
-abbrev pub Told : ℕ → Store → Entry → Type 0
-Told m s e = ((s′ : Store) × Step m s e s′) ⊎ ((s′ : Store) → Step m s e s′ → ⊥)
+abbrev pub StepOrNone : ℕ → Store → Entry → Type 0
+StepOrNone m s e = ((s′ : Store) × Step m s e s′) ⊎ ((s′ : Store) → Step m s e s′ → ⊥)
 
-pub step-told : (m : ℕ) (s : Store) (e : Entry) → Told m s e
+pub step-told : (m : ℕ) (s : Store) (e : Entry) → StepOrNone m s e
 unfolding Step
 step-told m s (E.Insert key when) =
     ⊎-elim

@@ -153,7 +153,7 @@ module _ (n room : ℕ) (ks ds : List ℕ) (W : Within n room ks ds) where
         every-in (λ t. t .key ≡ key → ⊥) K D even
         (λ i l q.
         let j : i < n = omega (arith, long-keys) in
-        p .before i (omega arith) (sym (getD-take n ks i 0 j) ∙ q))
+        p .passed i (omega arith) (sym (getD-take n ks i 0 j) ∙ q))
 
     module _ (h : r < n) where
       abbrev before-keys : List ℕ
@@ -184,7 +184,7 @@ module _ (n room : ℕ) (ks ds : List ℕ) (W : Within n room ks ds) where
       place-pends : Pends key (timers K D)
       place-pends =
           record {
-            before = timers before-keys before-deadlines;
+            front = timers before-keys before-deadlines;
             deadline = getD ds r 0;
             behind = timers behind-keys behind-deadlines;
             is = ap₂ (λ (a b : List ℕ). timers a b) keys-split deadlines-split
@@ -192,7 +192,7 @@ module _ (n room : ℕ) (ks ds : List ℕ) (W : Within n room ks ds) where
             first = every-in (λ t. t .key ≡ key → ⊥) before-keys before-deadlines as-long
                 (λ i l q.
                 let j : i < r = omega (arith, simp length-take at l) in
-                p .before i j (sym (getD-take r K i 0 j ∙ getD-take n ks i 0 (omega arith)) ∙ q));
+                p .passed i j (sym (getD-take r K i 0 j ∙ getD-take n ks i 0 (omega arith)) ∙ q));
           }
 
       -- a step that names the key is about this place
@@ -254,7 +254,7 @@ module _ (n room : ℕ) (ks ds : List ℕ) (W : Within n room ks ds) where
     module _ {ks′ ds′ : List ℕ} (h : r < n) (u : ks′ ≡ closed ks) (v : ds′ ≡ closed ds) where
       -- the others stay
       gone : (clock : ℕ) (e : Entry)
-          → Step room (held n clock ks ds) e (store (place-pends h .before ++ place-pends h .behind) clock)
+          → Step room (held n clock ks ds) e (store (place-pends h .front ++ place-pends h .behind) clock)
           → TakeClaim n room clock ks ds e (T.On (n - 1) clock) ks′ ds′
       unfolding place-pends
       gone clock e x =

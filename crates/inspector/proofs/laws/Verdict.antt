@@ -12,7 +12,7 @@ use Rattle.inspector.specs.declared.Entry.the-variants as E
 use Rattle.inspector.specs.declared.State.{State}
 use Rattle.inspector.specs.declared.State.the-variants as S
 use Rattle.inspector.specs.Log.{Timer, timer, Store, store, start, Step}
-use Rattle.inspector.specs.Verdict.{Right, Wrong, most, AllRight, FirstBad, VerdictClaim, Stands}
+use Rattle.inspector.specs.Verdict.{Right, Wrong, most, AllRight, FirstBad, VerdictClaim, NoneBad}
 use Rattle.inspector.specs.Words.{timers, keysOf, deadlinesOf, roomOf, storeOf, counted, LineClaim, InspectClaim}
 use Rattle.inspector.specs.Words.{Words, words, Inspected, AllInspected}
 use Rattle.inspector.proofs.laws.Met.{right-told, right-once}
@@ -29,8 +29,8 @@ step-few m s (E.Reset key when) s′ h p =
       arith,
       ap (λ (u : Store). length (u .pending)) (p .1),
       ap (λ (l : List Timer). length l) (q .is),
-      length-append (q .before) (timer key (max when (s .clock)) ∷ q .behind),
-      length-append (q .before) (timer key (q .deadline) ∷ q .behind),
+      length-append (q .front) (timer key (max when (s .clock)) ∷ q .behind),
+      length-append (q .front) (timer key (q .deadline) ∷ q .behind),
     )
 step-few m s (E.Remove key) s′ h p =
     let q = p .0 in
@@ -38,8 +38,8 @@ step-few m s (E.Remove key) s′ h p =
       arith,
       ap (λ (u : Store). length (u .pending)) (p .1),
       ap (λ (l : List Timer). length l) (q .is),
-      length-append (q .before) (q .behind),
-      length-append (q .before) (timer key (q .deadline) ∷ q .behind),
+      length-append (q .front) (q .behind),
+      length-append (q .front) (timer key (q .deadline) ∷ q .behind),
     )
 step-few m s (E.Out time key) s′ h p =
     let q = p .0 in
@@ -47,8 +47,8 @@ step-few m s (E.Out time key) s′ h p =
       arith,
       ap (λ (u : Store). length (u .pending)) (p .3),
       ap (λ (l : List Timer). length l) (q .is),
-      length-append (q .before) (q .behind),
-      length-append (q .before) (timer key (q .deadline) ∷ q .behind),
+      length-append (q .front) (q .behind),
+      length-append (q .front) (timer key (q .deadline) ∷ q .behind),
     )
 step-few m s (E.Nothing time) s′ h p = omega (arith, ap (λ (u : Store). length (u .pending)) (p .1))
 
@@ -135,13 +135,13 @@ bad-stays n (more {l = l} {a = w} {b = w₁} i r) e =
 -- ---- the lines, one after the other
 
 pub record BadFrom (ls : List (List ℕ)) (s : Store) (k : ℕ) : Type 0 where
-  pub before : List (List ℕ)
+  pub front : List (List ℕ)
   pub line : List ℕ
   pub behind : List (List ℕ)
-  pub log : ls ≡ before ++ line ∷ behind
-  pub number : k ≡ length before
+  pub log : ls ≡ front ++ line ∷ behind
+  pub number : k ≡ length front
   pub left : Store
-  pub right : AllRight before s left
+  pub right : AllRight front s left
   pub wrong : Wrong most line left
 
 -- lines that were counted, one after the other
@@ -170,7 +170,7 @@ outcome {m = m} {s = s} (more {l = l} {ls = ls} {b = w₁} {c = w′} i r) H =
     (λ (x : Wrong most l s).
     inr (
       0,
-      record { before = []; line = l; behind = ls; log = refl; number = refl; left = s; right = none; wrong = x },
+      record { front = []; line = l; behind = ls; log = refl; number = refl; left = s; right = none; wrong = x },
       bad-stays (counted m) r (holds-wrong H l w₁ i x),
     ))
     (right-told most l s)
@@ -182,7 +182,7 @@ outcome {m = m} {s = s} (more {l = l} {ls = ls} {b = w₁} {c = w′} i r) H =
         inr (
           suc (y .0),
           record {
-            before = l ∷ b .before;
+            front = l ∷ b .front;
             line = b .line;
             behind = b .behind;
             log = ap (λ (k : List (List ℕ)). l ∷ k) (b .log);
@@ -197,14 +197,14 @@ outcome {m = m} {s = s} (more {l = l} {ls = ls} {b = w₁} {c = w′} i r) H =
 -- ---- and there is one outcome
 
 -- of a log that is right no line is wrong
-right-through : {ls before : List (List ℕ)} {s a b : Store} (line : List ℕ) (behind : List (List ℕ)) → AllRight ls s a → AllRight before s b
-    → ls ≡ before ++ line ∷ behind → Wrong most line b → ⊥
+right-through : {ls front : List (List ℕ)} {s a b : Store} (line : List ℕ) (behind : List (List ℕ)) → AllRight ls s a → AllRight front s b
+    → ls ≡ front ++ line ∷ behind → Wrong most line b → ⊥
 right-through line behind none none e w = nil≢cons e
 right-through line behind none (more z q) e w = nil≢cons e
 right-through {s = s} line behind (more {b = s₁} x p) none e w = w s₁ (subst (λ (l : List ℕ). Right most l s s₁) (head-eq-of-cons-eq e) x)
-right-through {s = s} {b = b} line behind (more {b = s₁} x p) (more {l = y} {ls = before} z q) e w =
+right-through {s = s} {b = b} line behind (more {b = s₁} x p) (more {l = y} {ls = front} z q) e w =
     let r : Right most y s s₁ = subst (λ (l : List ℕ). Right most l s s₁) (head-eq-of-cons-eq e) x in
-    right-through line behind p (subst (λ (v : Store). AllRight before v b) (sym (right-once r z)) q) (tail-eq-of-cons-eq e) w
+    right-through line behind p (subst (λ (v : Store). AllRight front v b) (sym (right-once r z)) q) (tail-eq-of-cons-eq e) w
 
 -- and a log has one first bad line
 first-once : {c d : List (List ℕ)} {s a b : Store} (l m : List ℕ) (x y : List (List ℕ)) → AllRight c s a → AllRight d s b
@@ -228,7 +228,7 @@ all-once {b = b} (more {ls = ls} x p) (more y q) = all-once p (subst (λ (v : St
 fresh-holds : (ks ds : List ℕ) → most ≤ length ks → most ≤ length ds → Holds (words (S.Good 0 0 0) ks ds) 0 start
 fresh-holds ks ds h k = record { state = refl; few = omega arith; keys = refl; deadlines = refl; key-room = h; deadline-room = k }
 
-stands-bad : (t : State) (n : ℕ) → t ≡ S.Bad n → Stands t → ⊥
+stands-bad : (t : State) (n : ℕ) → t ≡ S.Bad n → NoneBad t → ⊥
 stands-bad (S.Good a c m) n e u = let z : _≡_ {A = ℕ} 0 1 = cc in omega arith
 stands-bad (S.Bad m) n e u = u
 
@@ -242,7 +242,7 @@ accepts-exactly ls ks ds w h k I = by (outcome I (fresh-holds ks ds h k))
   where
     by : Outcome ls start 0 (w .state) → VerdictClaim ls (w .state)
     by (inl x) =
-        let stands : Stands (w .state) = subst (λ (t : State). Stands t) (sym (x .2)) tt in
+        let stands : NoneBad (w .state) = subst (λ (t : State). NoneBad t) (sym (x .2)) tt in
         record {
           ok = (λ _. record { left = x .0; right = x .1 }, λ _. stands);
           bad = λ f n. (
@@ -259,15 +259,15 @@ accepts-exactly ls ks ds w h k I = by (outcome I (fresh-holds ks ds h k))
     }
       where
         -- its number is counted
-        number : length ls < 2 ^ 64 → times (suc (x .0)) 0 ≡ length (x .1 .before) + 1
+        number : length ls < 2 ^ 64 → times (suc (x .0)) 0 ≡ length (x .1 .front) + 1
         number f =
             let e = ap (λ (l : List (List ℕ)). length l) (x .1 .log) in
-            let g = length-append (x .1 .before) (x .1 .line ∷ x .1 .behind) in
+            let g = length-append (x .1 .front) (x .1 .line ∷ x .1 .behind) in
             times-is (suc (x .0)) 0 (omega (arith, e, g, x .1 .number)) ∙ omega (arith, x .1 .number)
 
         told : length ls < 2 ^ 64 → (n : ℕ) → w .state ≡ S.Bad n → FirstBad ls n
         told f n e = record {
-          before = x .1 .before;
+          front = x .1 .front;
           line = x .1 .line;
           behind = x .1 .behind;
           log = x .1 .log;

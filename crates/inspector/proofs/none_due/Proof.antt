@@ -1,4 +1,4 @@
--- `none_due` goes on while deadlines are past t: `below-more` adds that of a turn.
+-- `none_due` goes on while deadlines are past t: `below-more` adds that of a step.
 use borrow.Author.Count.{below-more}
 use borrow.Author.Needs.{needs}
 use native.Mathlib.Omega.{arith}

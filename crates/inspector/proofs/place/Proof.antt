@@ -1,4 +1,4 @@
--- `place` stops at the first place of the key: the invariant says that no place passed has it, and `below-more` adds that of a turn.
+-- `place` stops at the first place of the key: the invariant says that no place passed has it, and `below-more` adds that of a step.
 use borrow.Author.Count.{below-more}
 use borrow.Author.Needs.{needs}
 use mathlib.Core.Path.{_≡_}
@@ -24,7 +24,7 @@ shared-slice-read-if1 : tie.Need-shared-slice-read-if1 Inv-loop μ-loop
 shared-slice-read-if1 c = search needs
 
 returns : tie.Need-returns Inv-loop μ-loop
-returns c = record { within = omega arith; before = c .before .before .before .loop .inv .1; found = λ h. c .if1 .taken }
+returns c = record { within = omega arith; passed = c .before .before .before .loop .inv .1; found = λ h. c .if1 .taken }
 
 add-i : tie.Need-add-i Inv-loop μ-loop
 add-i c = search needs
@@ -36,7 +36,7 @@ loop-again : tie.Need-loop-again Inv-loop μ-loop
 loop-again c = (search needs, below-more _ _ (c .before .before .before .loop .inv .1) (c .if1 .left))
 
 returns-2 : tie.Need-returns-2 Inv-loop μ-loop
-returns-2 c = record { within = omega arith; before = c .before .loop .inv .1; found = λ h. absurd (omega arith) }
+returns-2 c = record { within = omega arith; passed = c .before .loop .inv .1; found = λ h. absurd (omega arith) }
 
 pub place-spec : {M : Type 1} → statement M
 place-spec =

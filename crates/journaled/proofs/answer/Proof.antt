@@ -8,8 +8,8 @@ use lib.ListN.{length, take, drop}
 use Rattle.records.specs.Words.{words}
 use Rattle.lines.specs.Running.{Passes}
 use Rattle.lines.proofs.laws.Running.{passes-none}
-use Rattle.noting.specs.Replies.{held, Answered}
-use Rattle.noting.proofs.laws.Turns.{feed-forth, feed-fits, feed-room}
+use Rattle.noting.specs.Replies.{held, LineAnswered}
+use Rattle.noting.proofs.laws.NextLines.{feed-forth, feed-fits, feed-room}
 use Rattle.noting.proofs.laws.Running.{calls-more, calls-used}
 use Rattle.journaled.proofs.laws.Used.{used}
 use borrow.Author.Needs.{needs}
@@ -21,11 +21,11 @@ Inv-loop got line₀ values₀ deadlines₀ nexts₀ prevs₀ turns₀ marks₀ 
     nexts prevs turns marks notes out n patch state heads file fine i =
     (n ≤ 81)
     × (fine ≡ true
-    → Passes Answered (length line₀) (take n₀ line₀) got
-    (held patch₀ (words state₀ (heads₀ .rows) values₀ deadlines₀ nexts₀ prevs₀ turns₀ marks₀) (file₀ .length))
+    → Passes LineAnswered (length line₀) (take n₀ line₀) got
+    (held patch₀ (words state₀ (heads₀ .heads) values₀ deadlines₀ nexts₀ prevs₀ turns₀ marks₀) (file₀ .length))
     (take n line)
     (drop i got)
-    (held patch (words state (heads .rows) values deadlines nexts prevs turns marks) (file .length)))
+    (held patch (words state (heads .heads) values deadlines nexts prevs turns marks) (file .length)))
     × (length line ≡ length line₀)
     × (length values ≡ length values₀)
     × (length deadlines ≡ length deadlines₀)

@@ -1,4 +1,4 @@
--- `copied` meets its contract: every turn copies a byte at least, and no file has one from 2^63 on (`chunk-within`).
+-- `copied` meets its contract: every step copies a byte at least, and no file has one from 2^63 on (`chunk-within`).
 use borrow.Author.Needs.{needs}
 use mathlib.Core.Path.{_≡_}
 use Prim.Native.Nat.{_+_, _-_, _^_, _<_}

@@ -4,7 +4,7 @@ use mathlib.Core.Path.{refl, sym, _∙_}
 use native.Mathlib.Omega.{arith}
 use lib.ListN.{take, length-take}
 use Rattle.lines.proofs.laws.Running.{breaks-off}
-use Rattle.noting.proofs.laws.Turns.{last-room}
+use Rattle.noting.proofs.laws.NextLines.{last-room}
 use Rattle.noting.proofs.laws.Running.{closes-last}
 use borrow.Author.Needs.{needs}
 use Rattle.journaled.proofs.finish.Statement.{statement}

@@ -9,7 +9,7 @@ use lib.ListN.{length, take, length-take}
 use Rattle.records.specs.Words.{words}
 use Rattle.lines.specs.Running.{Reads}
 use Rattle.lines.proofs.laws.Running.{reads-none, reads-more, ran, breaks-off}
-use Rattle.noting.specs.Replies.{held, Answered}
+use Rattle.noting.specs.Replies.{held, LineAnswered}
 use Rattle.journaled.proofs.serve.Statement.{statement}
 use Rattle.journaled.proofs.serve.Tie as tie
 
@@ -27,11 +27,11 @@ Inv-loop line₀ values₀ deadlines₀ nexts₀ prevs₀ turns₀ marks₀ note
     × (length marks ≡ length marks₀)
     × (length notes ≡ length notes₀)
     × (length out ≡ length out₀)
-    × Reads Answered (length line₀) (take (run₀ .kept) line₀)
-    (held (run₀ .patch) (words (run₀ .state) (run₀ .heads .rows) values₀ deadlines₀ nexts₀ prevs₀ turns₀ marks₀) (run₀ .file .length))
+    × Reads LineAnswered (length line₀) (take (run₀ .kept) line₀)
+    (held (run₀ .patch) (words (run₀ .state) (run₀ .heads .heads) values₀ deadlines₀ nexts₀ prevs₀ turns₀ marks₀) (run₀ .file .length))
     bytes
     (take (run .kept) line)
-    (held (run .patch) (words (run .state) (run .heads .rows) values deadlines nexts prevs turns marks) (run .file .length))
+    (held (run .patch) (words (run .state) (run .heads .heads) values deadlines nexts prevs turns marks) (run .file .length))
 
 abbrev μ-loop : tie.MeasureT-loop
 μ-loop line₀ values₀ deadlines₀ nexts₀ prevs₀ turns₀ marks₀ notes₀ out₀ buf₀ run₀ bytes₀ line values deadlines nexts prevs turns marks notes

@@ -32,7 +32,7 @@ head-of-requires-2 : tie.Need-head-of-requires-2
 head-of-requires-2 c κs = search needs
 
 returns-4 : tie.Need-returns-4
-returns-4 c = tells-no (λ H. c .if4 .taken (c .before .head-of2 .ensures ∙ H .stack))
+returns-4 c = tells-no (λ H. c .if4 .taken (c .before .head-of2 .ensures ∙ H .expired))
 
 block-over-requires : tie.Need-block-over-requires
 block-over-requires c κs = search needs

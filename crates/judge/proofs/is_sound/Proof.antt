@@ -5,16 +5,16 @@ use borrow.Author.Tests.{not-true, not-false}
 use Rattle.contracts.proofs.laws.Tells.{tells-no}
 use Rattle.judge.proofs.laws.Judge.{sound-judged, judged-rest, judged-mid}
 use Rattle.judge.proofs.laws.Lent.{can-judge, tells-whole, tells-hold}
-use Rattle.judge.proofs.Rows.{shaped}
+use Rattle.judge.proofs.Shapes.{shaped}
 use Rattle.judge.proofs.is_sound.Statement.{statement}
 use Rattle.judge.proofs.is_sound.Tie as tie
 
-abbrev start : tie.After-stacks → tie.Start
+abbrev start : tie.After-top → tie.Start
 start c =
     let a = c .before .before .before .before in
     a .before .before .before
 
-abbrev lent : tie.After-heads → tie.After-tops-of
+abbrev lent : tie.After-heads → tie.After-tops-in
 lent c = c .before .before .before
 
 abbrev held : tie.After-can-hold → tie.After-heads
@@ -36,14 +36,14 @@ has-room-requires c κs = search needs
 returns-2 : tie.Need-returns-2
 returns-2 c = tells-no (λ S. c .before .has-room .ensures .no (not-true _ (c .if2 .taken)) (S .standing .fits .room))
 
-tops-of-requires : tie.Need-tops-of-requires
-tops-of-requires c κs = search needs
+tops-in-requires : tie.Need-tops-in-requires
+tops-in-requires c κs = search needs
 
 is-whole-requires : tie.Need-is-whole-requires
 is-whole-requires c κs =
     let e = roomed c in
     let s = start (e .before .before .before) in
-    can-judge (lent c .tops-of .ensures) (record {
+    can-judge (lent c .tops-in .ensures) (record {
       six = search needs;
       shape = shaped (s .args .t2) (s .good .1 .0 .0) (s .good .1 .0 .1 .0 .1) (s .good .1 .0 .1 .1);
       room = e .before .has-room .ensures .yes (not-false _ (e .if2 .left)) .links;
@@ -53,7 +53,7 @@ is-whole-requires c κs =
 returns-3 : tie.Need-returns-3
 returns-3 c =
     let w = c .before in
-    tells-no (λ S. tells-whole (lent (w .before) .tops-of .ensures) (w .is-whole .ensures) .no (not-true _ (c .if3 .taken)) (S .standing .whole))
+    tells-no (λ S. tells-whole (lent (w .before) .tops-in .ensures) (w .is-whole .ensures) .no (not-true _ (c .if3 .taken)) (S .standing .whole))
 
 -- no poll is in hand
 
@@ -77,7 +77,8 @@ returns-5 c =
       few = omega (arith, start (e .before .before .before) .good .0);
       room = e .before .has-room .ensures .yes (not-false _ (e .if2 .left));
     })
-    (tells-whole (lent (w .before) .tops-of .ensures) (w .is-whole .ensures) .yes (not-false _ (g .before .if3 .left))) _ (g .if4 .taken) (g .if4 .taken) (u .if5 .left) (c .records-agree .ensures)
+    (tells-whole (lent (w .before) .tops-in .ensures) (w .is-whole .ensures) .yes (not-false _ (g .before .if3 .left))) _ (g .if4 .taken) (g .if4 .taken)
+        (u .if5 .left) (c .records-agree .ensures)
 
 -- a poll is in hand
 
@@ -88,7 +89,7 @@ returns-6 : tie.Need-returns-6
 returns-6 c =
     let h = c .before in
     tells-no (λ S.
-    tells-hold (lent (held h) .tops-of .ensures) _ (h .can-hold .ensures) .no (not-true _ (c .if6 .taken))
+    tells-hold (lent (held h) .tops-in .ensures) _ (h .can-hold .ensures) .no (not-true _ (c .if6 .taken))
     (sound-judged S .mid (h .before .before .before .if4 .left) .0))
 
 level-of-requires : tie.Need-level-of-requires
@@ -129,8 +130,8 @@ returns-7 c =
       few = omega (arith, start (e .before .before .before) .good .0);
       room = e .before .has-room .ensures .yes (not-false _ (e .if2 .left));
     })
-    (tells-whole (lent (w .before) .tops-of .ensures) (w .is-whole .ensures) .yes (not-false _ (g .before .if3 .left))) (g .if4 .left)
-    (tells-hold (lent (held (h .before)) .tops-of .ensures) _ (h .before .can-hold .ensures) .yes (not-false _ (h .if6 .left))) _ _
+    (tells-whole (lent (w .before) .tops-in .ensures) (w .is-whole .ensures) .yes (not-false _ (g .before .if3 .left))) (g .if4 .left)
+    (tells-hold (lent (held (h .before)) .tops-in .ensures) _ (h .before .can-hold .ensures) .yes (not-false _ (h .if6 .left))) _ _
     (o .before .level-of .ensures) (o .list-start .ensures) (c .records-agree2 .ensures)
 
 pub is-sound-spec : {M : Type 1} → statement M
@@ -140,7 +141,7 @@ is-sound-spec =
     returns
     has-room-requires
     returns-2
-    tops-of-requires
+    tops-in-requires
     is-whole-requires
     returns-3
     returns-4

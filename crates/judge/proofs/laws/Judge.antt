@@ -15,10 +15,10 @@ use Rattle.times.specs.Times.{width, slotOf, startAt, levelOf, block, blockEnd}
 use Rattle.times.proofs.laws.Blocks.{end-later}
 use Rattle.links.specs.Lists.{Mem, nobody, firstD}
 use Rattle.links.specs.Links.{at}
-use Rattle.stack.specs.Places.{slotPlace, slots, parking, expired, free, places, retired, levelAt, slotAt}
-use Rattle.stack.specs.Words.{headAt}
-use Rattle.stack.specs.Whole as stack
-use Rattle.stack.proofs.laws.Whole as stack-laws
+use Rattle.places.specs.Places.{slotPlace, slots, parking, expired, free, places, retired, levelAt, slotAt}
+use Rattle.places.specs.Words.{headAt}
+use Rattle.places.specs.Whole as places
+use Rattle.places.proofs.laws.Whole as place-laws
 use Rattle.wheel.specs.Limited.{start}
 use Rattle.wheel.specs.Midway.{Belongs, Parked}
 use Rattle.wheel.proofs.laws.Limited.{start-slot-at, start-parking}
@@ -70,7 +70,7 @@ module _ {low h c w t m : ℕ} (some : t ≢ 0) (last : t ≤ lastTurn) where
   agrees : (m < slots → Belongs low h c m w) → (m ≡ parking → Parked h c w) → (m ≡ expired → w ≡ c)
       → (places ≤ m → (m ≡ retired) × (t ≡ lastTurn))
       → RecordAgrees low h c w t m
-  agrees f p g k = record { some = omega arith; last = omega arith; wheel = f; parked = p; stack = g; retired = k }
+  agrees f p g k = record { some = omega arith; last = omega arith; wheel = f; parked = p; expired = g; retired = k }
 
   pub record-slot : {b : Bool} → m < slots → Tells (Belongs low h c m w) b → Tells (RecordAgrees low h c w t m) b
   record-slot i T =
@@ -80,10 +80,10 @@ module _ {low h c w t m : ℕ} (some : t ≢ 0) (last : t ≤ lastTurn) where
   record-parked i T =
       tells-by T (λ o. agrees (λ g. absurd (omega arith)) (λ q. o) (λ q. absurd (omega arith)) (λ q. absurd (omega arith))) (λ R. R .parked i)
 
-  pub record-stack : m ≡ expired → Tells (RecordAgrees low h c w t m) (eqb w c)
-  record-stack i =
+  pub record-expired : m ≡ expired → Tells (RecordAgrees low h c w t m) (eqb w c)
+  record-expired i =
       tells-by (tells-eq w c)
-      (λ o. agrees (λ g. absurd (omega arith)) (λ q. absurd (omega arith)) (λ q. o) (λ q. absurd (omega arith))) (λ R. R .stack i)
+      (λ o. agrees (λ g. absurd (omega arith)) (λ q. absurd (omega arith)) (λ q. o) (λ q. absurd (omega arith))) (λ R. R .expired i)
 
   pub record-retired : m ≡ retired → Tells (RecordAgrees low h c w t m) (eqb t lastTurn)
   record-retired i =
@@ -106,12 +106,12 @@ record-next ds ts ms R r = below-more _ _ R r
 pub record Judged (s : QueueWords) : Type 0 where
   pub fits : Fits (slices s) (count s)
   pub whole : WheelWhole (s .wheel)
-  pub rest : AtRest s → (s .until ≡ 0) × RecordsAgree 0 nobody (elapsed s) (count s) (s .deadlines) (s .turns) (s .wheel .stack .links .marks)
+  pub rest : AtRest s → (s .until ≡ 0) × RecordsAgree 0 nobody (elapsed s) (count s) (s .deadlines) (s .turns) (s .wheel .places .links .marks)
   pub mid : MidPoll s
-      → CanHold (elapsed s) (s .until) (s .hand) (headAt (s .wheel .stack) (s .hand)) (headAt (s .wheel .stack) expired)
-      (headAt (s .wheel .stack) parking)
+      → CanHold (elapsed s) (s .until) (s .hand) (headAt (s .wheel .places) (s .hand)) (headAt (s .wheel .places) expired)
+      (headAt (s .wheel .places) parking)
       × RecordsAgree (levelAt (s .hand) - 1) (s .hand) (start (elapsed s) (s .hand)) (count s) (s .deadlines) (s .turns)
-      (s .wheel .stack .links .marks)
+      (s .wheel .places .links .marks)
 
 module _ {s : QueueWords} where
   -- records by their marks, members by their lists
@@ -119,34 +119,34 @@ module _ {s : QueueWords} where
     by-marks : ((p x : ℕ) → p < slots → Mem x (view s .lists p) → Belongs low h c p (at (s .deadlines) x))
         → ((x : ℕ) → Mem x (view s .lists parking) → Parked h c (at (s .deadlines) x))
         → ((x : ℕ) → Mem x (view s .lists expired) → at (s .deadlines) x ≡ c)
-        → RecordsAgree low h c (count s) (s .deadlines) (s .turns) (s .wheel .stack .links .marks)
+        → RecordsAgree low h c (count s) (s .deadlines) (s .turns) (s .wheel .places .links .marks)
     by-marks f j g i k =
-        let W = T .whole .stack in
+        let W = T .whole .places in
         record {
           some = T .turns i k .0;
           last = T .turns i k .1;
-          wheel = λ m. f (markOf s i) i m (stack-laws.marked-member W i k (omega arith));
-          parked = λ m. j i (rw m at (stack-laws.marked-member W i k (omega arith)));
-          stack = λ m. g i (rw m at (stack-laws.marked-member W i k (omega arith)));
-          retired = λ m. T .retired i k (omega (arith, k, stack-laws.small W)) m;
+          wheel = λ m. f (markOf s i) i m (place-laws.marked-member W i k (omega arith));
+          parked = λ m. j i (rw m at (place-laws.marked-member W i k (omega arith)));
+          expired = λ m. g i (rw m at (place-laws.marked-member W i k (omega arith)));
+          retired = λ m. T .retired i k (omega (arith, k, place-laws.small W)) m;
         }
 
   module _ (J : Judged s) {low h c : ℕ}
-      (R : RecordsAgree low h c (count s) (s .deadlines) (s .turns) (s .wheel .stack .links .marks)) where
+      (R : RecordsAgree low h c (count s) (s .deadlines) (s .turns) (s .wheel .places .links .marks)) where
     by-lists : (p x : ℕ) → p < slots → Mem x (view s .lists p) → Belongs low h c p (at (s .deadlines) x)
     by-lists p x h m =
-        let W = J .whole .stack in
-        let e : markOf s x ≡ p = stack-laws.member-mark W p x m in
-        rw e at (R x (stack-laws.member-below W p x m) .wheel (omega arith))
+        let W = J .whole .places in
+        let e : markOf s x ≡ p = place-laws.member-mark W p x m in
+        rw e at (R x (place-laws.member-below W p x m) .wheel (omega arith))
 
     by-parked : (x : ℕ) → Mem x (view s .lists parking) → Parked h c (at (s .deadlines) x)
-    by-parked x m = let W = J .whole .stack in R x (stack-laws.member-below W parking x m) .parked (stack-laws.member-mark W parking x m)
+    by-parked x m = let W = J .whole .places in R x (place-laws.member-below W parking x m) .parked (place-laws.member-mark W parking x m)
 
-    by-stack : (x : ℕ) → Mem x (view s .lists expired) → at (s .deadlines) x ≡ c
-    by-stack x m = let W = J .whole .stack in R x (stack-laws.member-below W expired x m) .stack (stack-laws.member-mark W expired x m)
+    by-expired : (x : ℕ) → Mem x (view s .lists expired) → at (s .deadlines) x ≡ c
+    by-expired x m = let W = J .whole .places in R x (place-laws.member-below W expired x m) .expired (place-laws.member-mark W expired x m)
 
-  by-turns : (J : Judged s) {low h c : ℕ} → RecordsAgree low h c (count s) (s .deadlines) (s .turns) (s .wheel .stack .links .marks) → Standing s
-  by-turns J R =
+  by-words : (J : Judged s) {low h c : ℕ} → RecordsAgree low h c (count s) (s .deadlines) (s .turns) (s .wheel .places .links .marks) → Standing s
+  by-words J R =
       record {
         fits = J .fits;
         whole = J .whole;
@@ -157,7 +157,7 @@ module _ {s : QueueWords} where
   pub sound-judged : Sound s → Judged s
   sound-judged S =
       let T = S .standing in
-      let W = T .whole .stack in
+      let W = T .whole .places in
       record {
         fits = T .fits;
         whole = T .whole;
@@ -165,7 +165,7 @@ module _ {s : QueueWords} where
             let R = S .rule .free z in (
               S .no-now z,
               by-marks T (λ p x h m. belongs-wheel nobody (elapsed s) p (at (s .deadlines) x) h (omega arith) .0 (R .wheel p x h m))
-                  (λ x m. record { aside = λ _. R .parked x m; inside = λ q. absurd (omega (arith, q)) }) (R .stack),
+                  (λ x m. record { aside = λ _. R .parked x m; inside = λ q. absurd (omega (arith, q)) }) (R .expired),
             );
         mid = λ d.
             let H = hand-tests (at (s .deadlines)) (s .until) (s .hand) (elapsed s) (view s .lists) .0 (S .rule .inside d) in
@@ -173,32 +173,32 @@ module _ {s : QueueWords} where
               record {
                 below = H .below;
                 high = H .high;
-                filled = λ z. nil≢cons (sym (stack-laws.list-empty W (s .hand) z) ∙ f .2);
-                stack = stack-laws.head-first W expired ∙ ap (firstD nobody) (H .stack);
+                filled = λ z. nil≢cons (sym (place-laws.list-empty W (s .hand) z) ∙ f .2);
+                expired = place-laws.head-first W expired ∙ ap (firstD nobody) (H .expired);
                 late = H .late;
                 due = H .due;
-                own = λ z. (H .own z .0, λ w. (H .own z .1 w .0, stack-laws.head-first W parking ∙ ap (firstD nobody) (H .own z .1 w .1)));
+                own = λ z. (H .own z .0, λ w. (H .own z .1 w .0, place-laws.head-first W parking ∙ ap (firstD nobody) (H .own z .1 w .1)));
               },
-              by-marks T (H .each) (H .parked) (λ x m. absurd (subst (Mem x) (H .stack) m)),
+              by-marks T (H .each) (H .parked) (λ x m. absurd (subst (Mem x) (H .expired) m)),
             );
       }
 
   pub judged-sound : Judged s → Sound s
   judged-sound J = by-cases (ℕ-discrete (s .hand) nobody) at-rest mid-poll
     where
-      W : stack.Whole (s .wheel .stack)
-      W = J .whole .stack
+      W : places.Whole (s .wheel .places)
+      W = J .whole .places
 
       at-rest : AtRest s → Sound s
       at-rest z =
           let R = J .rest z in
           record {
-            standing = by-turns J (R .1);
+            standing = by-words J (R .1);
             rule = record {
               free = λ _. record {
                 wheel = λ p x h m. belongs-wheel nobody (elapsed s) p (at (s .deadlines) x) h (omega arith) .1 (by-lists J (R .1) p x h m);
                 parked = λ x m. by-parked J (R .1) x m .aside (λ q. omega (arith, q));
-                stack = by-stack J (R .1);
+                expired = by-expired J (R .1);
               };
               inside = λ d. absurd (d z);
             };
@@ -209,21 +209,21 @@ module _ {s : QueueWords} where
       mid-poll d =
           let R = J .mid d in
           let C = R .0 in
-          let f = stack-laws.list-cons W (s .hand) (C .filled) in
+          let f = place-laws.list-cons W (s .hand) (C .filled) in
           record {
-            standing = by-turns J (R .1);
+            standing = by-words J (R .1);
             rule = record {
               free = λ z. absurd (d z);
               inside = λ _. hand-tests (at (s .deadlines)) (s .until) (s .hand) (elapsed s) (view s .lists) .1 (record {
                 high = C .high;
                 below = C .below;
                 filled = (_, f .0, f .1);
-                stack = stack-laws.list-empty W expired (C .stack);
+                expired = place-laws.list-empty W expired (C .expired);
                 late = C .late;
                 due = C .due;
                 each = by-lists J (R .1);
                 parked = by-parked J (R .1);
-                own = λ z. (C .own z .0, λ w. (C .own z .1 w .0, stack-laws.list-empty W parking (C .own z .1 w .1)));
+                own = λ z. (C .own z .0, λ w. (C .own z .1 w .0, place-laws.list-empty W parking (C .own z .1 w .1)));
               });
             };
             no-now = λ z. absurd (d z);
@@ -232,16 +232,16 @@ module _ {s : QueueWords} where
 -- by the answer of the judge of the records
 module _ {s : QueueWords} (F : Fits (slices s) (count s)) (W : WheelWhole (s .wheel)) {b : Bool} where
   pub judged-rest : (h : ℕ) → h ≡ nobody → AtRest s → s .until ≡ 0
-      → Tells (RecordsAgree 0 h (elapsed s) (count s) (s .deadlines) (s .turns) (s .wheel .stack .links .marks)) b → Tells (Sound s) b
+      → Tells (RecordsAgree 0 h (elapsed s) (count s) (s .deadlines) (s .turns) (s .wheel .places .links .marks)) b → Tells (Sound s) b
   judged-rest h is z u T =
       tells-by (rw is at T)
       (λ R. judged-sound (record { fits = F; whole = W; rest = λ _. (u, R); mid = λ d. absurd (d z) }))
       (λ S. sound-judged S .rest z .1)
 
-  pub judged-mid : MidPoll s → CanHold (elapsed s) (s .until) (s .hand) (headAt (s .wheel .stack) (s .hand)) (headAt (s .wheel .stack) expired)
-      (headAt (s .wheel .stack) parking)
+  pub judged-mid : MidPoll s → CanHold (elapsed s) (s .until) (s .hand) (headAt (s .wheel .places) (s .hand)) (headAt (s .wheel .places) expired)
+      (headAt (s .wheel .places) parking)
       → (k c : ℕ) → k ≡ levelAt (s .hand) → c ≡ start (elapsed s) (s .hand)
-      → Tells (RecordsAgree (k - 1) (s .hand) c (count s) (s .deadlines) (s .turns) (s .wheel .stack .links .marks)) b → Tells (Sound s) b
+      → Tells (RecordsAgree (k - 1) (s .hand) c (count s) (s .deadlines) (s .turns) (s .wheel .places .links .marks)) b → Tells (Sound s) b
   judged-mid d H k c ek ec T =
       tells-by (rw (ek, ec) at T)
       (λ R. judged-sound (record { fits = F; whole = W; rest = λ z. absurd (d z); mid = λ _. (H, R) }))
@@ -279,7 +279,7 @@ pub own-top : {k a parked : ℕ} (e : ℕ) → a ≡ suc k → a ≡ 6 → e % 2
 unfolding width
 own-top {k} {a} e ea z n o = n (ap (λ (j : ℕ). e % width j) (sym z ∙ ea) ∙ o .0)
 
-module _ {e until p head first parked : ℕ} (below : p < expired) (high : levelAt p ≢ 0) (filled : head ≢ nobody) (stack : first ≡ nobody) where
+module _ {e until p head first parked : ℕ} (below : p < expired) (high : levelAt p ≢ 0) (filled : head ≢ nobody) (none-expired : first ≡ nobody) where
   -- the parking list
   pub hold-parking : p ≡ parking → Tells (CanHold e until p head first parked) (ltb (block e) (block until))
   unfolding blockEnd
@@ -291,7 +291,7 @@ module _ {e until p head first parked : ℕ} (below : p < expired) (high : level
               below = below;
               high = omega (arith, high);
               filled = filled;
-              stack = stack;
+              expired = none-expired;
               late = omega (arith, a, end-later e);
               due = omega (arith, a, ltb-true (block e) (block until) q);
               own = λ w. absurd (omega (arith, a, w, end-later e));
@@ -306,7 +306,7 @@ module _ {e until p head first parked : ℕ} (below : p < expired) (high : level
           below = below;
           high = omega (arith, high);
           filled = filled;
-          stack = stack;
+          expired = none-expired;
           late = omega (arith, l, ec);
           due = omega (arith, due, ec);
           own = λ z. o (ec ∙ z);

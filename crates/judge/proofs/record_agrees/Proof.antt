@@ -1,9 +1,9 @@
 -- `record_agrees` meets its contract: by the turn, and then by the place that the mark tells.
 use borrow.Author.Needs.{needs}
 use native.Mathlib.Omega.{arith}
-use Rattle.stack.proofs.laws.Asked.{below, past}
+use Rattle.places.proofs.laws.Asked.{below, past}
 use Rattle.contracts.proofs.laws.Tells.{tells-no}
-use Rattle.judge.proofs.laws.Judge.{record-slot, record-parked, record-stack, record-retired, record-aside}
+use Rattle.judge.proofs.laws.Judge.{record-slot, record-parked, record-expired, record-retired, record-aside}
 use Rattle.judge.proofs.record_agrees.Statement.{statement}
 use Rattle.judge.proofs.record_agrees.Tie as tie
 
@@ -35,7 +35,7 @@ returns-4 c =
 returns-5 : tie.Need-returns-5
 returns-5 c =
     let s = c .before .before .before in
-    record-stack (s .before .before .if1 .left) (s .before .if2 .left) (c .if5 .taken)
+    record-expired (s .before .before .if1 .left) (s .before .if2 .left) (c .if5 .taken)
 
 returns-6 : tie.Need-returns-6
 returns-6 c =

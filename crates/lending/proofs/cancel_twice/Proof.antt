@@ -10,12 +10,12 @@ to-remove2 c =
     let a = c .before .before .before .before in
     a .before .before .before .before
 
-abbrev to-rows-of : tie.After-remove2 → tie.After-rows-of
-to-rows-of c =
+abbrev to-heads-in : tie.After-remove2 → tie.After-heads-in
+to-heads-in c =
     let a = c .before .before .before .before in
     a .before
 
-abbrev to-remove : tie.After-rows-of → tie.After-remove
+abbrev to-remove : tie.After-heads-in → tie.After-remove
 to-remove c =
     let a = c .before .before .before .before in
     let b = a .before .before .before .before in
@@ -24,8 +24,8 @@ to-remove c =
 remove-requires : tie.Need-remove-requires
 remove-requires c κs = search needs
 
-rows-of-requires : tie.Need-rows-of-requires
-rows-of-requires c κs = search needs
+heads-in-requires : tie.Need-heads-in-requires
+heads-in-requires c κs = search needs
 
 remove-requires-2 : tie.Need-remove-requires-2
 remove-requires-2 c κs = search needs
@@ -33,7 +33,7 @@ remove-requires-2 c κs = search needs
 same-length : tie.Need-same-length
 same-length c =
     let at-remove2 = to-remove2 c in
-    at-remove2 .remove2 .kept .1 .1 .1 .1 .0 ∙ to-remove (to-rows-of at-remove2) .remove .kept .1 .1 .1 .1 .0
+    at-remove2 .remove2 .kept .1 .1 .1 .1 .0 ∙ to-remove (to-heads-in at-remove2) .remove .kept .1 .1 .1 .1 .0
 
 same-length-2 : tie.Need-same-length-2
 same-length-2 c = search needs
@@ -47,15 +47,15 @@ same-length-4 c = search needs
 returns : tie.Need-returns
 returns c =
     let at-remove2 = to-remove2 c in
-    let at-rows-of = to-rows-of at-remove2 in
-    cancels-on (to-remove at-rows-of .remove .ensures) (at-rows-of .rows-of .ensures) (at-remove2 .remove2 .ensures)
+    let at-heads-in = to-heads-in at-remove2 in
+    cancels-on (to-remove at-heads-in .remove .ensures) (at-heads-in .heads-in .ensures) (at-remove2 .remove2 .ensures)
 
 pub cancel-twice-spec : {M : Type 1} → statement M
 cancel-twice-spec =
     tie.close
     (tie.spec
     remove-requires
-    rows-of-requires
+    heads-in-requires
     remove-requires-2
     same-length
     same-length-2

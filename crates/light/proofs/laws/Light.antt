@@ -8,7 +8,7 @@ use native.Mathlib.Omega.{arith}
 use lib.ListN.{length, take}
 use lib.Seq.{take-all}
 use Rattle.lines.specs.Lines.{linesOf, firsts, joined}
-use Rattle.lines.specs.Running.{Along, none, more, Ran}
+use Rattle.lines.specs.Running.{Along, none, more, ProgramRan}
 use Rattle.lines.proofs.laws.Lines.{whole-line}
 use Rattle.lines.proofs.laws.Running.{ran-all}
 use Rattle.decimals.specs.Text.{Decimal}
@@ -111,7 +111,7 @@ amounts-81 (l ∷ ls) (n ∷ ns) = (
 )
 
 -- whatever chunks the input came in: where it was read to its end, what is written is the text for its lines
-pub all-read : {n : ℕ} {t : State} → Ran Stepped 81 [] S.Nothing n true t
+pub all-read : {n : ℕ} {t : State} → ProgramRan Stepped 81 [] S.Nothing n true t
     → (cs : List (List ℕ)) × (length (joined cs) ≡ n) × Writes (linesOf (joined cs)) (textOf t)
 all-read R =
     let x = ran-all (omega arith) R in

@@ -1,8 +1,8 @@
--- `push_hex` writes digit after digit, the first first (`digits-turn`).
+-- `push_hex` writes digit after digit, the first first (`digits-step`).
 use borrow.Author.Needs.{needs}
 use native.Mathlib.Omega.{arith}
 use mathlib.Core.Path.{refl}
-use Rattle.writing.proofs.laws.Writing.{Digits, power-pos, digits-start, digits-turn, digits-end}
+use Rattle.writing.proofs.laws.Writing.{Digits, power-pos, digits-start, digits-step, digits-end}
 use Rattle.light.specs.Light.{digitOf}
 use Rattle.light.proofs.push_hex.Statement.{statement}
 use Rattle.light.proofs.push_hex.Tie as tie
@@ -37,7 +37,8 @@ loop-less : tie.Need-loop-less Inv-loop μ-loop
 loop-less c = omega (arith, c .before .loop-test .taken)
 
 loop-again : tie.Need-loop-again Inv-loop μ-loop
-loop-again c = digits-turn _ (c .before .before .loop .inv) (omega arith) (c .before .loop-test .taken) (c .before .before .before .before .pre) (c .digit .ensures)
+loop-again c =
+    digits-step _ (c .before .before .loop .inv) (omega arith) (c .before .loop-test .taken) (c .before .before .before .before .pre) (c .digit .ensures)
 
 same-length : tie.Need-same-length Inv-loop μ-loop
 same-length c = c .before .loop .inv .size

@@ -1,4 +1,4 @@
--- The turns of `take_line`: nothing taken yet, one byte more that is kept, or lost where there is no room, and the two ways out.
+-- The steps of `take_line`: nothing taken yet, one byte more that is kept, or lost where there is no room, and the two ways out.
 use mathlib.Core.Path.{_≡_, refl, sym, ap, _∙_, subst}
 use mathlib.Core.Logic.{_≢_, by-cases}
 use mathlib.Core.List.{List, [], _∷_, _++_, append-nil, append-assoc}
@@ -59,7 +59,7 @@ so-none got line from n {k} e =
     }
 
 -- the byte b comes behind the first k bytes of line, or is lost where there is no room
-pub record Keeps (m : ℕ) (line : List ℕ) (k b : ℕ) (line′ : List ℕ) (k′ : ℕ) : Type 0 where
+pub record KeepsByte (m : ℕ) (line : List ℕ) (k b : ℕ) (line′ : List ℕ) (k′ : ℕ) : Type 0 where
   pub on : k ≤ k′
   pub fits : k′ ≤ m
   pub size : length line′ ≡ m
@@ -67,7 +67,7 @@ pub record Keeps (m : ℕ) (line : List ℕ) (k b : ℕ) (line′ : List ℕ) (k
   pub rest : drop k′ line′ ≡ drop k′ line
 
 module _ {m : ℕ} (line : List ℕ) (k b : ℕ) (size : length line ≡ m) where
-  pub byte-kept : {line′ : List ℕ} {k′ : ℕ} → k < length line → line′ ≡ set line k b → k′ ≡ k + 1 → Keeps m line k b line′ k′
+  pub byte-kept : {line′ : List ℕ} {k′ : ℕ} → k < length line → line′ ≡ set line k b → k′ ≡ k + 1 → KeepsByte m line k b line′ k′
   byte-kept {line′} {k′} h e f =
       let l : length line′ ≡ length line = ap (λ (x : List ℕ). length x) e ∙ length-set line k b in
       let g : length (take k line ++ b ∷ []) ≤ m = simp (length-append, length-take) (omega arith) in
@@ -79,7 +79,7 @@ module _ {m : ℕ} (line : List ℕ) (k b : ℕ) (size : length line ≡ m) wher
         rest = ap (λ (x : List ℕ). drop k′ x) e ∙ drop-set-lt k′ line k b (omega arith);
       }
 
-  pub byte-lost : {line′ : List ℕ} {k′ : ℕ} → length line ≤ k → k ≤ m → line′ ≡ line → k′ ≡ k → Keeps m line k b line′ k′
+  pub byte-lost : {line′ : List ℕ} {k′ : ℕ} → length line ≤ k → k ≤ m → line′ ≡ line → k′ ≡ k → KeepsByte m line k b line′ k′
   byte-lost {line′} {k′} h j e f =
       let g : length (take k line) ≡ m = simp length-take (omega arith) in
       let l : length line′ ≡ length line = ap (λ (x : List ℕ). length x) e in
@@ -93,7 +93,7 @@ module _ {m : ℕ} (line : List ℕ) (k b : ℕ) (size : length line ≡ m) wher
 
 module _ {got : List ℕ} {from : ℕ} {line : List ℕ} {n : ℕ} {line₁ : List ℕ} {i k : ℕ} (S : So got from line n line₁ i k) where
   pub so-more : {line′ : List ℕ} {k′ : ℕ} → i < length got → getD got i 0 ≢ newline
-      → Keeps (length line) line₁ k (getD got i 0) line′ k′ → So got from line n line′ (i + 1) k′
+      → KeepsByte (length line) line₁ k (getD got i 0) line′ k′ → So got from line n line′ (i + 1) k′
   so-more {line′} {k′} h d K =
       let b = getD got i 0 in
       let m = length line in

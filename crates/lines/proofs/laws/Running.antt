@@ -8,7 +8,7 @@ use lib.ListN.{length, take, drop, length-append, drop-of-length-le}
 use Rattle.lines.specs.Lines.{linesFrom, linesOf, firsts, last, joined}
 use Rattle.lines.specs.Taking.{TakeClaim}
 use Rattle.lines.specs.Passed.{Passed}
-use Rattle.lines.specs.Running.{Along, none, more, Chunk, used, ended, part, Closes, Passes, Reads, Ran}
+use Rattle.lines.specs.Running.{Along, none, more, Chunk, used, ended, part, Closes, Passes, Reads, ProgramRan}
 use Rattle.lines.proofs.laws.Lines.{input-ends}
 use Rattle.lines.proofs.laws.Once.{take-once}
 use Rattle.lines.proofs.laws.Passed.{passed-none, passed-more, passed-line, passed-end}
@@ -156,11 +156,11 @@ module _ {A : Type 0} {Takes : List ℕ → A → A → Type 0} where
       }
 
   pub ran : {m : ℕ} {k k₁ : List ℕ} {a a₁ a′ : A} {i : ℕ} {ended : Bool} → Reads Takes m k a i k₁ a₁ → length k₁ ≤ m → Closes Takes k₁ a₁ ended a′
-      → Ran Takes m k a i ended a′
+      → ProgramRan Takes m k a i ended a′
   ran {k₁ = k₁} {a₁ = a₁} R h c = record { kept = k₁; short = h; between = a₁; reads = R; closes = c }
 
   -- where a run has read its input to the end, it has taken each line of it, as its first m bytes
-  pub ran-all : {m n : ℕ} {a a′ : A} → 0 < m → Ran Takes m [] a n true a′
+  pub ran-all : {m n : ℕ} {a a′ : A} → 0 < m → ProgramRan Takes m [] a n true a′
       → (cs : List (List ℕ)) × (length (joined cs) ≡ n) × Along Takes (firsts m (linesOf (joined cs))) a a′
   ran-all {m} {a = a} {a′ = a′} some R =
       let cs = R .reads .chunks in

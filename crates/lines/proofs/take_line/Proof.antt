@@ -1,4 +1,4 @@
--- `take_line` meets its claim: every turn takes one byte (`so-more`), and what is taken so far is a part of the line (`So`), to its
+-- `take_line` meets its claim: every step takes one byte (`so-more`), and what is taken so far is a part of the line (`So`), to its
 -- newline (`to-newline`) or to the end of the chunk (`to-end`).
 use borrow.Author.Needs.{needs}
 use mathlib.Core.Path.{_≡_}
@@ -7,7 +7,7 @@ use mathlib.Core.Bool.{true, false, true≢false, false≢true}
 use native.Mathlib.Omega.{arith}
 use Prim.Native.Nat.{_-_}
 use lib.ListN.{length, getD}
-use Rattle.lines.proofs.laws.Parts.{So, Keeps, so-none, so-more, byte-kept, byte-lost, to-newline, to-end}
+use Rattle.lines.proofs.laws.Parts.{So, KeepsByte, so-none, so-more, byte-kept, byte-lost, to-newline, to-end}
 use Rattle.lines.proofs.take_line.Statement.{statement}
 use Rattle.lines.proofs.take_line.Tie as tie
 
@@ -66,7 +66,7 @@ loop-again c =
     let args = at-loop .before .before .before .before .args in
     let b = getD (args .got .now) (at-loop .loop .i) 0 in
     let m = length (args .line .now) in
-    let K : Keeps m line k b (c .if2 .line) (c .if2 .k) =
+    let K : KeepsByte m line k b (c .if2 .line) (c .if2 .k) =
     ⊎-elim (λ t. byte-kept line k b (S .size) (t .0 .taken) (t .1) (t .2))
     (λ t. byte-lost line k b (S .size) (t .0 .left) (S .fits) (t .1) (t .2))
     (c .if2 .came)

@@ -16,17 +16,17 @@ chosen c = c .before .before .before
 abbrev linked : tie.After-choose3 → tie.After-put
 linked c = c .before .before .before .before
 
-mul-before : tie.Need-mul-before
-mul-before c = search needs
+mul-prev : tie.Need-mul-prev
+mul-prev c = search needs
 
-slice-read-before : tie.Need-slice-read-before
-slice-read-before c = search needs
+slice-read-prev : tie.Need-slice-read-prev
+slice-read-prev c = search needs
 
-mul-after : tie.Need-mul-after
-mul-after c = search needs
+mul-next : tie.Need-mul-next
+mul-next c = search needs
 
-slice-read-after : tie.Need-slice-read-after
-slice-read-after c = search needs
+slice-read-next : tie.Need-slice-read-next
+slice-read-next c = search needs
 
 choose-requires : tie.Need-choose-requires
 choose-requires c κs = search needs
@@ -35,7 +35,7 @@ choose-requires-2 : tie.Need-choose-requires-2
 choose-requires-2 c κs = search needs
 
 put-requires : tie.Need-put-requires
-put-requires c κs = rw (c .choose2 .ensures) (start (c .before .before) .pre .before)
+put-requires c κs = rw (c .choose2 .ensures) (start (c .before .before) .pre .link)
 
 choose-requires-3 : tie.Need-choose-requires-3
 choose-requires-3 c κs = search needs
@@ -86,10 +86,10 @@ pub cut-spec : {M : Type 1} → statement M
 cut-spec =
     tie.close
     (tie.spec
-    mul-before
-    slice-read-before
-    mul-after
-    slice-read-after
+    mul-prev
+    slice-read-prev
+    mul-next
+    slice-read-next
     choose-requires
     choose-requires-2
     put-requires

@@ -6,7 +6,7 @@ use Prim.Native.Nat.{ℕ}
 use lib.ListN.{set}
 use lib.Dec.{eqb}
 use Rattle.links.specs.Lists.{nobody}
-use Rattle.links.specs.Family.{tailOr, headLeft, linkBefore, linkAfter}
+use Rattle.links.specs.Family.{tailOr, headLeft, linkPast, backPast}
 use Rattle.links.specs.Links.{Links, links, at, setN, between, joined, added, cutOut, Inside, CanCut}
 
 -- two are equal by their parts
@@ -31,15 +31,15 @@ unfolding added
 add-is s p i h last e f g k = links-eq (f ∙ ap (λ v. setN (s .nexts) v i) e) g k
 
 -- whose back link follows, as the code finds it by the new head
-after-is : (s : Links) (i h : ℕ) {head a : ℕ} → head ≡ headLeft (at (s .nexts)) i h
-    → a ≡ cond (eqb (at (s .nexts) i) nobody) head (at (s .nexts) i) → a ≡ linkAfter (at (s .nexts)) i h
-after-is s i h e f = f ∙ ap (λ v. cond (eqb (at (s .nexts) i) nobody) v (at (s .nexts) i)) e
+back-is : (s : Links) (i h : ℕ) {head a : ℕ} → head ≡ headLeft (at (s .nexts)) i h
+    → a ≡ cond (eqb (at (s .nexts) i) nobody) head (at (s .nexts) i) → a ≡ backPast (at (s .nexts)) i h
+back-is s i h e f = f ∙ ap (λ v. cond (eqb (at (s .nexts) i) nobody) v (at (s .nexts) i)) e
 
 pub cut-asks : {s : Links} {i h : ℕ} → CanCut s i h → {head a : ℕ} → head ≡ headLeft (at (s .nexts)) i h
     → a ≡ cond (eqb (at (s .nexts) i) nobody) head (at (s .nexts) i) → Inside a (s .prevs)
-cut-asks {s} {i} {h} C e f = rw (after-is s i h e f) (C .after)
+cut-asks {s} {i} {h} C e f = rw (back-is s i h e f) (C .back)
 
-pub cut-is : (s : Links) (i h : ℕ) {head b a : ℕ} {ns ps : List ℕ} → head ≡ headLeft (at (s .nexts)) i h → b ≡ linkBefore (at (s .prevs)) i h
+pub cut-is : (s : Links) (i h : ℕ) {head b a : ℕ} {ns ps : List ℕ} → head ≡ headLeft (at (s .nexts)) i h → b ≡ linkPast (at (s .prevs)) i h
     → a ≡ cond (eqb (at (s .nexts) i) nobody) head (at (s .nexts) i)
     → ns ≡ setN (s .nexts) b (at (s .nexts) i) → ps ≡ setN (s .prevs) a (at (s .prevs) i)
     → links (set ns i nobody) (set ps i nobody) (set (s .marks) i nobody) ≡ cutOut s i h
@@ -47,5 +47,5 @@ unfolding cutOut
 cut-is s i h e f g k m =
     links-eq
     (ap (λ (l : List ℕ). set l i nobody) (k ∙ ap (λ v. setN (s .nexts) v (at (s .nexts) i)) f))
-    (ap (λ (l : List ℕ). set l i nobody) (m ∙ ap (λ v. setN (s .prevs) v (at (s .prevs) i)) (after-is s i h e g)))
+    (ap (λ (l : List ℕ). set l i nobody) (m ∙ ap (λ v. setN (s .prevs) v (at (s .prevs) i)) (back-is s i h e g)))
     refl

@@ -8,7 +8,7 @@ use Rattle.links.specs.Lists.{nobody, Mem, firstD, lastD, without, chang
 use Rattle.links.proofs.laws.Lists.{Nodup, without-split, mem-left, mem-right, mem-app, mem-split, mem-cast, mem-last, first-not, last-not, nodup-left, nodup-right, nodup-apart}
 use Rattle.links.specs.Segments.{Seg}
 use Rattle.links.proofs.laws.Segments.{seg-left, seg-right, seg-join, seg-start, seg-end}
-use Rattle.links.specs.Family.{Net, Member, Fam, headLeft, linkBefore, linkAfter}
+use Rattle.links.specs.Family.{Net, Member, Fam, headLeft, linkPast, backPast}
 use Rattle.links.proofs.laws.Family.{Upd, Put, fam-some, fam-nodup, fam-apart, fam-marked}
 use Rattle.links.proofs.laws.Change.{fam-change}
 
@@ -16,10 +16,10 @@ use Rattle.links.proofs.laws.Change.{fam-change}
 pub record Unlinked (s : Net) (i : ℕ) (t : Net) : Type 0 where
   pub head : Upd (s .hd) (s .mk i) (headLeft (s .nx) i (s .hd (s .mk i))) (t .hd)
   pub nx₁ : ℕ → ℕ
-  pub next : Put (s .nx) (linkBefore (s .pv) i (s .hd (s .mk i))) (s .nx i) nx₁
+  pub next : Put (s .nx) (linkPast (s .pv) i (s .hd (s .mk i))) (s .nx i) nx₁
   pub next-own : Upd nx₁ i nobody (t .nx)
   pub pv₁ : ℕ → ℕ
-  pub prev : Put (s .pv) (linkAfter (s .nx) i (s .hd (s .mk i))) (s .pv i) pv₁
+  pub prev : Put (s .pv) (backPast (s .nx) i (s .hd (s .mk i))) (s .pv i) pv₁
   pub prev-own : Upd pv₁ i nobody (t .pv)
   pub mark : Upd (s .mk) i nobody (t .mk)
 
@@ -85,30 +85,30 @@ module _ {P n : ℕ} {s : Net} {L : ℕ → List ℕ} (F : Fam P n s L) (i : ℕ
       rw (ne-eqb i (s .hd (s .mk i)) (λ k. not-left x m (sym (k ∙ h)))) h
 
   -- who gets a new link: the last of a, and the one that follows i in the ring
-  before-is : (a₁ : List ℕ) → a₁ ≡ a → linkBefore (s .pv) i (s .hd (s .mk i)) ≡ lastD nobody a₁
-  before-is [] e = rw (eq-eqb i (s .hd (s .mk i)) (sym (head-was [] e)))
-  before-is (x ∷ l) e =
+  link-is : (a₁ : List ℕ) → a₁ ≡ a → linkPast (s .pv) i (s .hd (s .mk i)) ≡ lastD nobody a₁
+  link-is [] e = rw (eq-eqb i (s .hd (s .mk i)) (sym (head-was [] e)))
+  link-is (x ∷ l) e =
       let h = head-was (x ∷ l) e in
       let m : Mem x a = subst (λ (z : List ℕ). Mem x z) e (inl refl) in
       rw (ne-eqb i (s .hd (s .mk i)) (λ k. not-left x m (sym (k ∙ h)))) (seg-i .0 ∙ ap (lastD old) (sym e))
 
-  after-is : (b₁ : List ℕ) → b₁ ≡ b → linkAfter (s .nx) i (s .hd (s .mk i)) ≡ firstD (firstD nobody a) b₁
-  after-is [] e =
+  back-is : (b₁ : List ℕ) → b₁ ≡ b → backPast (s .nx) i (s .hd (s .mk i)) ≡ firstD (firstD nobody a) b₁
+  back-is [] e =
       rw (eq-eqb (s .nx i) nobody (seg-i .1 ∙ ap (firstD nobody) (sym e)))
       (new-head a refl ∙ ap (λ (z : List ℕ). firstD nobody (a ++ z)) (sym e) ∙ first-app a)
-  after-is (y ∷ m) e =
+  back-is (y ∷ m) e =
       let f : s .nx i ≡ y = seg-i .1 ∙ ap (firstD nobody) (sym e) in
       rw (ne-eqb (s .nx i) nobody (λ k. some-right y (subst (Mem y) e (inl refl)) (sym f ∙ k))) f
 
   keeps-nx : (y : ℕ) → y ≢ i → y ≢ lastD nobody a → t .nx y ≡ s .nx y
-  keeps-nx y d h = D .next-own .other y d ∙ D .next .other y (λ k. h (k ∙ before-is a refl))
+  keeps-nx y d h = D .next-own .other y d ∙ D .next .other y (λ k. h (k ∙ link-is a refl))
 
   keeps-pv : (y : ℕ) → y ≢ i → y ≢ firstD (firstD nobody a) b → t .pv y ≡ s .pv y
-  keeps-pv y d h = D .prev-own .other y d ∙ D .prev .other y (λ k. h (k ∙ after-is b refl))
+  keeps-pv y d h = D .prev-own .other y d ∙ D .prev .other y (λ k. h (k ∙ back-is b refl))
 
   after-pv : (y : ℕ) → y ≢ i → y ≢ nobody → y ≡ firstD (firstD nobody a) b → t .pv y ≡ lastD old a
   after-pv y d h e =
-      let f = after-is b refl in
+      let f = back-is b refl in
       D .prev-own .other y d ∙ ap (D .pv₁) (e ∙ sym f) ∙ D .prev .same (λ k. h (e ∙ sym f ∙ k)) ∙ seg-i .0
 
   -- whoever is not in the list that i leaves keeps both links
@@ -147,8 +147,8 @@ module _ {P n : ℕ} {s : Net} {L : ℕ → List ℕ} (F : Fam P n s L) (i : ℕ
       (λ y m k. keeps-nx y (not-left y (mm y m)) (λ j. k (j ∙ sym la)))
       (λ y m. refl)
       (D .next-own .other (lastD x l) (not-left (lastD x l) ml)
-      ∙ ap (D .nx₁) (la ∙ sym (before-is a refl))
-      ∙ D .next .same (λ j. some-left (lastD x l) ml (la ∙ sym (before-is a refl) ∙ j))
+      ∙ ap (D .nx₁) (la ∙ sym (link-is a refl))
+      ∙ D .next .same (λ j. some-left (lastD x l) ml (la ∙ sym (link-is a refl) ∙ j))
       ∙ seg-i .1)
       (subst (λ (z : List ℕ). Seg (s .nx) (s .pv) old z i) (sym e) (seg-left (s .nx) (s .pv) old nobody a (i ∷ b) seg)))
 

@@ -13,7 +13,7 @@ use borrow.Author.Tests.{eq-eqb, ne-eqb}
 use Rattle.links.specs.Lists.{nobody, Mem, lastD, without, change}
 use Rattle.links.proofs.laws.Lists.{mem-first}
 use Rattle.links.proofs.laws.Segments.{seg-next}
-use Rattle.links.specs.Family.{Fam, tailOr, linkBefore, linkAfter}
+use Rattle.links.specs.Family.{Fam, tailOr, linkPast, backPast}
 use Rattle.links.proofs.laws.Family.{Upd, Put, fam-loose, fam-bare, fam-marked, fam-before}
 use Rattle.links.proofs.laws.Insert.{Between, fam-push, fam-add}
 use Rattle.links.proofs.laws.Remove.{fam-unlink}
@@ -184,15 +184,15 @@ module _ {P n : ℕ} {hd : ℕ → ℕ} {s : Links} (W : Whole P n hd s) where
     next-below : at (s .nexts) i ≢ nobody → at (s .nexts) i < n
     next-below = neighbour (at (s .nexts) i) (seg-next (at (s .nexts)) (at (s .prevs)) (lastD nobody (L here)) nobody (L here) (W .fam .segs here) i mine)
 
-    before-below : linkBefore (at (s .prevs)) i (hd here) ≢ nobody → linkBefore (at (s .prevs)) i (hd here) < n
-    before-below =
+    link-below : linkPast (at (s .prevs)) i (hd here) ≢ nobody → linkPast (at (s .prevs)) i (hd here) < n
+    link-below =
         by-cases (ℕ-discrete i (hd here))
         (λ e. rw (eq-eqb i (hd here) e) (λ h. absurd (h refl)))
         (λ d. rw (ne-eqb i (hd here) d) (λ h. W .fam .mems here (at (s .prevs) i) (fam-before (W .fam) here i mine) .below))
 
-    after-below : linkAfter (at (s .nexts)) i (hd here) ≢ nobody → linkAfter (at (s .nexts)) i (hd here) < n
+    back-below : backPast (at (s .nexts)) i (hd here) ≢ nobody → backPast (at (s .nexts)) i (hd here) < n
     unfolding headAfter
-    after-below =
+    back-below =
         by-cases (ℕ-discrete (at (s .nexts) i) nobody)
         (λ e.
         by-cases (ℕ-discrete i (hd here))
@@ -206,15 +206,15 @@ module _ {P n : ℕ} {hd : ℕ → ℕ} {s : Links} (W : Whole P n hd s) where
           next = omega arith;
           prev = omega arith;
           mark = omega arith;
-          before = λ h. omega (arith, before-below h);
-          after = λ h. omega (arith, after-below h);
+          link = λ h. omega (arith, link-below h);
+          back = λ h. omega (arith, back-below h);
         }
 
-    next-kept : Kept n (s .nexts) (setN (s .nexts) (linkBefore (at (s .prevs)) i (hd here)) (at (s .nexts) i))
-    next-kept = kept-setN n (s .nexts) (linkBefore (at (s .prevs)) i (hd here)) (at (s .nexts) i) before-below
+    next-kept : Kept n (s .nexts) (setN (s .nexts) (linkPast (at (s .prevs)) i (hd here)) (at (s .nexts) i))
+    next-kept = kept-setN n (s .nexts) (linkPast (at (s .prevs)) i (hd here)) (at (s .nexts) i) link-below
 
-    prev-kept : Kept n (s .prevs) (setN (s .prevs) (linkAfter (at (s .nexts)) i (hd here)) (at (s .prevs) i))
-    prev-kept = kept-setN n (s .prevs) (linkAfter (at (s .nexts)) i (hd here)) (at (s .prevs) i) after-below
+    prev-kept : Kept n (s .prevs) (setN (s .prevs) (backPast (at (s .nexts)) i (hd here)) (at (s .prevs) i))
+    prev-kept = kept-setN n (s .prevs) (backPast (at (s .nexts)) i (hd here)) (at (s .prevs) i) back-below
 
     cut-kept : LinksKept n s (cutOut s i (hd here))
     unfolding cutOut
@@ -231,8 +231,8 @@ module _ {P n : ℕ} {hd : ℕ → ℕ} {s : Links} (W : Whole P n hd s) where
     unfolding cutOut headAfter
     cut-law H =
         let C = can-cut in
-        let ns = setN (s .nexts) (linkBefore (at (s .prevs)) i (hd here)) (at (s .nexts) i) in
-        let ps = setN (s .prevs) (linkAfter (at (s .nexts)) i (hd here)) (at (s .prevs) i) in
+        let ns = setN (s .nexts) (linkPast (at (s .prevs)) i (hd here)) (at (s .nexts) i) in
+        let ps = setN (s .prevs) (backPast (at (s .nexts)) i (hd here)) (at (s .prevs) i) in
         let kn = next-kept in
         let kp = prev-kept in
         changed (W .room) cut-kept
@@ -240,10 +240,10 @@ module _ {P n : ℕ} {hd : ℕ → ℕ} {s : Links} (W : Whole P n hd s) where
         (record {
           head = H;
           nx₁ = at ns;
-          next = put-setN (s .nexts) (linkBefore (at (s .prevs)) i (hd here)) (at (s .nexts) i) (C .before);
+          next = put-setN (s .nexts) (linkPast (at (s .prevs)) i (hd here)) (at (s .nexts) i) (C .link);
           next-own = upd-set ns i nobody (omega arith);
           pv₁ = at ps;
-          prev = put-setN (s .prevs) (linkAfter (at (s .nexts)) i (hd here)) (at (s .prevs) i) (C .after);
+          prev = put-setN (s .prevs) (backPast (at (s .nexts)) i (hd here)) (at (s .prevs) i) (C .back);
           prev-own = upd-set ps i nobody (omega arith);
           mark = upd-set (s .marks) i nobody (C .mark);
         })

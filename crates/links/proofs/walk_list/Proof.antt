@@ -17,8 +17,8 @@ Inv-loop nexts prevs marks n place head room tail left₀ prev₀ item₀ left p
 abbrev μ-loop : tie.MeasureT-loop
 μ-loop nexts prevs marks n place head room tail left₀ prev₀ item₀ left prev item = left
 
-abbrev turn : tie.After-shared-slice-known2 Inv-loop μ-loop → tie.In-loop Inv-loop μ-loop
-turn c = c .before .before .before
+abbrev step : tie.After-shared-slice-known2 Inv-loop μ-loop → tie.In-loop Inv-loop μ-loop
+step c = c .before .before .before
 
 returns : tie.Need-returns Inv-loop μ-loop
 returns c = sym (scan-end _ _ _ _ _ _ _ _ _ (c .if1 .taken) refl)
@@ -53,7 +53,7 @@ shared-slice-read-if5 c = search needs
 
 returns-5 : tie.Need-returns-5 Inv-loop μ-loop
 returns-5 c =
-    let in-loop = turn (c .before) in
+    let in-loop = step (c .before) in
     sym (scan-mark _ _ _ _ _ _ _ _ _ (in-loop .loop-test .taken) (c .if5 .taken)) ∙ in-loop .before .loop .inv .1
 
 mul-if6 : tie.Need-mul-if6 Inv-loop μ-loop
@@ -64,7 +64,7 @@ shared-slice-read-if6 c = search needs
 
 returns-6 : tie.Need-returns-6 Inv-loop μ-loop
 returns-6 c =
-    let in-loop = turn (c .before .before .before) in
+    let in-loop = step (c .before .before .before) in
     sym (scan-prev _ _ _ _ _ _ _ _ _ (in-loop .loop-test .taken) (c .if6 .taken)) ∙ in-loop .before .loop .inv .1
 
 sub-left : tie.Need-sub-left Inv-loop μ-loop
@@ -81,7 +81,7 @@ loop-less c = search needs
 
 loop-again : tie.Need-loop-again Inv-loop μ-loop
 loop-again c =
-    let in-loop = turn (c .before .before .before .before) in
+    let in-loop = step (c .before .before .before .before) in
     let at-loop = in-loop .before in (
       omega (arith, c .shared-slice-known4 .given (at-loop .loop .item)),
       sym (scan-go _ _ _ _ _ _ _ _ _ (in-loop .loop-test .taken) (omega arith) (omega arith) (c .before .before .before .if5 .left) (c .before .if6 .left))

@@ -1,4 +1,4 @@
--- `free` meets its contract: every turn passes one record.
+-- `free` meets its contract: every step passes one record.
 use borrow.Author.Needs.{needs}
 use mathlib.Core.Path.{_≡_}
 use Prim.Native.Nat.{_≤_}

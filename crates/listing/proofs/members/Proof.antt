@@ -1,4 +1,4 @@
--- `members` meets its contract: every turn writes one record.
+-- `members` meets its contract: every step writes one record.
 use borrow.Author.Needs.{needs}
 use mathlib.Core.Path.{_≡_}
 use Prim.Native.Nat.{_≤_}

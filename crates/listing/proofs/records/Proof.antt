@@ -1,4 +1,4 @@
--- `records` meets its contract: every turn passes one record.
+-- `records` meets its contract: every step passes one record.
 use borrow.Author.Needs.{needs}
 use mathlib.Core.Path.{_≡_}
 use Prim.Native.Nat.{_≤_, _<_, _-_}

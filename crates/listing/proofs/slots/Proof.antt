@@ -1,9 +1,9 @@
--- `slots` meets its contract: every turn passes one slot.
+-- `slots` meets its contract: every step passes one slot.
 use borrow.Author.Needs.{needs}
 use mathlib.Core.Path.{_≡_}
 use Prim.Native.Nat.{_≤_, _-_}
 use lib.ListN.{length}
-use Rattle.stack.specs.Places.{slots}
+use Rattle.places.specs.Places.{slots}
 use Rattle.listing.proofs.slots.Statement.{statement}
 use Rattle.listing.proofs.slots.Tie as tie
 

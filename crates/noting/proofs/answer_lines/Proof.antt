@@ -1,4 +1,4 @@
--- `answer_lines` meets its claim: what comes of where it stands comes of where it began (`Reaches`), a turn more does not change that
+-- `answer_lines` meets its claim: what comes of where it stands comes of where it began (`Reaches`), a line more does not change that
 -- (`reaches-more`), and it stops where it does not go on.
 use mathlib.Core.Path.{_≡_, refl, _∙_}
 use Prim.Native.Nat.{_-_}
@@ -7,7 +7,7 @@ use lib.ListN.{length}
 use Rattle.records.specs.Words.{words}
 use Rattle.noting.specs.Line.{desk}
 use Rattle.noting.specs.Feed.{stand, stops}
-use Rattle.noting.proofs.laws.Turns.{Reaches, reaches-none, reaches-more, turn-forth}
+use Rattle.noting.proofs.laws.NextLines.{Reaches, reaches-none, reaches-more, next-forth}
 use borrow.Author.Needs.{needs}
 use Rattle.noting.proofs.answer_lines.Statement.{statement}
 use Rattle.noting.proofs.answer_lines.Tie as tie
@@ -16,8 +16,8 @@ abbrev Inv-loop : tie.InvT-loop
 Inv-loop got from line₀ n patch values₀ deadlines₀ nexts₀ prevs₀ turns₀ marks₀ notes₀ out₀ i₀ k₀ p₀ noted₀ end₀ after₀ left₀ line values
     deadlines nexts prevs turns marks notes out i k p noted end after left =
     Reaches got
-    (stand from line₀ n (desk p₀ (words after₀ (left₀ .rows) values₀ deadlines₀ nexts₀ prevs₀ turns₀ marks₀) notes₀ 0 out₀ 0))
-    (stand i line k (desk p (words after (left .rows) values deadlines nexts prevs turns marks) notes noted out end))
+    (stand from line₀ n (desk p₀ (words after₀ (left₀ .heads) values₀ deadlines₀ nexts₀ prevs₀ turns₀ marks₀) notes₀ 0 out₀ 0))
+    (stand i line k (desk p (words after (left .heads) values deadlines nexts prevs turns marks) notes noted out end))
     × (length line ≡ length line₀)
     × (length values ≡ length values₀)
     × (length deadlines ≡ length deadlines₀)
@@ -33,21 +33,21 @@ abbrev μ-loop : tie.MeasureT-loop
     deadlines nexts prevs turns marks notes out i k p noted end after left =
     length got - i
 
-abbrev to-turn : tie.After-left Inv-loop μ-loop → tie.After-turn Inv-loop μ-loop
-to-turn c =
+abbrev to-next-line : tie.After-left Inv-loop μ-loop → tie.After-next-line Inv-loop μ-loop
+to-next-line c =
     let a = c .before .before .before .before in
     let b = a .before .before .before .before in
     let d = b .before .before .before .before in
     let e = d .before .before .before .before in
     e .before .before .before .before
 
-abbrev to-then : tie.After-turn Inv-loop μ-loop → tie.Then1 Inv-loop μ-loop
+abbrev to-then : tie.After-next-line Inv-loop μ-loop → tie.Then1 Inv-loop μ-loop
 to-then c =
     let a = c .before .before .before .before in
     let b = a .before .before .before .before in
     b .before .before
 
-abbrev arg-then : tie.After-turn-arg9 Inv-loop μ-loop → tie.Then1 Inv-loop μ-loop
+abbrev arg-then : tie.After-next-line-arg9 Inv-loop μ-loop → tie.Then1 Inv-loop μ-loop
 arg-then c =
     let a = c .before .before .before .before in
     let b = a .before .before .before .before in
@@ -59,24 +59,24 @@ loop-holds c = (reaches-none, refl, refl, refl, refl, refl, refl, refl, refl, re
 goes-requires : tie.Need-goes-requires Inv-loop μ-loop
 goes-requires c κs = search needs
 
-turn-requires : tie.Need-turn-requires Inv-loop μ-loop
-turn-requires c κs = let t = arg-then c in t .before .goes .ensures .yes (t .if1 .taken) .1 .0
+next-line-requires : tie.Need-next-line-requires Inv-loop μ-loop
+next-line-requires c κs = let t = arg-then c in t .before .goes .ensures .yes (t .if1 .taken) .1 .0
 
 loop-less : tie.Need-loop-less Inv-loop μ-loop
 loop-less c =
-    let at-turn = to-turn c in
-    let at-then = to-then at-turn in
+    let at-next-line = to-next-line c in
+    let at-then = to-then at-next-line in
     let g = at-then .before .goes .ensures .yes (at-then .if1 .taken) in
-    omega (arith, g .0, turn-forth (g .0) (at-turn .turn .ensures))
+    omega (arith, g .0, next-forth (g .0) (at-next-line .next-line .ensures))
 
 loop-again : tie.Need-loop-again Inv-loop μ-loop
 loop-again c =
-    let at-turn = to-turn c in
-    let at-then = to-then at-turn in
+    let at-next-line = to-next-line c in
+    let at-then = to-then at-next-line in
     let I = at-then .before .before .loop .inv in
-    let lengths = at-turn .turn .kept in
+    let lengths = at-next-line .next-line .kept in
     let six = lengths .1 .1 .1 .1 .1 .1 .1 in (
-      reaches-more (I .0) (at-then .before .goes .ensures .yes (at-then .if1 .taken)) (at-turn .turn .ensures),
+      reaches-more (I .0) (at-then .before .goes .ensures .yes (at-then .if1 .taken)) (at-next-line .next-line .ensures),
       lengths .1 .1 .0 ∙ I .1,
       six .0 ∙ I .2,
       six .1 .0 ∙ I .3,
@@ -126,7 +126,7 @@ answer-lines-spec =
     μ-loop
     loop-holds
     goes-requires
-    turn-requires
+    next-line-requires
     loop-less
     loop-again
     same-length

@@ -38,19 +38,19 @@ to-push c =
 abbrev to-write : tie.After-slice-known16 → tie.After-write-answer
 to-write c = c .before .before
 
-abbrev to-rows : tie.After-act → tie.After-rows-of
-to-rows c =
+abbrev to-grid : tie.After-act → tie.After-heads-in
+to-grid c =
     let a = c .before .before .before .before in
     a .before .before .before
 
-abbrev to-start : tie.After-rows-of → tie.Start
+abbrev to-start : tie.After-heads-in → tie.Start
 to-start c =
     let a = c .before .before .before .before in
     let b = a .before .before .before .before in
     b .before
 
-rows-of-requires : tie.Need-rows-of-requires
-rows-of-requires c κs = search needs
+heads-in-requires : tie.Need-heads-in-requires
+heads-in-requires c κs = search needs
 
 act-requires : tie.Need-act-requires
 act-requires c κs = search needs
@@ -65,7 +65,7 @@ push-requires : tie.Need-push-requires
 push-requires c κs =
     let at-act = bytes-act c in
     let z = act-size (at-act .act .ensures) in
-    simp length-take (omega (arith, z .0, z .1, to-start (to-rows at-act) .pre))
+    simp length-take (omega (arith, z .0, z .1, to-start (to-grid at-act) .pre))
 
 write-answer-requires : tie.Need-write-answer-requires
 write-answer-requires c κs = search needs
@@ -97,13 +97,13 @@ same-length-8 c = search needs
 returns : tie.Need-returns
 returns c =
     let at-act = to-act c in
-    step-done _ _ _ _ _ _ _ (to-rows at-act .rows-of .ensures) (at-act .act .ensures) (to-push c .push .ensures) (to-write c .write-answer .ensures)
+    step-done _ _ _ _ _ _ _ (to-grid at-act .heads-in .ensures) (at-act .act .ensures) (to-push c .push .ensures) (to-write c .write-answer .ensures)
 
 pub do-step-spec : {M : Type 1} → statement M
 do-step-spec =
     tie.close
     (tie.spec
-    rows-of-requires
+    heads-in-requires
     act-requires
     array-share-prefix-bytes
     slice-aggregate-push

@@ -65,7 +65,7 @@ act-size {x = x} {y} A = (omega (arith, A .writes .end, written-size x (told y))
 
 -- ---- for the code
 
--- a step was done; the heads came as their rows
+-- a step was done; the heads came as an array
 pub step-done : {x : Step} {p : Bool} (w : Wheel) {hh hh′ : List (List ℕ)} (vs ds ns ps ts ms : List ℕ) {p′ : Bool} {s′ : QueueWords} {y : Answer} {size : ℕ}
     {b n : List ℕ} {k : ℕ} {o : List ℕ} {at : ℕ} {n′ : List ℕ} {k′ : ℕ} {o′ : List ℕ} {e : ℕ} → hh ≡ hh′
     → ActClaim p (words w hh vs ds ns ps ts ms) x y p′ s′ size b → Wrote n k (take size b) k′ n′ → WriteClaim y o at e o′

@@ -16,7 +16,7 @@ use Rattle.entries.specs.declared.Step.{Step}
 use Rattle.journal.specs.Journal.{written}
 use Rattle.journal.proofs.laws.Once.{acts-once}
 use Rattle.noting.specs.Line.{Desk, desk, Does, does, LineClaim, step, bad, NoteClaim, done, full, LastClaim, none, some}
-use Rattle.noting.specs.Feed.{Stand, stand, Turn, answered, goes-on, FeedClaim, stops, turns}
+use Rattle.noting.specs.Feed.{Stand, stand, NextLine, answered, goes-on, FeedClaim, stops, lines-on}
 use Rattle.noting.proofs.laws.Means.{one-step}
 
 -- ---- a line
@@ -64,18 +64,18 @@ last-once (some h A) (some k B) = note-once A B
 same-stand : {i j k l : ℕ} {p q : List ℕ} {d e : Desk} → i ≡ j → p ≡ q → k ≡ l → d ≡ e → stand i p k d ≡ stand j q l e
 same-stand a b c d = λ i. stand (a i) (b i) (c i) (d i)
 
-turn-once : {got : List ℕ} {a b c : Stand} → Turn got a b → Turn got a c → b ≡ c
-turn-once {a = a} (answered {d = d} T C) (answered {k = k} {l = l} U D) =
+next-once : {got : List ℕ} {a b c : Stand} → NextLine got a b → NextLine got a c → b ≡ c
+next-once {a = a} (answered {d = d} T C) (answered {k = k} {l = l} U D) =
     let t = take-once true true T U in
     let line = ap₂ (λ (x : ℕ) (y : List ℕ). take x y) (t .1) (t .3) in
     let E : LineClaim (take k l) (a .desk) d = subst (λ (x : List ℕ). LineClaim x (a .desk) d) line C in
     same-stand (t .0) (t .3) refl (line-once E D)
-turn-once (answered T C) (goes-on U) = absurd (true≢false (take-once true false T U .2))
-turn-once (goes-on T) (answered U C) = absurd (false≢true (take-once false true T U .2))
-turn-once (goes-on T) (goes-on U) = let t = take-once false false T U in same-stand (t .0) (t .3) (t .1) refl
+next-once (answered T C) (goes-on U) = absurd (true≢false (take-once true false T U .2))
+next-once (goes-on T) (answered U C) = absurd (false≢true (take-once false true T U .2))
+next-once (goes-on T) (goes-on U) = let t = take-once false false T U in same-stand (t .0) (t .3) (t .1) refl
 
 pub feed-once : {got : List ℕ} {a b c : Stand} → FeedClaim got a b → FeedClaim got a c → b ≡ c
 feed-once (stops h) (stops k) = refl
-feed-once (stops h) (turns g t f) = absurd (h g)
-feed-once (turns g t f) (stops h) = absurd (h g)
-feed-once {got} {c = c} (turns g t f) (turns k u e) = feed-once f (subst (λ (x : Stand). FeedClaim got x c) (sym (turn-once t u)) e)
+feed-once (stops h) (lines-on g t f) = absurd (h g)
+feed-once (lines-on g t f) (stops h) = absurd (h g)
+feed-once {got} {c = c} (lines-on g t f) (lines-on k u e) = feed-once f (subst (λ (x : Stand). FeedClaim got x c) (sym (next-once t u)) e)

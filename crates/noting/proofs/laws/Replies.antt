@@ -16,9 +16,9 @@ use Rattle.entries.specs.declared.Step.{Step}
 use Rattle.journal.specs.Journal.{Acts, written, Noted, Journals, rest, next}
 use Rattle.journal.proofs.laws.Once.{acts-once}
 use Rattle.noting.specs.Means.{Meant, none as nothing-meant, step as also-step, passed}
-use Rattle.noting.specs.Line.{Desk, Room, does, LineClaim, step as did, bad as was-bad}
-use Rattle.noting.specs.Feed.{Stand, Turn, answered, goes-on, FeedClaim, stops, turns}
-use Rattle.noting.specs.Replies.{Held, held, Reply, step, bad, Replies, none, reply}
+use Rattle.noting.specs.Line.{Desk, DeskRoom, does, LineClaim, step as did, bad as was-bad}
+use Rattle.noting.specs.Feed.{Stand, NextLine, answered, goes-on, FeedClaim, stops, lines-on}
+use Rattle.noting.specs.Replies.{Held, held, ReplyTo, step, bad, Replies, none, reply}
 use Rattle.noting.proofs.laws.Means.{one-step, step-fits, first-means, first-bad}
 
 -- ---- lines behind lines
@@ -30,7 +30,7 @@ replies-more {ms = ms} {a = a} {c = c} {u = u} {k = k} (reply {l = l} {ls = ls} 
     subst (λ (y : List ℕ). Replies (l ∷ ls ++ ms) a y ((j ++ i) ++ k) c) (sym (append-assoc t v u))
     (subst (λ (y : List ℕ). Replies (l ∷ ls ++ ms) a (t ++ (v ++ u)) y c) (sym (append-assoc j i k)) (reply x (replies-more q r)))
 
-pub one-reply : {l : List ℕ} {a b : Held} {t j : List ℕ} → Reply l a t j b → Replies (l ∷ []) a t j b
+pub one-reply : {l : List ℕ} {a b : Held} {t j : List ℕ} → ReplyTo l a t j b → Replies (l ∷ []) a t j b
 one-reply {l} {a} {b} {t} {j} x =
     subst (λ (y : List ℕ). Replies (l ∷ []) a y j b) (append-nil t)
     (subst (λ (y : List ℕ). Replies (l ∷ []) a (t ++ []) y b) (append-nil j) (reply x none))
@@ -49,10 +49,10 @@ pub record Adds (a b : Desk) (t j : List ℕ) : Type 0 where
 pub record LineTells (l : List ℕ) (z : ℕ) (a b : Desk) : Type 0 where
   pub text : List ℕ
   pub bytes : List ℕ
-  pub reply : Reply l (heldAt z a) text bytes (heldAt (z + length bytes) b)
+  pub reply : ReplyTo l (heldAt z a) text bytes (heldAt (z + length bytes) b)
   pub adds : Adds a b text bytes
 
-pub line-tells : {l : List ℕ} {a b : Desk} (z : ℕ) → Room a → LineClaim l a b → LineTells l z a b
+pub line-tells : {l : List ℕ} {a b : Desk} (z : ℕ) → DeskRoom a → LineClaim l a b → LineTells l z a b
 line-tells {a = a} z r (did {x = x} m (does {y = y} A W C)) =
     let p = put-wrote C (some-bytes (C .written)) (at-most-114 y (C .written)) (r .1) in
     record {
@@ -67,7 +67,7 @@ line-tells {l} {a} z r (was-bad f C) =
     record {
       text = C .line;
       bytes = [];
-      reply = subst (λ (n : ℕ). Reply l (heldAt z a) (C .line) [] (heldAt n a)) e (bad f (C .written));
+      reply = subst (λ (n : ℕ). ReplyTo l (heldAt z a) (C .line) [] (heldAt n a)) e (bad f (C .written));
       adds = record {
         answers = p .whole ∙ ap (λ (t : List ℕ). take (a .at) (a .out) ++ t) (p .text);
         notes = sym (append-nil (take (a .noted) (a .notes)));
@@ -105,8 +105,8 @@ module _ {got : List ℕ} where
         };
       }
 
-  turn-answers : {a b : Stand} (z : ℕ) → 0 < length (a .line) → Room (a .desk) → Turn got a b → Answers (length (a .line)) z got a b
-  turn-answers z some r (answered {k = k} {l = l} T C) =
+  next-answers : {a b : Stand} (z : ℕ) → 0 < length (a .line) → DeskRoom (a .desk) → NextLine got a b → Answers (length (a .line)) z got a b
+  next-answers z some r (answered {k = k} {l = l} T C) =
       let x = line-tells z r C in
       record {
         lines = take k l ∷ [];
@@ -116,11 +116,11 @@ module _ {got : List ℕ} where
         replies = one-reply (x .reply);
         adds = x .adds;
       }
-  turn-answers z some r (goes-on T) = stays refl (passed-end some T)
+  next-answers z some r (goes-on T) = stays refl (passed-end some T)
 
-  turn-size : {a b : Stand} → Turn got a b → length (b .line) ≡ length (a .line)
-  turn-size (answered T C) = T .size
-  turn-size (goes-on T) = T .size
+  next-size : {a b : Stand} → NextLine got a b → length (b .line) ≡ length (a .line)
+  next-size (answered T C) = T .size
+  next-size (goes-on T) = T .size
 
   answers-more : {m z : ℕ} {a b c : Stand} (x : Answers m z got a b) → Answers m (z + length (x .bytes)) got b c → Answers m z got a c
   answers-more {m} {z} {a} {b} {c} x y =
@@ -145,9 +145,9 @@ module _ {got : List ℕ} where
   -- no line is passed over, and none is done twice
   pub feed-answers : {a b : Stand} (z : ℕ) → 0 < length (a .line) → FeedClaim got a b → Answers (length (a .line)) z got a b
   feed-answers z some (stops h) = stays refl passed-none
-  feed-answers {b = c} z some (turns {b = b} g t f) =
-      let x = turn-answers z some (g .1) t in
-      let e = turn-size t in
+  feed-answers {b = c} z some (lines-on {b = b} g t f) =
+      let x = next-answers z some (g .1) t in
+      let e = next-size t in
       let n = z + length (x .bytes) in
       answers-more x (subst (λ (m : ℕ). Answers m n got b c) e (feed-answers n (omega (arith, e)) f))
 
@@ -194,7 +194,7 @@ noted-journals (reply (bad f W) r) =
 
 -- ---- one outcome
 
-reply-once : {l : List ℕ} {a b c : Held} {t u j k : List ℕ} → Reply l a t j b → Reply l a u k c → (t ≡ u) × (j ≡ k) × (b ≡ c)
+reply-once : {l : List ℕ} {a b c : Held} {t u j k : List ℕ} → ReplyTo l a t j b → ReplyTo l a u k c → (t ≡ u) × (j ≡ k) × (b ≡ c)
 reply-once {a = a} {t = t} (step {x = x} {y = y} {p = p} {s = s} m A W) (step {x = x′} {y = z} {p = q} {s = r} n B W′) =
     let e : x′ ≡ x = one-step n m in
     let f = acts-once A (subst (λ (i : Step). Acts (a .patch) (a .store) i z q r) e B) in
@@ -215,7 +215,7 @@ replies-once {c = c} (reply {ls = ls} x q) (reply {u = u} {k = k} y r) =
 
 -- ---- 81 bytes are enough to see of a line
 
-first-81 : {l : List ℕ} {a b : Held} {t j : List ℕ} → Reply (take 81 l) a t j b → Reply l a t j b
+first-81 : {l : List ℕ} {a b : Held} {t j : List ℕ} → ReplyTo (take 81 l) a t j b → ReplyTo l a t j b
 first-81 (step m A W) = step (first-means m) A W
 first-81 (bad f W) = bad (first-bad f) W
 

@@ -9,12 +9,12 @@ use native.Mathlib.Omega.{arith}
 use native.Mathlib.Nat.{add-comm}
 use native.Mathlib.Decide.{ℕ-discrete}
 use Rattle.links.specs.Lists.{nobody, change}
-use Rattle.stack.specs.Places.{expired}
+use Rattle.places.specs.Places.{expired}
 use Rattle.wheel.specs.Wheel.{Lists}
 use Rattle.wheel.specs.Limited.{Outcome, ended as stopped, yet, Limited}
 use Rattle.wheel.specs.Midway.{InHand, Obeys}
-use Rattle.wheel.specs.Turns.{gotten}
-use Rattle.wheel.proofs.laws.Turns.{got-none, got-some}
+use Rattle.wheel.specs.Moves.{gotten}
+use Rattle.wheel.proofs.laws.Moves.{got-none, got-some}
 use Rattle.wheel.proofs.laws.Limited.{chained, limited-polls}
 use Rattle.wheel.proofs.laws.Single.{limited-once, fit}
 use Rattle.wheel.proofs.laws.Midway.{comes-hand, hand-goes}
@@ -159,7 +159,7 @@ yet-hand {d} {now} {hand} {b} {e} {p} {m} {n} {c} {L} {N} O s l r =
       from = e;
       lists = L;
       rule = O .free z;
-      stack = s;
+      expired = s;
       due = l z;
       limit = b;
       moves = m;

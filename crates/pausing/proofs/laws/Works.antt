@@ -9,13 +9,13 @@ use native.Mathlib.Omega.{arith}
 use native.Mathlib.Decide.{ℕ-discrete, decLt}
 use Rattle.links.specs.Lists.{nobody, Mem, change}
 use Rattle.links.proofs.laws.Lists.{change-other}
-use Rattle.stack.specs.Places.{slots, parking, expired, free, levelAt}
+use Rattle.places.specs.Places.{slots, parking, expired, free, levelAt}
 use Rattle.wheel.specs.Wheel.{Lists, Rule, arrive}
 use Rattle.wheel.specs.Sums.{sumOf, total}
 use Rattle.wheel.specs.Drain.{heights}
 use Rattle.wheel.specs.Poll.{Fair}
 use Rattle.wheel.specs.Limited.{Outcome, ended as stopped, yet, Limited, rests, waits, hands, finds, stops, moves, empties}
-use Rattle.wheel.specs.Turns.{gotten}
+use Rattle.wheel.specs.Moves.{gotten}
 use Rattle.wheel.proofs.laws.Sums.{total-less, total-ext}
 use Rattle.wheel.proofs.laws.Between.{rule-between}
 use Rattle.wheel.proofs.laws.Next.{list-some}
@@ -23,7 +23,7 @@ use Rattle.wheel.proofs.laws.Drain.{amount}
 use Rattle.wheel.proofs.laws.Poll.{Promise, poll-law}
 use Rattle.wheel.proofs.laws.Limited.{limited-polls}
 use Rattle.wheel.proofs.laws.Going.{hand-ends}
-use Rattle.wheel.proofs.laws.Turns.{got-none, got-some}
+use Rattle.wheel.proofs.laws.Moves.{got-none, got-some}
 use Rattle.wheel.proofs.laws.Passed.{givenBy, limited-passed}
 use Rattle.records.specs.View.{View}
 use Rattle.records.specs.Records.{At}
@@ -143,16 +143,16 @@ module _ {s : QueueWords} (S : Sound s) {now : ℕ} (K : PollTaken (view s) now)
   pub takes-some-works : {limit m n : ℕ} {o : Outcome} {u : View} → TakesSome v now limit o m n u → TakenSome v now o m n u
   unfolding heights
   takes-some-works (popped-some {r = r} {l = l} e) =
-      let rest : AtRest s = by-cases (ℕ-discrete (s .hand) nobody) (λ z. z) (λ d. absurd (nil≢cons (sym (S .rule .inside d .stack) ∙ e))) in
+      let rest : AtRest s = by-cases (ℕ-discrete (s .hand) nobody) (λ z. z) (λ d. absurd (nil≢cons (sym (S .rule .inside d .expired) ∙ e))) in
       let R : Rule (v .deadline) (v .elapsed) (v .lists) = S .rule .free rest in
       let m : Mem r (v .lists expired) = rw e (inl refl) in
-      let d : v .deadline r ≡ v .elapsed = R .stack r m in
+      let d : v .deadline r ≡ v .elapsed = R .expired r m in
       record {
         fair = (
           (expired, record { timed = omega arith; member = m }),
           omega (arith, d, K .later rest),
           λ y p a. by-cases (ℕ-discrete p expired)
-              (λ z. omega (arith, d, R .stack y (rw z at (a .member))))
+              (λ z. omega (arith, d, R .expired y (rw z at (a .member))))
               (λ n. omega (arith, d, not-before R p y (omega (arith, a .timed, n)) (a .member))),
         );
         kept = λ w. omega (arith, total-less (λ p x. w x) free (v .lists) expired r l (omega arith) e);

@@ -1,4 +1,4 @@
--- `text` meets its contract: every turn passes one byte.
+-- `text` meets its contract: every step passes one byte.
 use borrow.Author.Needs.{needs}
 use mathlib.Core.Path.{_≡_}
 use Prim.Native.Nat.{_≤_, _-_}

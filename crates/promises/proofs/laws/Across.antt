@@ -18,7 +18,7 @@ use Rattle.pausing.specs.Pausing.{PollTaken}
 use Rattle.promises.specs.Runs.{Asked, Runs, All, ends}
 use Rattle.promises.specs.Polls.{PollAt}
 use Rattle.promises.specs.Polling.{IsPending, SaysOut, HandsLeast, PollLeast}
-use Rattle.promises.specs.KeysStay.{Out}
+use Rattle.promises.specs.KeysStay.{HandsKey}
 use Rattle.promises.specs.KeysReach.{Reaches, Spares}
 use Rattle.promises.proofs.laws.OneCall.{call-sound}
 use Rattle.promises.proofs.laws.Runs.{run-sound}
@@ -32,7 +32,7 @@ use Rattle.promises.proofs.laws.KeysReach.{key-reaches, out-tells}
 -- the key k reaches a timer of u, and a poll of u is answered b and leaves w
 module _ {u : QueueWords} (U : Sound u) {k x q d : ℕ} (R : Reaches (view u) k x q d) {c : Call} {now : ℕ} (at : PollAt c now) (b : Answer) (w : QueueWords)
     (P : CallClaim c u b w) where
-  not-before : Out k (told b) → d ≤ now
+  not-before : HandsKey k (told b) → d ≤ now
   not-before o =
       let says = o .4 in
       let K = ⊎-elim (λ n. absurd (none-out (ap handing (sym (n .1 .told)) ∙ says))) (λ z. z) (poll-taken {a = b} {t = w} U at P) in
@@ -78,7 +78,7 @@ module _ {s t u : QueueWords} {value when period k : ℕ} {a : Answer} {l : List
   R = key-reaches S I answer r spared
 
   -- no poll hands it out before its deadline
-  pub never-early : Out k (told b) → max when (elapsed s) ≤ now
+  pub never-early : HandsKey k (told b) → max when (elapsed s) ≤ now
   never-early = not-before U R at b w P
 
   -- every poll from then on that ends hands out a timer: this, or one that is due no later

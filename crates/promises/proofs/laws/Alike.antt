@@ -24,7 +24,7 @@ use Rattle.delay_queue.specs.Claims.{first, fresh, Formatted, InRange, FormatCl
 use Rattle.promises.specs.OneCall.{isNo, one}
 use Rattle.promises.specs.Keys.{asked}
 use Rattle.promises.specs.Runs.{Asked, Runs, rest, next, All, isFormat}
-use Rattle.promises.specs.Alike.{cut, Alike, Matched, neither, alike, SameRoom, Keeps, longer}
+use Rattle.promises.specs.Alike.{cut, Alike, Matched, neither, alike, SameRoom, Lasts, longer}
 use Rattle.promises.proofs.laws.Decided.{fits-dec, range-dec}
 use Rattle.promises.proofs.laws.Once.{told-one}
 use Rattle.promises.proofs.laws.Met.{format-met}
@@ -102,7 +102,7 @@ module _ (R : QueueWords → QueueWords → Type 0) {s t s′ t′ : QueueWords}
 
 -- no answer and no word below N depends on words past N: the same call on two stores that differ only there gets the same answer, and leaves two such
 -- stores
-pub call-alike : Keeps Alike
+pub call-alike : Lasts Alike
 call-alike c s t s′ t′ a b A =
     by-format (λ c. SameRoom c s t → CallClaim c s a s′ → CallClaim c t b t′ → (a ≡ b) × Alike s′ t′)
     (λ n turn. both-format Alike A n turn (λ B. B))
@@ -113,7 +113,7 @@ call-alike c s t s′ t′ a b A =
     c
 
 -- nor on what the slices held before there was a store
-pub call-matched : Keeps Matched
+pub call-matched : Lasts Matched
 call-matched c s t s′ t′ a b (alike A) room X Y = let B = call-alike c s t s′ t′ a b A room X Y in (B .0, alike (B .1))
 call-matched c s t s′ t′ a b (neither f g) room X Y =
     by-format (λ c. SameRoom c s t → CallClaim c s a s′ → CallClaim c t b t′ → (a ≡ b) × Matched s′ t′)
@@ -155,7 +155,7 @@ rooms-kept : {m k : ℕ} {s t s′ t′ : QueueWords} → PastKept m s s′ → 
 rooms-kept K M [] R = tt
 rooms-kept K M (x ∷ l) R = (room-kept (x .call) K M (R .0), rooms-kept K M l (R .1))
 
-module _ (R : QueueWords → QueueWords → Type 0) (step : Keeps R) where
+module _ (R : QueueWords → QueueWords → Type 0) (step : Lasts R) where
   -- the same calls get the same answers, where each format finds room in the slices of both or of neither
   pub runs-keep : {s t s′ t′ : QueueWords} {l m : List Asked} → Runs s l s′ → Runs t m t′ → map (λ x. x .call) l ≡ map (λ x. x .call) m → R s t
       → All (λ x. SameRoom (x .call) s t) l → (l ≡ m) × R s′ t′

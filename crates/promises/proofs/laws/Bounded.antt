@@ -12,11 +12,11 @@ use borrow.Author.Tests.{le-leb, lt-ltb, le-ltb}
 use Rattle.times.specs.Times.{slotOf}
 use Rattle.times.proofs.laws.Quotients.{slot-lt}
 use Rattle.links.specs.Lists.{nobody, Mem, change}
-use Rattle.stack.specs.Places.{slotPlace, expired, levelAt}
+use Rattle.places.specs.Places.{slotPlace, expired, levelAt}
 use Rattle.wheel.specs.Wheel.{Lists, arrive}
 use Rattle.wheel.specs.Limited.{Outcome, ended as stopped, yet, Limited, rests, waits, hands, finds, stops, moves, empties}
-use Rattle.wheel.specs.Turns.{gotten}
-use Rattle.wheel.proofs.laws.Turns.{got-none, got-some}
+use Rattle.wheel.specs.Moves.{gotten}
+use Rattle.wheel.proofs.laws.Moves.{got-none, got-some}
 use Rattle.wheel.proofs.laws.Next.{list-height}
 use Rattle.wheel.proofs.laws.Sums.{mem-left, mem-joined}
 use Rattle.wheel.specs.Drain.{heights}
@@ -217,9 +217,9 @@ one-call c b = by (isPoll c && b)
 within-later : {n m : ℕ} {P : Asked → Type 0} {x : Asked} {l : List Asked} → tallyEnded isPoll (x ∷ []) + n ≤ m → Within n P l → Within m P (x ∷ l)
 within-later {x = x} h W =
     record {
-      before = x ∷ W .before;
+      front = x ∷ W .front;
       call = W .call;
-      after = W .after;
+      behind = W .behind;
       split = ap (λ z. x ∷ z) (W .split);
       such = W .such;
       few = omega (arith, W .few);
@@ -252,9 +252,9 @@ due-ends {k = k} {v = v} {d = d} S nr R (next {s} {t} {u} {x} {l} A r) q a =
     at-once o h =
         left (record {
           within = record {
-            before = [];
+            front = [];
             call = x;
-            after = l;
+            behind = l;
             split = refl;
             such = o;
             few = omega (arith, one-call (x .call) (ends (told (x .answer))), pending-some (R .names .pending));

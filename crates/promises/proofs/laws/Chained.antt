@@ -15,11 +15,11 @@ use Rattle.links.specs.Lists.{nobody}
 use Rattle.wheel.specs.Wheel.{Lists}
 use Rattle.wheel.specs.Drain.{heights}
 use Rattle.wheel.specs.Limited.{ended as stopped, yet, Limited, finds, stops, empties}
-use Rattle.wheel.specs.Turns.{gotten}
+use Rattle.wheel.specs.Moves.{gotten}
 use Rattle.wheel.proofs.laws.Next.{list-some}
 use Rattle.wheel.proofs.laws.Limited.{yet-all, ended-few}
 use Rattle.wheel.proofs.laws.Single.{hand-moves}
-use Rattle.wheel.proofs.laws.Turns.{got-none, got-some}
+use Rattle.wheel.proofs.laws.Moves.{got-none, got-some}
 use Rattle.queue.specs.declared.Answer.{Answer}
 use Rattle.queue.specs.Told.{Told, told}
 use Rattle.queue.specs.Told as T
@@ -96,7 +96,7 @@ module _ {s : QueueWords} (S : Sound s) {now : ℕ} (K : PollTaken (view s) now)
       let k : PastKept (count s) s u = subst (λ (n : ℕ). PastKept n s u) (poll-reach p s) (past-kept c s a u P) in
       record {
         sound = R .sound;
-        polls = rest-added Y (some-hand S K Y) (in-hand S K Y .stack) (R .polls);
+        polls = rest-added Y (some-hand S K Y) (in-hand S K Y .expired) (R .polls);
         kept = past-then (ap (λ v. v .n) (Y .is)) k (R .kept);
       }
 
@@ -165,7 +165,7 @@ some-few (not-yet {m = m} {n = n} T) f = absurd (f (m, n, refl))
 -- and from a poll in hand makes one
 module _ {s : QueueWords} (S : Sound s) (D : MidPoll s) where
   hand-takes : {now limit : ℕ} {g : Option ℕ} {m n : ℕ} {u : View} → TakesSome (view s) now limit (stopped g) m n u → 0 < m
-  hand-takes (popped-some e) = absurd (nil≢cons (sym (S .rule .inside D .stack) ∙ e))
+  hand-takes (popped-some e) = absurd (nil≢cons (sym (S .rule .inside D .expired) ∙ e))
   hand-takes {now} {limit} {g} (polled-some {m = m} {n = n} {e = c} {L = N} e r) =
       hand-moves (S .rule .inside D .filled .2)
       (subst (λ (h : Option ℕ). Limited (view s .deadline) now h limit (view s .elapsed) (view s .lists) (stopped g) m n c N) (got-some (s .hand) D) r)

@@ -10,8 +10,8 @@ use lib.Dec.{eqb, ltb}
 use borrow.Author.Tests.{eq-eqb, ne-eqb, lt-ltb, le-ltb}
 use Rattle.links.specs.Lists.{Mem, without}
 use Rattle.links.proofs.laws.Lists.{Nodup, change-same, change-other, mem-app}
-use Rattle.stack.specs.Places.{free, put}
-use Rattle.stack.proofs.laws.Whole as stack-laws
+use Rattle.places.specs.Places.{free, put}
+use Rattle.places.proofs.laws.Whole as place-laws
 use Rattle.queue.specs.declared.Answer.{Answer}
 use Rattle.queue.specs.Told.{told}
 use Rattle.queue.specs.Told as T
@@ -167,10 +167,10 @@ module _ {s : QueueWords} (S : Sound s) {k : ℕ} {u : View} (U : Upto s k u) wh
         by-cases (ℕ-discrete q p)
         (λ e.
         rw e (change-same (u .lists) p (without k (u .lists p)) ∙ ap (without k) (U .waiting p (a .timed))
-        ∙ from-without k (view s .lists p) (stack-laws.list-nodup (S .standing .whole .stack) p)))
+        ∙ from-without k (view s .lists p) (place-laws.list-nodup (S .standing .whole .places) p)))
         (λ d.
         change-other (u .lists) p (without k (u .lists p)) q d ∙ U .waiting q g
-        ∙ from-out k (view s .lists q) (λ m. d (sym (stack-laws.member-mark (S .standing .whole .stack) q k m)
+        ∙ from-out k (view s .lists q) (λ m. d (sym (place-laws.member-mark (S .standing .whole .places) q k m)
         ∙ mark-at (S .standing) was)))
 
     left-free : left p k u .lists free ≡ u .lists free
@@ -252,16 +252,16 @@ clear-order {s} {t} C S =
     let K = C .good S in
     let U = upto S (K .clears) (omega arith) in
     let E = K .done .view in
-    let W = S .standing .whole .stack in
+    let W = S .standing .whole .places in
     let listed : (p : ℕ) → view t .lists p ≡ K .cleared .lists p = λ p. ap (λ v. v .lists p) E in
     let empty : (p : ℕ) → p < free → view t .lists p ≡ []
-    = λ p h. listed p ∙ U .waiting p h ∙ from-all (count s) (view s .lists p) (λ i m. stack-laws.member-below W p i m) in
+    = λ p h. listed p ∙ U .waiting p h ∙ from-all (count s) (view s .lists p) (λ i m. place-laws.member-below W p i m) in
     let freed : view t .lists free ≡ falling (comesBack s) (count s) ++ view s .lists free = listed free ∙ U .freed in
     let retired : (i p : ℕ) → At (view s) i p → view s .turn i ≡ lastTurn → Mem i (view t .lists free) → ⊥
     = λ i p a e m.
     ⊎-elim
-    (λ k. back-exactly S i (stack-laws.member-below W p i (a .member)) .0 (mem-falling (comesBack s) (count s) i k) .1 e)
-    (λ k. omega (arith, mark-at (S .standing) a, stack-laws.member-mark W free i k))
+    (λ k. back-exactly S i (place-laws.member-below W p i (a .member)) .0 (mem-falling (comesBack s) (count s) i k) .1 e)
+    (λ k. omega (arith, mark-at (S .standing) a, place-laws.member-mark W free i k))
     (mem-app i (falling (comesBack s) (count s)) (view s .lists free) (rw freed at m)) in (
       K .done .told,
       record {
@@ -275,7 +275,7 @@ clear-order {s} {t} C S =
             by-cases (decLt q free)
             (λ h. rw (empty q h) at m)
             (λ h.
-            let z : q ≡ free = omega (arith, stack-laws.member-place (K .done .sound .standing .whole .stack) q i m) in
+            let z : q ≡ free = omega (arith, place-laws.member-place (K .done .sound .standing .whole .places) q i m) in
             retired i p a e (rw z at m));
         values = ap (λ v. v .value) E ∙ U .values;
         periods = ap (λ v. v .period) E ∙ U .periods;

@@ -18,10 +18,10 @@ use Rattle.links.specs.Whole.{Kept}
 use Rattle.links.proofs.laws.Fixed.{Same}
 use Rattle.links.proofs.laws.Segments.{seg-frame}
 use Rattle.links.proofs.laws.Walk.{fam-lists}
-use Rattle.stack.specs.Places.{places}
-use Rattle.stack.specs.Words.{stackWords, headAt}
-use Rattle.stack.specs.Whole as stack
-use Rattle.stack.proofs.laws.Whole as stack-laws
+use Rattle.places.specs.Places.{places}
+use Rattle.places.specs.Words.{placeWords, headAt}
+use Rattle.places.specs.Whole as places
+use Rattle.places.proofs.laws.Whole as place-laws
 use Rattle.wheel.specs.Wheel.{Lists, Rule}
 use Rattle.wheel.specs.Between.{Draining}
 use Rattle.wheel.specs.Midway.{Obeys}
@@ -71,7 +71,7 @@ rule-agree k R =
     record {
       wheel = λ p x h m. rw (k p x m) (R .wheel p x h m);
       parked = λ x m. rw (k _ x m) (R .parked x m);
-      stack = λ x m. k _ x m ∙ R .stack x m;
+      expired = λ x m. k _ x m ∙ R .expired x m;
     }
 
 draining-agree : {d f : ℕ → ℕ} {k h e : ℕ} {L : Lists} → ((p x : ℕ) → Mem x (L p) → f x ≡ d x) → Draining d k h e L → Draining f k h e L
@@ -94,7 +94,7 @@ obeys-agree a O =
             high = I .high;
             below = I .below;
             filled = I .filled;
-            stack = I .stack;
+            expired = I .expired;
             late = I .late;
             due = I .due;
             rule = draining-agree a (I .rule);
@@ -107,7 +107,7 @@ obeys-agree a O =
 -- the state and the heads of s, over the slices of t
 abbrev over : QueueWords → QueueWords → QueueWords
 over s t =
-    queueWords (wheelWords (elapsed s) (s .wheel .occupied) (stackWords (s .wheel .stack .stacks) (s .wheel .stack .heads) (t .wheel .stack .links)))
+    queueWords (wheelWords (elapsed s) (s .wheel .occupied) (placeWords (s .wheel .places .tops) (s .wheel .places .heads) (t .wheel .places .links)))
     (t .values) (t .deadlines) (t .turns) (s .hand) (s .until)
 
 module _ {s t : QueueWords} (A : Alike s t) where
@@ -116,24 +116,24 @@ module _ {s t : QueueWords} (A : Alike s t) where
   over-is = λ i.
       queueWords
       (wheelWords (A .same i .wheel .elapsed) (A .same i .wheel .occupied)
-      (stackWords (A .same i .wheel .stack .stacks) (A .same i .wheel .stack .heads) (t .wheel .stack .links)))
+      (placeWords (A .same i .wheel .places .tops) (A .same i .wheel .places .heads) (t .wheel .places .links)))
       (t .values) (t .deadlines) (t .turns) (A .same i .hand) (A .same i .until)
 
   pub alike-size : count s ≡ count t
   unfolding upTo
   alike-size = ap (λ u. count u) (A .same)
 
-  nexts : Agree (count s) (s .wheel .stack .links .nexts) (t .wheel .stack .links .nexts)
+  nexts : Agree (count s) (s .wheel .places .links .nexts) (t .wheel .places .links .nexts)
   unfolding upTo
-  nexts = agree (count s) (count t) alike-size (ap (λ u. u .wheel .stack .links .nexts) (A .same))
+  nexts = agree (count s) (count t) alike-size (ap (λ u. u .wheel .places .links .nexts) (A .same))
 
-  prevs : Agree (count s) (s .wheel .stack .links .prevs) (t .wheel .stack .links .prevs)
+  prevs : Agree (count s) (s .wheel .places .links .prevs) (t .wheel .places .links .prevs)
   unfolding upTo
-  prevs = agree (count s) (count t) alike-size (ap (λ u. u .wheel .stack .links .prevs) (A .same))
+  prevs = agree (count s) (count t) alike-size (ap (λ u. u .wheel .places .links .prevs) (A .same))
 
-  marks : Agree (count s) (s .wheel .stack .links .marks) (t .wheel .stack .links .marks)
+  marks : Agree (count s) (s .wheel .places .links .marks) (t .wheel .places .links .marks)
   unfolding upTo
-  marks = agree (count s) (count t) alike-size (ap (λ u. u .wheel .stack .links .marks) (A .same))
+  marks = agree (count s) (count t) alike-size (ap (λ u. u .wheel .places .links .marks) (A .same))
 
   values : Agree (2 * count s) (s .values) (t .values)
   unfolding upTo
@@ -148,14 +148,14 @@ module _ {s t : QueueWords} (A : Alike s t) where
   turns = agree (count s) (count t) alike-size (ap (λ u. u .turns) (A .same))
 
   module _ (S : Sound s) where
-    over-fam : Fam places (count s) (net (headAt (s .wheel .stack)) (t .wheel .stack .links)) (listsIn (s .wheel))
-    unfolding stack.lists
+    over-fam : Fam places (count s) (net (headAt (s .wheel .places)) (t .wheel .places .links)) (listsIn (s .wheel))
+    unfolding places.lists
     over-fam =
         fam-agree (record { heads = λ p. refl; next = nexts .same; prev = prevs .same; mark = marks .same })
-        (S .standing .whole .stack .held .fam)
+        (S .standing .whole .places .held .fam)
 
     over-lists : listsIn (over s t .wheel) ≡ listsIn (s .wheel)
-    unfolding stack.lists
+    unfolding places.lists
     over-lists = fam-lists over-fam
 
     over-room : Room (count s) (slices (over s t))
@@ -169,7 +169,7 @@ module _ {s t : QueueWords} (A : Alike s t) where
         }
 
     over-sound : Sound (over s t)
-    unfolding stack.lists
+    unfolding places.lists
     over-sound =
         let T = S .standing in
         let W = T .whole in
@@ -177,14 +177,14 @@ module _ {s t : QueueWords} (A : Alike s t) where
           standing = record {
             fits = record { some = T .fits .some; few = T .fits .few; room = over-room };
             whole = record {
-              stack = record { shape = W .stack .shape; held = record { room = over-room .links; fam = rw over-lists over-fam } };
-              rows = rw over-lists (W .rows);
+              places = record { shape = W .places .shape; held = record { room = over-room .links; fam = rw over-lists over-fam } };
+              occupied = rw over-lists (W .occupied);
             };
             turns = λ i h. rw (turns .same i h) (T .turns i h);
             retired = λ i h d m.
                 let r = T .retired i h d (omega (arith, m, marks .same i h)) in (marks .same i h ∙ r .0, turns .same i h ∙ r .1);
           };
-          rule = rw over-lists (obeys-agree (λ p x m. deadlines .same x (stack-laws.member-below (W .stack) p x m)) (S .rule));
+          rule = rw over-lists (obeys-agree (λ p x m. deadlines .same x (place-laws.member-below (W .places) p x m)) (S .rule));
           no-now = S .no-now;
         }
 
@@ -211,14 +211,14 @@ pub cut-alike : (s : QueueWords) → Alike s (cut s)
 unfolding upTo
 cut-alike s =
     let n = count s in
-    let t = s .wheel .stack in
+    let t = s .wheel .places in
     let same : (l : List ℕ) → take n l ≡ take n (take n l) = λ l. sym (take-take n n l (omega arith)) in
     let two : take (2 * n) (s .values) ≡ take (2 * n) (take (2 * n) (s .values)) = sym (take-take (2 * n) (2 * n) (s .values) (omega arith)) in
     record {
       same = λ i.
           queueWords
           (wheelWords (elapsed s) (s .wheel .occupied)
-          (stackWords (t .stacks) (t .heads) (links (same (t .links .nexts) i) (same (t .links .prevs) i) (same (t .links .marks) i))))
+          (placeWords (t .tops) (t .heads) (links (same (t .links .nexts) i) (same (t .links .prevs) i) (same (t .links .marks) i))))
           (two i) (same (s .deadlines) i) (same (s .turns) i) (s .hand) (s .until);
     }
 

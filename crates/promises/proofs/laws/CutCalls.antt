@@ -6,8 +6,8 @@ use mathlib.Core.Bool.{false, true≢false}
 use mathlib.Core.List.{List, _∷_}
 use Prim.Native.Nat.{ℕ, _≤_, _<_}
 use native.Mathlib.Omega.{arith}
-use Rattle.stack.specs.Places.{free}
-use Rattle.stack.proofs.laws.Whole as stack-laws
+use Rattle.places.specs.Places.{free}
+use Rattle.places.proofs.laws.Whole as place-laws
 use Rattle.records.specs.View.{View}
 use Rattle.records.specs.Records.{keyOf, Names, left, placed, freed}
 use Rattle.records.specs.Words.{QueueWords, count, elapsed, view, AtRest, Sound}
@@ -41,7 +41,7 @@ module _ {s : QueueWords} (S : Sound s) where
   free-seen e = sym (ap (λ v. v .lists free) (cut-view S)) ∙ e
 
   free-below : (r : ℕ) (l : List ℕ) → view s .lists free ≡ r ∷ l → r < count s
-  free-below r l e = stack-laws.member-below (S .standing .whole .stack) free r (rw e (inl refl))
+  free-below r l e = place-laws.member-below (S .standing .whole .places) free r (rw e (inl refl))
 
   names-seen : {k r p : ℕ} → Names (view (cut s)) k r p → Names (view s) k r p
   names-seen {k} {r} {p} N = masked-names (view s) (subst (λ v. Names v k r p) (cut-view S) N)

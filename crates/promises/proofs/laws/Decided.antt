@@ -11,12 +11,12 @@ use Rattle.times.specs.Times.{width, slotOf, levelOf, block}
 use Rattle.row.specs.Row.{rowOf}
 use Rattle.links.specs.Lists.{nobody}
 use Rattle.links.specs.Links.{at}
-use Rattle.stack.specs.Places.{slotPlace, slots, parking, expired, places, retired, levelAt}
-use Rattle.stack.specs.Words.{headAt}
-use Rattle.stack.specs.Heads.{Shape}
-use Rattle.stack.proofs.laws.Words.{judged}
-use Rattle.stack.specs.Judge.{held}
-use Rattle.stack.proofs.laws.Whole as stack-laws
+use Rattle.places.specs.Places.{slotPlace, slots, parking, expired, places, retired, levelAt}
+use Rattle.places.specs.Words.{headAt}
+use Rattle.places.specs.Heads.{Shape}
+use Rattle.places.proofs.laws.Words.{judged}
+use Rattle.places.specs.Judge.{held}
+use Rattle.places.proofs.laws.Whole as place-laws
 use Rattle.wheel.specs.Limited.{start}
 use Rattle.wheel.specs.Midway.{Belongs, Parked}
 use Rattle.records.specs.Words.{QueueWords, count, elapsed, markOf, AtRest, MidPoll, Sound, slices}
@@ -74,16 +74,16 @@ range-dec turn = by-dec (Dec·and (decLt 0 turn) (decLt turn (2 ^ 48))) (λ x. r
 shape-dec : (hh : List (List ℕ)) → Dec (Shape hh)
 shape-dec hh =
     by-dec (Dec·and (ℕ-discrete (length hh) 6) (below-dec (λ k. ℕ-discrete (length (getD hh k [])) 64) 6))
-    (λ x. record { rows = x .0; wide = x .1 })
-    (λ H. (H .rows, H .wide))
+    (λ x. record { six = x .0; wide = x .1 })
+    (λ H. (H .six, H .wide))
 
 whole-dec : {t : WheelWords} → CanJudge t → Dec (WheelWhole t)
 whole-dec {t} C =
     by-dec
-    (Dec·and (Bool-discrete (judged (t .stack)) true)
-    (below-dec (λ k. ℕ-discrete (at (t .occupied) k) (rowOf (held (t .stack .heads) k))) 6))
+    (Dec·and (Bool-discrete (judged (t .places)) true)
+    (below-dec (λ k. ℕ-discrete (at (t .occupied) k) (rowOf (held (t .places .heads) k))) 6))
     (λ x. whole-from C (x .0) (x .1))
-    (λ W. (stack-laws.whole-judged (W .stack), whole-row W))
+    (λ W. (place-laws.whole-judged (W .places), whole-row W))
 
 or-dec : {A B : Type 0} → Dec A → Dec B → Dec (A ⊎ B)
 or-dec (yes a) e = yes (inl a)
@@ -124,10 +124,10 @@ agrees-dec low h c w t m =
       last = x .0 .1;
       wheel = x .1 .0;
       parked = x .1 .1 .0;
-      stack = x .1 .1 .1 .0;
+      expired = x .1 .1 .1 .0;
       retired = x .1 .1 .1 .1;
     })
-    (λ R. ((R .some, R .last), (R .wheel, (R .parked, (R .stack, R .retired)))))
+    (λ R. ((R .some, R .last), (R .wheel, (R .parked, (R .expired, R .retired)))))
 
 hold-dec : (e until p head first parked : ℕ) → Dec (CanHold e until p head first parked)
 hold-dec e until p head first parked =
@@ -143,20 +143,20 @@ hold-dec e until p head first parked =
       below = x .0 .0;
       high = x .0 .1;
       filled = x .1 .0 .0;
-      stack = x .1 .0 .1;
+      expired = x .1 .0 .1;
       late = x .1 .1 .0 .0;
       due = x .1 .1 .0 .1;
       own = x .1 .1 .1;
     })
-    (λ H. ((H .below, H .high), ((H .filled, H .stack), ((H .late, H .due), H .own))))
+    (λ H. ((H .below, H .high), ((H .filled, H .expired), ((H .late, H .due), H .own))))
 
 -- all n records
-all-dec : (s : QueueWords) (low h c : ℕ) → Dec (RecordsAgree low h c (count s) (s .deadlines) (s .turns) (s .wheel .stack .links .marks))
+all-dec : (s : QueueWords) (low h c : ℕ) → Dec (RecordsAgree low h c (count s) (s .deadlines) (s .turns) (s .wheel .places .links .marks))
 all-dec s low h c = below-dec (λ i. agrees-dec low h c (at (s .deadlines) i) (at (s .turns) i) (markOf s i)) (count s)
 
 pub sound-dec : (s : QueueWords) → Dec (Sound s)
 sound-dec s =
-    by (Dec·and (Dec·and (shape-dec (s .wheel .stack .heads)) (ℕ-discrete (length (s .wheel .occupied)) 6)) (fits-dec s (count s)))
+    by (Dec·and (Dec·and (shape-dec (s .wheel .places .heads)) (ℕ-discrete (length (s .wheel .occupied)) 6)) (fits-dec s (count s)))
   where
     at-rest : Fits (slices s) (count s) → Dec (WheelWhole (s .wheel)) → AtRest s → Dec (Sound s)
     at-rest F d z =
@@ -167,15 +167,15 @@ sound-dec s =
     mid-poll : Fits (slices s) (count s) → Dec (WheelWhole (s .wheel)) → MidPoll s → Dec (Sound s)
     mid-poll F d e =
         by-dec
-        (Dec·and d (Dec·and (hold-dec (elapsed s) (s .until) (s .hand) (headAt (s .wheel .stack) (s .hand)) (headAt (s .wheel .stack) expired)
-        (headAt (s .wheel .stack) parking))
+        (Dec·and d (Dec·and (hold-dec (elapsed s) (s .until) (s .hand) (headAt (s .wheel .places) (s .hand)) (headAt (s .wheel .places) expired)
+        (headAt (s .wheel .places) parking))
         (all-dec s (levelAt (s .hand) - 1) (s .hand) (start (elapsed s) (s .hand)))))
         (λ y. judged-sound (record { fits = F; whole = y .0; rest = λ z. absurd (e z); mid = λ _. (y .1 .0, y .1 .1) }))
         (λ S. let J = sound-judged S .mid e in (S .standing .whole, (J .0, J .1)))
 
-    by : Dec ((Shape (s .wheel .stack .heads) × (length (s .wheel .occupied) ≡ 6)) × Fits (slices s) (count s)) → Dec (Sound s)
+    by : Dec ((Shape (s .wheel .places .heads) × (length (s .wheel .occupied) ≡ 6)) × Fits (slices s) (count s)) → Dec (Sound s)
     by (yes x) =
         let C : CanJudge (s .wheel) = record { six = x .0 .1; shape = x .0 .0; room = x .1 .room .links; few = omega arith } in
         let d : Dec (WheelWhole (s .wheel)) = whole-dec C in
         by-cases (ℕ-discrete (s .hand) nobody) (at-rest (x .1) d) (mid-poll (x .1) d)
-    by (no f) = no (λ S. f ((S .standing .whole .stack .shape, S .standing .whole .rows .six), S .standing .fits))
+    by (no f) = no (λ S. f ((S .standing .whole .places .shape, S .standing .whole .occupied .six), S .standing .fits))

@@ -8,10 +8,10 @@ use Prim.Native.Nat.{ℕ, _+_, _<_}
 use native.Mathlib.Decide.{decLt, ℕ-discrete}
 use native.Mathlib.Omega.{arith}
 use Rattle.links.specs.Lists.{nobody}
-use Rattle.stack.specs.Places.{free}
+use Rattle.places.specs.Places.{free}
 use Rattle.wheel.specs.Limited.{ended as stopped, Limited}
-use Rattle.wheel.specs.Turns.{gotten}
-use Rattle.wheel.proofs.laws.Turns.{got-none}
+use Rattle.wheel.specs.Moves.{gotten}
+use Rattle.wheel.proofs.laws.Moves.{got-none}
 use Rattle.wheel.proofs.laws.Limited.{polls-limited}
 use Rattle.queue.specs.declared.Answer.{Answer}
 use Rattle.queue.specs.Told.{Told, told}

@@ -6,7 +6,7 @@ use Prim.Native.Nat.{ℕ, _+_}
 use native.Mathlib.Omega.{arith}
 use native.Mathlib.Decide.{ℕ-discrete}
 use Rattle.links.specs.Lists.{nobody}
-use Rattle.stack.specs.Places.{expired}
+use Rattle.places.specs.Places.{expired}
 use Rattle.queue.specs.declared.Answer.{Answer}
 use Rattle.queue.specs.Told.{told}
 use Rattle.queue.specs.Told as T
@@ -17,7 +17,7 @@ use Rattle.delay_queue.specs.declared.Call.{Call}
 use Rattle.delay_queue.specs.declared.Call.the-variants as C
 use Rattle.delay_queue.specs.Claims.{CallClaim}
 use Rattle.promises.specs.OneCall.{isNo}
-use Rattle.promises.specs.Refused.{First, deadlineLines, RefusedBy}
+use Rattle.promises.specs.Refused.{FirstMet, deadlineLines, RefusedBy}
 use Rattle.promises.specs.Eleven.{AsksOld, AtTheHour}
 use Rattle.promises.proofs.laws.Decided.{sound-dec}
 use Rattle.promises.proofs.laws.Refused.{behind, dead-names, refused-exactly}
@@ -33,7 +33,7 @@ rest-so : (s : QueueWords) → (MidPoll s → ⊥) → AtRest s
 rest-so s f = by-cases (ℕ-discrete (s .hand) nobody) (λ z. z) (λ d. absurd (f d))
 
 -- of a deadline's lines the first is met
-old-line : {e w : ℕ} → First (deadlineLines e w) 11 → TooOld e w
+old-line : {e w : ℕ} → FirstMet (deadlineLines e w) 11 → TooOld e w
 old-line x = ⊎-elim (λ y. y .1) (λ y. absurd (behind (omega arith) (y .1) .1)) x
 
 asks-old : (c : Call) (s : QueueWords) → RefusedBy c s 11 → AsksOld c s
@@ -98,7 +98,7 @@ reset-at-the-hour w =
     let s = x .0 in
     let r = x .3 .0 in
     let at : At (view s) r expired = record { timed = omega arith; member = rw (x .3 .1) (inl refl) } in
-    let rest : AtRest s = rest-so s (λ d. nil≢cons (sym (x .1 .rule .inside d .stack) ∙ x .3 .1)) in
+    let rest : AtRest s = rest-so s (λ d. nil≢cons (sym (x .1 .rule .inside d .expired) ∙ x .3 .1)) in
     let N : Names (view s) (keyOf (view s) r) r expired = key-of-names (x .1) at in (
       keyOf (view s) r,
       record {

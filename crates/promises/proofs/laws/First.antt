@@ -12,8 +12,8 @@ use native.Mathlib.Omega.{arith}
 use borrow.Author.Tests.{eq-eqb}
 use Rattle.links.specs.Lists.{nobody, Mem}
 use Rattle.links.proofs.laws.Lists.{change-same, change-other}
-use Rattle.stack.specs.Places.{expired, free, put}
-use Rattle.stack.proofs.laws.Whole as stack-laws
+use Rattle.places.specs.Places.{expired, free, put}
+use Rattle.places.proofs.laws.Whole as place-laws
 use Rattle.wheel.proofs.laws.Sums.{put-mem}
 use Rattle.queue.specs.declared.Answer.{Answer}
 use Rattle.queue.specs.Told.{Told, told, handing}
@@ -31,10 +31,10 @@ use Rattle.delay_queue.specs.declared.Call.the-variants as C
 use Rattle.delay_queue.specs.Claims.{InsertClaim, ResetClaim, CallClaim}
 use Rattle.promises.specs.OneCall.{isNo}
 use Rattle.promises.specs.Runs.{Asked, Runs, rest, next, All, Each}
-use Rattle.promises.specs.KeysStay.{Aims, Out}
+use Rattle.promises.specs.KeysStay.{Aims, HandsKey}
 use Rattle.promises.specs.KeysReach.{Reaches, Spares}
 use Rattle.promises.proofs.laws.Parked.{rule-target}
-use Rattle.promises.specs.First.{Sets, NotSet, SetOn, storedOn, SetInTurn}
+use Rattle.promises.specs.First.{Sets, NotSet, SetOn, storedOn, SetInOrder}
 use Rattle.promises.proofs.laws.OneCall.{call-sound}
 use Rattle.promises.proofs.laws.Runs.{run-sound}
 use Rattle.promises.proofs.laws.Views.{ViewGoes, refuses, formats, inserts, resets, removes, polls, wakes, counts, clears, call-goes, key-inserts, out-polls, goes-rest, goes-on-hand}
@@ -69,7 +69,7 @@ module _ {s : QueueWords} (S : Sound s) where
 
   -- and did not hand it out: it would be gone, or set again
   out-none : {c : Call} {x : Told} {u : View} → ViewGoes v c x u → {k : ℕ}
-      → ((now w d m n : ℕ) → PollAt c now → x ≡ T.out k w d m n → 0 < v .period (numberIn k) → ⊥) → {r p : ℕ} → Names u k r p → Out k x → ⊥
+      → ((now w d m n : ℕ) → PollAt c now → x ≡ T.out k w d m n → 0 < v .period (numberIn k) → ⊥) → {r p : ℕ} → Names u k r p → HandsKey k x → ⊥
   out-none {x = x} D set-again {r} {p} N o =
       let H = out-spent S D (o .4) in
       let P = out-polls D (o .4) in
@@ -137,21 +137,21 @@ run-expired {r = r} S N (next {s} {t} {x = x} A R) a =
 -- its record is placed in the end; the clock stands, or the deadline lies past it before and after
 record PlacedAt (s : QueueWords) (k when : ℕ) (w : View) : Type 0 where
   number : ℕ
-  before : View
-  is : w ≡ placed number when before
+  from : View
+  is : w ≡ placed number when from
   key : number ≡ numberIn k
-  clock : (before .elapsed ≡ elapsed s) ⊎ ((before .elapsed < when) × (elapsed s < when))
+  clock : (from .elapsed ≡ elapsed s) ⊎ ((from .elapsed < when) × (elapsed s < when))
 
 module _ {s : QueueWords} (S : Sound s) where
   insert-placed : {value when period k : ℕ} {x : Told} {w : View} → ViewGoes (view s) (C.Insert value when period) x w → x ≡ T.key k
       → PlacedAt s k when w
   insert-placed refuses z = let y : _≡_ {A = ℕ} 0 1 = cc in absurd (omega arith)
   insert-placed {value} {period = period} {k} (inserts {r = i} {l = l} e) z =
-      let b = stack-laws.member-below (S .standing .whole .stack) free i (rw e (inl refl)) in
+      let b = place-laws.member-below (S .standing .whole .places) free i (rw e (inl refl)) in
       let q : keyOf (view s) i ≡ k = cc in
       record {
         number = i;
-        before = withPeriod (upd (view s .period) i period) (withValue (upd (view s .value) i value) (taken l (view s)));
+        from = withPeriod (upd (view s .period) i period) (withValue (upd (view s .value) i value) (taken l (view s)));
         is = refl;
         key = omega (arith, q, b);
         clock = inl refl;
@@ -160,7 +160,7 @@ module _ {s : QueueWords} (S : Sound s) where
   reset-placed : {k when : ℕ} {x : Told} {w : View} → ViewGoes (view s) (C.Reset k when) x w → x ≡ T.ok → PlacedAt s k when w
   unfolding left
   reset-placed refuses z = let y : _≡_ {A = ℕ} 0 1 = cc in absurd (omega arith)
-  reset-placed (resets {r = i} {p = p} M) z = record { number = i; before = left p i (view s); is = refl; key = M .number; clock = inl refl }
+  reset-placed (resets {r = i} {p = p} M) z = record { number = i; from = left p i (view s); is = refl; key = M .number; clock = inl refl }
 
   -- "places it at w plus period under the same key"
   again-placed : {now limit i m n : ℕ} {u : View} {x : Told} {w : View} → PollTaken (view s) now → TakesSome (view s) now limit (stopped (some i)) m n u
@@ -179,7 +179,7 @@ module _ {s : QueueWords} (S : Sound s) where
       = omega (arith, due, ap (view s .period) same) in
       record {
         number = i;
-        before = u;
+        from = u;
         is = ap (λ n. placed i n u) when;
         key = same;
         clock = inr (
@@ -198,7 +198,7 @@ module _ {s : QueueWords} (S : Sound s) where
   -- a poll that hands out has ended, and leaves none in hand
   takes-rest : {now limit m n : ℕ} {g : Option ℕ} {u : View} → TakesSome (view s) now limit (stopped g) m n u → u .hand ≡ nobody
   takes-rest (popped-some e) =
-      by-cases (ℕ-discrete (s .hand) nobody) (λ z. z) (λ d. absurd (nil≢cons (sym (S .rule .inside d .stack) ∙ e)))
+      by-cases (ℕ-discrete (s .hand) nobody) (λ z. z) (λ d. absurd (nil≢cons (sym (S .rule .inside d .expired) ∙ e)))
   takes-rest (polled-some e r) = refl
 
   out-rest : {now limit k v d m n : ℕ} {x : Told} {w : View} → PollsSome (view s) now limit x w → x ≡ T.out k v d m n → w .hand ≡ nobody
@@ -251,14 +251,14 @@ unfolding target
 target-expired e = rw (eq-eqb e e refl)
 
 -- a time that has come
-stacked : {e when : ℕ} → when ≤ e → target e (max when e) ≡ expired
-stacked {e} {when} h = let q : max when e ≡ e = omega arith in ap (target e) q ∙ target-expired e
+placeWordsOf : {e when : ℕ} → when ≤ e → target e (max when e) ≡ expired
+placeWordsOf {e} {when} h = let q : max when e ≡ e = omega arith in ap (target e) q ∙ target-expired e
 
 placed-in : (i when : ℕ) (u : View) → when ≤ u .elapsed → Mem i (placed i when u .lists expired)
 unfolding placed
 placed-in i when u h =
     let L = u .lists in
-    rw (stacked h, change-same L expired (put expired i (L expired))) (put-mem expired i i (L expired) (inl refl))
+    rw (placeWordsOf h, change-same L expired (put expired i (L expired))) (put-mem expired i i (L expired) (inl refl))
 
 placed-deadline : (i when : ℕ) (u : View) → placed i when u .deadline i ≡ max when (u .elapsed)
 unfolding placed
@@ -266,8 +266,8 @@ placed-deadline i when u = upd-same (u .deadline) i (max when (u .elapsed))
 
 -- ---- what the customer asked for
 
-module _ {s t : QueueWords} {j k : ℕ} (S : Sound s) (I : SetInTurn s j k t) (c : Call) (a : Answer) (u : QueueWords) (P : CallClaim c t a u)
-    (o : Out k (told a)) {r p : ℕ} (N : Names (view t) j r p) where
+module _ {s t : QueueWords} {j k : ℕ} (S : Sound s) (I : SetInOrder s j k t) (c : Call) (a : Answer) (u : QueueWords) (P : CallClaim c t a u)
+    (o : HandsKey k (told a)) {r p : ℕ} (N : Names (view t) j r p) where
   set-sound : Sound (I .set)
   set-sound = let x = I .first .asked in call-sound (x .call) s (x .answer) (I .set) (I .first .claim) S
 
@@ -312,8 +312,8 @@ module _ {s t : QueueWords} {j k : ℕ} (S : Sound s) (I : SetInTurn s j k t) (c
   two = set-placed later-sound (I .second)
 
   -- where the second comes, and with the deadline that it gets, they would be queued, and cannot be
-  never-so : front .place ≡ target (two .before .elapsed) (max (I .second .when) (two .before .elapsed))
-      → view (I .both) .deadline r ≡ max (I .second .when) (two .before .elapsed) → ⊥
+  never-so : front .place ≡ target (two .from .elapsed) (max (I .second .when) (two .from .elapsed))
+      → view (I .both) .deadline r ≡ max (I .second .when) (two .from .elapsed) → ⊥
   never-so here equal =
       queued-waits last-sound (run-queued both-sound Q (I .at-last) (front .spared) (back .spared))
       (call-goes c t a u last-sound P) o
@@ -322,7 +322,7 @@ module _ {s t : QueueWords} {j k : ℕ} (S : Sound s) (I : SetInTurn s j k t) (c
       i = two .number
 
       last : View
-      last = placed i (I .second .when) (two .before)
+      last = placed i (I .second .when) (two .from)
 
       is : view (I .both) ≡ last
       is = two .is
@@ -338,10 +338,10 @@ module _ {s t : QueueWords} {j k : ℕ} (S : Sound s) (I : SetInTurn s j k t) (c
       Q : Queued (view (I .both)) j k
       Q =
           let due = sym (ap (λ v. v .deadline r) is) ∙ equal in
-          rw is (placed-queued i (I .second .when) (two .before) (rw is at (front .names)) (rw is at behind) apart due here)
+          rw is (placed-queued i (I .second .when) (two .from) (rw is at (front .names)) (rw is at behind) apart due here)
 
-  same-clock : elapsed (I .both) ≡ two .before .elapsed
-  same-clock = ap (λ v. v .elapsed) (two .is) ∙ placed-clock (two .number) (I .second .when) (two .before)
+  same-clock : elapsed (I .both) ≡ two .from .elapsed
+  same-clock = ap (λ v. v .elapsed) (two .is) ∙ placed-clock (two .number) (I .second .when) (two .from)
 
   -- "among equal deadlines on the wheel the one placed first comes out first, a reset counting as a new placing": the timer of j is set, then that of k,
   -- with one deadline as stored, which lies past elapsed when that of k is set; then a call that hands out k finds j no longer pending
@@ -352,7 +352,7 @@ module _ {s t : QueueWords} {j k : ℕ} (S : Sound s) (I : SetInTurn s j k t) (c
       w = storedOn (I .second)
 
       e : ℕ
-      e = two .before .elapsed
+      e = two .from .elapsed
 
       stored : max (I .second .when) e ≡ w
       stored = ⊎-elim (λ y. omega arith) (λ y. omega arith) (two .clock)
@@ -363,9 +363,9 @@ module _ {s t : QueueWords} {j k : ℕ} (S : Sound s) (I : SetInTurn s j k t) (c
       at-first : view (I .set) .deadline r ≡ storedOn (I .first)
       at-first =
           let is : r ≡ one .number = waits .names .number ∙ sym (one .key) in
-          let d : view (I .set) .deadline (one .number) ≡ max (I .first .when) (one .before .elapsed)
-          = ap (λ v. v .deadline (one .number)) (one .is) ∙ placed-deadline (one .number) (I .first .when) (one .before) in
-          let q : max (I .first .when) (one .before .elapsed) ≡ storedOn (I .first) = ⊎-elim (λ y. omega arith) (λ y. omega arith) (one .clock) in
+          let d : view (I .set) .deadline (one .number) ≡ max (I .first .when) (one .from .elapsed)
+          = ap (λ v. v .deadline (one .number)) (one .is) ∙ placed-deadline (one .number) (I .first .when) (one .from) in
+          let q : max (I .first .when) (one .from .elapsed) ≡ storedOn (I .first) = ⊎-elim (λ y. omega arith) (λ y. omega arith) (one .clock) in
           ap (view (I .set) .deadline) is ∙ d ∙ q
 
       kept : Reaches (view (I .later)) j (view (I .set) .value r) (view (I .set) .period r) (view (I .set) .deadline r)
@@ -383,7 +383,7 @@ module _ {s t : QueueWords} {j k : ℕ} (S : Sound s) (I : SetInTurn s j k t) (c
       m = front .names .pending
 
       away : front .place ≢ expired
-      away = λ (z : front .place ≡ expired). omega (arith, both-sound .rule .free both-rest .stack r (rw z at (m .member)), equal, stored, past, same-clock)
+      away = λ (z : front .place ≡ expired). omega (arith, both-sound .rule .free both-rest .expired r (rw z at (m .member)), equal, stored, past, same-clock)
 
       here : front .place ≡ target e (max (I .second .when) e)
       here =
@@ -396,28 +396,28 @@ module _ {s t : QueueWords} {j k : ℕ} (S : Sound s) (I : SetInTurn s j k t) (c
   expired-first-out come come-too = never-so here equal
     where
       e : ℕ
-      e = two .before .elapsed
+      e = two .from .elapsed
 
-      on-stack : Names (view (I .later)) j r expired
-      on-stack =
+      on-expired : Names (view (I .later)) j r expired
+      on-expired =
           let M = waits .names in
-          let h : I .first .when ≤ one .before .elapsed = ⊎-elim (λ y. omega arith) (λ y. omega arith) (one .clock) in
+          let h : I .first .when ≤ one .from .elapsed = ⊎-elim (λ y. omega arith) (λ y. omega arith) (one .clock) in
           let is : r ≡ one .number = M .number ∙ sym (one .key) in
           let m : Mem r (view (I .set) .lists expired)
-          = rw (is, ap (λ v. v .lists expired) (one .is)) (placed-in (one .number) (I .first .when) (one .before) h) in
+          = rw (is, ap (λ v. v .lists expired) (one .is)) (placed-in (one .number) (I .first .when) (one .from) h) in
           run-expired set-sound
           (record { number = M .number; below = M .below; pending = record { timed = omega arith; member = m }; turn = M .turn })
           (I .then) (waits .spared)
 
       m : Mem r (view (I .both) .lists expired)
-      m = stays .expired (on-stack .pending .member)
+      m = stays .expired (on-expired .pending .member)
 
       here : front .place ≡ target e (max (I .second .when) e)
       here =
           let h : I .second .when ≤ e = ⊎-elim (λ y. omega arith) (λ y. omega arith) (two .clock) in
-          one-list both-sound r (front .place) expired (front .names .pending .member) m ∙ sym (stacked h)
+          one-list both-sound r (front .place) expired (front .names .pending .member) m ∙ sym (placeWordsOf h)
 
       equal : view (I .both) .deadline r ≡ max (I .second .when) e
       equal =
           let h : I .second .when ≤ e = ⊎-elim (λ y. omega arith) (λ y. omega arith) (two .clock) in
-          omega (arith, both-sound .rule .free both-rest .stack r m, same-clock)
+          omega (arith, both-sound .rule .free both-rest .expired r m, same-clock)

@@ -1,4 +1,4 @@
--- What "First set, first out" asks can be met: in a store of two records two timers are set for one time and polled at it, and come out in turn; so they do
+-- What "First set, first out" asks can be met: in a store of two records two timers are set for one time and polled at it, and come out in order; so they do
 -- with a pause between their moves (`paused-shown`), and so do two for the start of the next block, which are parked (`parked-shown`,
 -- `parked-paused-shown`).
 use mathlib.Core.Path.{_≡_, refl, sym, ap, _∙_, subst}
@@ -13,12 +13,12 @@ use Rattle.times.specs.Times.{width, slotOf, startAt, block, blockEnd}
 use Rattle.times.proofs.laws.Quotients.{slot-lt}
 use Rattle.links.specs.Lists.{Mem, change}
 use Rattle.links.proofs.laws.Lists.{change-same, change-other}
-use Rattle.stack.specs.Places.{slotPlace, parking, expired, free, put}
-use Rattle.stack.proofs.laws.Places.{put-tail}
-use Rattle.stack.proofs.laws.Whole as stack-laws
+use Rattle.places.specs.Places.{slotPlace, parking, expired, free, put}
+use Rattle.places.proofs.laws.Places.{put-tail}
+use Rattle.places.proofs.laws.Whole as place-laws
 use Rattle.wheel.specs.Wheel.{Lists, FirstSlot, NextList, in-slot, in-parking, arrive}
 use Rattle.wheel.specs.Limited.{yet, Limited, finds, stops, moves}
-use Rattle.wheel.proofs.laws.Turns.{got-none}
+use Rattle.wheel.proofs.laws.Moves.{got-none}
 use Rattle.queue.specs.Steps.{polled-some, not-yet}
 use Rattle.queue.specs.declared.Answer.{Answer}
 use Rattle.queue.specs.Told.{Told, told, handing}
@@ -33,11 +33,11 @@ use Rattle.delay_queue.specs.declared.Call.the-variants as C
 use Rattle.delay_queue.specs.Claims.{CallClaim}
 use Rattle.promises.specs.Runs.{Asked, Runs, rest, next, Each, isPoll}
 use Rattle.promises.specs.Keys.{asked}
-use Rattle.promises.specs.KeysStay.{Out}
+use Rattle.promises.specs.KeysStay.{HandsKey}
 use Rattle.promises.specs.KeysReach.{Reaches}
 use Rattle.promises.specs.Polling.{IsPending, SaysOut, HandsLeast, PollLeast}
 use Rattle.promises.specs.Waiting.{Some}
-use Rattle.promises.specs.First.{NotSet, storedOn, SetInTurn, SecondOut}
+use Rattle.promises.specs.First.{NotSet, storedOn, SetInOrder, SecondOut}
 use Rattle.promises.proofs.laws.Met.{insert-met, poll-met}
 use Rattle.promises.proofs.laws.OneCall.{call-met, call-sound}
 use Rattle.promises.proofs.laws.Chained.{rest-of-whole}
@@ -142,8 +142,8 @@ module _ {s : QueueWords} {e : ℕ} (F : Fresh s e) (when now : ℕ) (near : Tak
   other w (inr (inl z)) = let e = z .0 in let y : _≡_ {A = ℕ} 0 1 = cc in omega arith
   other w (inr (inr z)) = true≢false (sym (poll-is (z .5)))
 
-  abbrev in-turn : {t : QueueWords} (l : List Asked) (R : Runs (m₂ .1) l t) → Each (NotSet j) R → Each (NotSet k) R → SetInTurn s j k t
-  in-turn l R f g =
+  abbrev in-order : {t : QueueWords} (l : List Asked) (R : Runs (m₂ .1) l t) → Each (NotSet j) R → Each (NotSet k) R → SetInOrder s j k t
+  in-order l R f g =
       record {
         set = m₁ .1;
         later = m₁ .1;
@@ -159,7 +159,7 @@ module _ {s : QueueWords} {e : ℕ} (F : Fresh s e) (when now : ℕ) (near : Tak
       }
 
   -- a poll at the time hands out the first, since it may not hand out the second
-  module _ (never : (a : Answer) (u : QueueWords) → CallClaim (C.Poll now) (m₂ .1) a u → Out k (told a) → ⊥) where
+  module _ (never : (a : Answer) (u : QueueWords) → CallClaim (C.Poll now) (m₂ .1) a u → HandsKey k (told a) → ⊥) where
     m₃ : (a : Answer) × (t : QueueWords) × CallClaim (C.Poll now) (m₂ .1) a t
     m₃ = poll-met (m₂ .1) now
 
@@ -217,7 +217,7 @@ module _ {s : QueueWords} {e : ℕ} (F : Fresh s e) (when now : ℕ) (near : Tak
         let d : got₄ .timer ≢ got .timer = λ e. first-gone (rw e at waits) in
         omega (arith, b, size₂, d, first-is, got .names .below, K .names .number, K₃ .names .number)
 
-    out₄ : Out k (told (m₄ .0))
+    out₄ : HandsKey k (told (m₄ .0))
     out₄ =
         let q : k ≡ says₄ .0 = key-is (K₃ .names) ∙ ap (keyOf (view (m₃ .1))) (sym second-is) ∙ sym (key-is (got₄ .names)) in
         (says₄ .1, says₄ .2, says₄ .3, says₄ .4, rw q (says₄ .5))
@@ -234,7 +234,7 @@ module _ {s : QueueWords} {e : ℕ} (F : Fresh s e) (when now : ℕ) (near : Tak
           call = C.Poll now;
           answer = m₄ .0;
           sound = F .sound;
-          run = in-turn l R f g;
+          run = in-order l R f g;
           poll = m₄ .2;
           out = out₄;
         }
@@ -246,7 +246,7 @@ module _ {s : QueueWords} {e : ℕ} (F : Fresh s e) (when now : ℕ) (near : Tak
 
 -- ---- such runs there are
 
--- set for one deadline, past elapsed when the second is set, they come out in turn
+-- set for one deadline, past elapsed when the second is set, they come out in order
 module _ {s : QueueWords} {e : ℕ} (F : Fresh s e) (when now : ℕ) (near : Takes e when) (due : max when e ≤ now) (late : e < when) where
   same-stored : max when (elapsed s) ≡ max when (elapsed (m₁ F when now near due .1))
   same-stored = omega (arith, clock₁ F when now near due, F .clock)
@@ -254,9 +254,9 @@ module _ {s : QueueWords} {e : ℕ} (F : Fresh s e) (when now : ℕ) (near : Tak
   late-stored : elapsed (m₁ F when now near due .1) < max when (elapsed (m₁ F when now near due .1))
   late-stored = omega (arith, clock₁ F when now near due, late)
 
-  never-second : (a : Answer) (u : QueueWords) → CallClaim (C.Poll now) (m₂ F when now near due .1) a u → Out (k F when now near due) (told a) → ⊥
+  never-second : (a : Answer) (u : QueueWords) → CallClaim (C.Poll now) (m₂ F when now near due .1) a u → HandsKey (k F when now near due) (told a) → ⊥
   never-second a u P o =
-      first-set-first-out (F .sound) (in-turn F when now near due [] rest tt tt) (C.Poll now) a u P o (J F when now near due .names) same-stored late-stored
+      first-set-first-out (F .sound) (in-order F when now near due [] rest tt tt) (C.Poll now) a u P o (J F when now near due .names) same-stored late-stored
 
 -- two for 70, polled at 70
 pub first-shown : (x : SecondOut) × (storedOn (x .run .first) ≡ storedOn (x .run .second)) × (elapsed (x .run .later) < storedOn (x .run .second))
@@ -273,7 +273,7 @@ expired-shown =
     let F = fresh-two 0 .1 in
     let near : Takes 0 0 = takes-so (omega arith) (λ h. absurd (omega arith)) in
     let due : max 0 0 ≤ 0 = omega arith in
-    let I = in-turn F 0 0 near due [] rest tt tt in
+    let I = in-order F 0 0 near due [] rest tt tt in
     let N = J F 0 0 near due .names in
     (second-out F 0 0 near due (λ a u P o. expired-first-out (F .sound) I (C.Poll 0) a u P o N (omega arith) (omega arith)), omega arith, omega arith)
 
@@ -355,7 +355,7 @@ module _ {s : QueueWords} {e : ℕ} (F : Fresh s e) (when now : ℕ) (near : Tak
         reaches-on (D₂ F when now near due .sound) R (next {x = asked (C.PollSome now b) (y .0)} (y .2) rest)
         ((λ z. absurd z, λ o. none-out (ap handing (sym says-yet) ∙ o .4)), tt)
 
-    module _ (never : (a : Answer) (u : QueueWords) → CallClaim (C.Poll now) set₂ a u → Out (k F when now near due) (told a) → ⊥) where
+    module _ (never : (a : Answer) (u : QueueWords) → CallClaim (C.Poll now) set₂ a u → HandsKey (k F when now near due) (told a) → ⊥) where
       abbrev third : (a : Answer) × (t : QueueWords) × CallClaim (C.Poll now) set₂ a t
       third = m₃ F when now near due never
 
@@ -403,7 +403,7 @@ module _ {s : QueueWords} (F : Fresh s 0) (near : Takes 0 70) (due : max 70 0 �
         steps = 1;
         near = omega arith;
         is = omega (arith, own-slot);
-        before = λ i h. else-70 (slotPlace 1 ((slotOf (v .elapsed) 1 + i) % 64)) (omega arith) (omega (arith, own-slot, h));
+        passed = λ i h. else-70 (slotPlace 1 ((slotOf (v .elapsed) 1 + i) % 64)) (omega arith) (omega (arith, own-slot, h));
         head = 0;
         rest = 1 ∷ [];
         filled = in-slot-70;
@@ -421,7 +421,7 @@ module _ {s : QueueWords} (F : Fresh s 0) (near : Takes 0 70) (due : max 70 0 �
   stops-70 : Limited (v .deadline) 70 none 1 (v .elapsed) (v .lists) (yet 65) 1 0 (v .elapsed) moved
   stops-70 = finds (in-slot first-slot) (omega (arith, starts-at)) (moves in-slot-70 (stops still-there))
 
--- two for 70, polled at 70 with a pause between the moves of the first and of the second: they come out in turn all the same
+-- two for 70, polled at 70 with a pause between the moves of the first and of the second: they come out in order all the same
 pub paused-shown : (x : SecondOut) × (storedOn (x .run .first) ≡ storedOn (x .run .second)) × (elapsed (x .run .later) < storedOn (x .run .second))
     × Some (λ y. SaysYet (told (y .answer))) (x .run .after)
 paused-shown =
@@ -474,7 +474,7 @@ module _ {s : QueueWords} (F : Fresh s 1) (near : Takes 1 start) (due : max star
       = in-parking (λ q h. none-else q (omega (arith, h)) (omega (arith, h))) both in
       finds X (omega (arith, block-starts)) (stops both)
 
--- set at 1 for 2^36 they are parked, and polled at 2^36 they come out in turn
+-- set at 1 for 2^36 they are parked, and polled at 2^36 they come out in order
 pub parked-shown : (x : SecondOut) × (storedOn (x .run .first) ≡ storedOn (x .run .second)) × (elapsed (x .run .later) < storedOn (x .run .second))
     × BothIn x parking
 parked-shown =

@@ -7,7 +7,7 @@ use native.Mathlib.Decide.{ℕ-discrete}
 use native.Mathlib.Omega.{arith}
 use Rattle.links.specs.Lists.{nobody}
 use Rattle.links.proofs.laws.Lists.{change-same}
-use Rattle.stack.specs.Places.{free, put}
+use Rattle.places.specs.Places.{free, put}
 use Rattle.queue.specs.declared.Answer.{Answer}
 use Rattle.queue.specs.declared.Answer.the-variants as A
 use Rattle.queue.specs.Told.{Told, told}
@@ -33,7 +33,7 @@ use Rattle.promises.proofs.laws.Clock.{Stands, other-stands}
 use Rattle.promises.proofs.laws.Views.{ViewGoes, refuses, removes, call-goes, goes-rest}
 use Rattle.promises.proofs.laws.KeysOne.{Onward, onward-same, onward-then, freed-more, does-onward}
 use Rattle.promises.proofs.laws.KeysGone.{Given, Spent, given-onward, spent-onward, names-given, spent-unnamed, given-kept, out-spent, spent-kept, remove-spent, clear-spent}
-use Rattle.promises.specs.KeysStay.{Out}
+use Rattle.promises.specs.KeysStay.{HandsKey}
 use Rattle.promises.proofs.laws.KeysReach.{insert-reaches, key-removes}
 use Rattle.promises.specs.Keys.{Refuses, Leaves, cleared, polled, removed, Uses, asked, morning}
 use Rattle.promises.specs.Polling.{Finished}
@@ -138,24 +138,24 @@ module _ {s t u : QueueWords} {l : List Asked} {k : ℕ} (S : Sound s) where
     dead-key-changes-nothing C.Clear b w h B = absurd h
 
     -- and its timer is handed out no more: by no call of the run
-    pub dead-never-out : All (λ x. Out k (told (x .answer)) → ⊥) l
+    pub dead-never-out : All (λ x. HandsKey k (told (x .answer)) → ⊥) l
     dead-never-out =
-        run-all (λ x. Out k (told (x .answer)) → ⊥) (λ v. Spent v k) (numberIn k) (λ v w. spent-onward)
+        run-all (λ x. HandsKey k (told (x .answer)) → ⊥) (λ v. Spent v k) (numberIn k) (λ v w. spent-onward)
         (λ z Z P x w D o. spent-kept Z D P (o .4))
         after-leave (left-spent S c a t L A) r f
 
     -- nor by one after it
-    pub dead-not-out : (d : Call) (b : Answer) (w : QueueWords) → CallClaim d u b w → Out k (told b) → ⊥
+    pub dead-not-out : (d : Call) (b : Answer) (w : QueueWords) → CallClaim d u b w → HandsKey k (told b) → ⊥
     dead-not-out d b w B o = let U = run-sound after-leave r in spent-kept U (call-goes d u b w U B) spent (o .4)
 
 module _ {s t u : QueueWords} {l : List Asked} {c : Call} {now k i p : ℕ} (S : Sound s) (at : PollAt c now) (a : Answer) (A : CallClaim c s a t)
-    (o : Out k (told a)) (N : Names (view s) k i p) (d : Finished (view s) i (told a)) (r : Runs t l u) (f : NoFormat l) where
+    (o : HandsKey k (told a)) (N : Names (view s) k i p) (d : Finished (view s) i (told a)) (r : Runs t l u) (f : NoFormat l) where
   -- "none comes out twice", 02 [7]: "read per placing": a poll hands out k, which it does not set again, and no call of the run does so again
-  pub out-once : All (λ x. Out k (told (x .answer)) → ⊥) l
+  pub out-once : All (λ x. HandsKey k (told (x .answer)) → ⊥) l
   out-once = dead-never-out S c a A (polled at (o .4) N d) r f
 
   -- nor does a call after it
-  pub out-once-after : (e : Call) (b : Answer) (w : QueueWords) → CallClaim e u b w → Out k (told b) → ⊥
+  pub out-once-after : (e : Call) (b : Answer) (w : QueueWords) → CallClaim e u b w → HandsKey k (told b) → ⊥
   out-once-after e b w B = dead-not-out S c a A (polled at (o .4) N d) r f e b w B
 
 -- ---- such runs there are

@@ -9,8 +9,8 @@ use native.Mathlib.Omega.{arith}
 use borrow.Author.Tests.{eq-eqb, ne-eqb}
 use Rattle.links.specs.Lists.{Mem, without}
 use Rattle.links.proofs.laws.Lists.{Nodup}
-use Rattle.stack.specs.Places.{free}
-use Rattle.stack.proofs.laws.Whole as stack-laws
+use Rattle.places.specs.Places.{free}
+use Rattle.places.proofs.laws.Whole as place-laws
 use Rattle.queue.specs.declared.Answer.{Answer}
 use Rattle.queue.specs.Told.{Told, Hands, timer}
 use Rattle.queue.specs.Told as T
@@ -91,7 +91,7 @@ module _ {s : QueueWords} (S : Sound s) where
   unfolding left
   left-out {i} {p} a q m =
       moved-out S i p (a .member) (without i (view s .lists p))
-      (without-out i (view s .lists p) (stack-laws.list-nodup (S .standing .whole .stack) p)) q m
+      (without-out i (view s .lists p) (place-laws.list-nodup (S .standing .whole .places) p)) q m
 
 -- ---- the key of a record that is freed is spent
 
@@ -152,7 +152,7 @@ module _ {s : QueueWords} (S : Sound s) where
       let e = clear-once A (taken-up S (clear-done C refl (s .hand) (s .until))) .1 in
       let x = rw e at b in
       let y : At (view (m .0)) r p = record { timed = x .timed; member = x .member } in
-      C .gone r (omega (arith, stack-laws.member-below (C .standing .whole .stack) p r (y .member))) p y
+      C .gone r (omega (arith, place-laws.member-below (C .standing .whole .places) p r (y .member))) p y
 
   pub clear-spent : {k i p : ℕ} → Names (view s) k i p → {a : Answer} {t : QueueWords} → ClearClaim s a t → Spent (view t) k
   clear-spent {k} N {a} {t} A =
@@ -171,7 +171,7 @@ module _ {s : QueueWords} (S : Sound s) {k : ℕ} where
   insert-new : Given (view s) k → {value when period : ℕ} {x : Told} {w : View} → ViewGoes (view s) (C.Insert value when period) x w → x ≢ T.key k
   insert-new G refuses z = let y : _≡_ {A = ℕ} 0 1 = cc in omega arith
   insert-new G (inserts {r = i} e) z =
-      let h = stack-laws.member-below (S .standing .whole .stack) free i (rw e (inl refl)) in
+      let h = place-laws.member-below (S .standing .whole .places) free i (rw e (inl refl)) in
       let q : k ≡ keyOf (view s) i = cc in
       let number : i ≡ numberIn k = omega arith in
       let turn : view s .turn i ≡ turnIn k = omega arith in

@@ -9,7 +9,7 @@ use native.Mathlib.Omega.{arith}
 use borrow.Author.Tests.{eq-eqb, ne-eqb}
 use Rattle.links.specs.Lists.{nobody, Mem}
 use Rattle.links.proofs.laws.Lists.{change-other}
-use Rattle.stack.specs.Places.{free, put}
+use Rattle.places.specs.Places.{free, put}
 use Rattle.wheel.proofs.laws.Sums.{mem-joined, mem-left}
 use Rattle.queue.specs.Told.{Told}
 use Rattle.records.specs.View.{View, withElapsed, withValue, withHand, upd, withPeriod}

@@ -6,8 +6,8 @@ use mathlib.Core.Option.{none, some}
 use Prim.Native.Nat.{ℕ, _<_, max}
 use native.Mathlib.Omega.{arith}
 use Rattle.links.proofs.laws.Lists.{change-same}
-use Rattle.stack.specs.Places.{free}
-use Rattle.stack.proofs.laws.Whole as stack-laws
+use Rattle.places.specs.Places.{free}
+use Rattle.places.proofs.laws.Whole as place-laws
 use Rattle.wheel.proofs.laws.Sums.{put-mem}
 use Rattle.queue.specs.declared.Answer.{Answer}
 use Rattle.queue.specs.Told.{Told, told, Hands, handing}
@@ -27,7 +27,7 @@ use Rattle.promises.proofs.laws.OneCall.{call-sound}
 use Rattle.promises.specs.Runs.{Asked, Runs, rest, next, All}
 use Rattle.promises.proofs.laws.Runs.{run-sound}
 use Rattle.promises.proofs.laws.Views.{ViewGoes, refuses, inserts, resets, call-goes, out-polls}
-use Rattle.promises.proofs.laws.Polling.{target-timed, saysOf, Fairly, Polled, poll-works, none-out}
+use Rattle.promises.proofs.laws.Polling.{target-timed, saysOf, Fairly, PolledBy, poll-works, none-out}
 use Rattle.promises.proofs.laws.KeysStay.{Stays, does-stays}
 use Rattle.promises.specs.KeysReach.{Reaches, Spares}
 use Rattle.promises.proofs.laws.TakesOut.{gotBy, key-of-names}
@@ -63,7 +63,7 @@ module _ {s : QueueWords} (S : Sound s) where
       → Reaches w k value period (max when (elapsed s))
   insert-does refuses z = let y : _≡_ {A = ℕ} 0 1 = cc in absurd (omega arith)
   insert-does {value} {when} {period} (inserts {r = i} {l = l} e) {k} z =
-      let h = stack-laws.member-below (S .standing .whole .stack) free i (rw e (inl refl)) in
+      let h = place-laws.member-below (S .standing .whole .places) free i (rw e (inl refl)) in
       let q : k ≡ keyOf (view s) i = cc in
       let u = withPeriod (upd (view s .period) i period) (withValue (upd (view s .value) i value) (taken l (view s))) in
       let number : i ≡ numberIn k = omega arith in
@@ -88,7 +88,7 @@ module _ {s : QueueWords} (S : Sound s) where
       → Hands x k v e m n → (v ≡ y) × (e ≡ d)
   poll-tells {now} {x = x} {w = w} h Q {k} {y} {d = d} {v} {e} R z = by (P .outcome) (P .is) (P .by .fair)
     where
-      P : Polled (view s) now x w
+      P : PolledBy (view s) now x w
       P = poll-works S h Q
 
       by : (o : Outcome) → handing x ≡ saysOf (view s) (gotBy o) (P .moves) (P .drains) → Fairly (view s) now o → (v ≡ y) × (e ≡ d)
@@ -131,8 +131,8 @@ module _ {s : QueueWords} (S : Sound s) where
   keys-apart {r} {p} {q} {o} a b e =
       omega (
         arith,
-        stack-laws.member-below (S .standing .whole .stack) p r (a .member),
-        stack-laws.member-below (S .standing .whole .stack) o q (b .member),
+        place-laws.member-below (S .standing .whole .places) p r (a .member),
+        place-laws.member-below (S .standing .whole .places) o q (b .member),
       )
 
   -- the key that an insert answers reaches what was inserted: "Insert and reset first raise the deadline to elapsed if it is smaller"

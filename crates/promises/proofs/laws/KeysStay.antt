@@ -8,7 +8,7 @@ use Prim.Native.Nat.{ℕ, max, _+_}
 use native.Mathlib.Omega.{arith}
 use Rattle.links.specs.Lists.{Mem, without, change}
 use Rattle.links.proofs.laws.Lists.{change-other}
-use Rattle.stack.specs.Places.{expired, free}
+use Rattle.places.specs.Places.{expired, free}
 use Rattle.wheel.proofs.laws.Sums.{mem-kept, put-mem}
 use Rattle.queue.specs.Told.{Told, timer}
 use Rattle.queue.specs.Told as T
@@ -24,7 +24,7 @@ use Rattle.promises.specs.OneCall.{isNo}
 use Rattle.promises.proofs.laws.Views.{ViewGoes, refuses, formats, inserts, resets, removes, polls, wakes, counts, clears}
 use Rattle.promises.proofs.laws.Polling.{freed-beside, goes-on-says}
 use Rattle.promises.proofs.laws.TakesOut.{Other, one-list, TakenOut, taken-out}
-use Rattle.promises.specs.KeysStay.{Aims, Out}
+use Rattle.promises.specs.KeysStay.{Aims, HandsKey}
 
 -- a key is its record's number and turn
 pub key-is : {v : View} {k r p : ℕ} → Names v k r p → k ≡ keyOf v r
@@ -151,7 +151,7 @@ module _ {s : QueueWords} (S : Sound s) {k r p : ℕ} (N : Names (view s) k r p)
   not-handed : (i : ℕ) {x y m n : ℕ} → (timer (keyOf (view s) i) x y m n ≡ timer k x y m n → ⊥) → r ≢ i
   not-handed i {x} {y} {m} {n} out e = out (ap (λ j. timer j x y m n) (ap (keyOf (view s)) (sym e) ∙ sym (key-is N)))
 
-  poll-stays : {now limit : ℕ} {x : Told} {w : View} → PollTaken (view s) now → PollsSome (view s) now limit x w → (Out k x → ⊥)
+  poll-stays : {now limit : ℕ} {x : Told} {w : View} → PollTaken (view s) now → PollsSome (view s) now limit x w → (HandsKey k x → ⊥)
       → Stays (view s) w r
   poll-stays h (handed-some {r = i} {u = u} T G) out =
       let d : r ≢ i = not-handed i (λ e. out (_, _, _, _, goes-on-says G ∙ e)) in
@@ -164,7 +164,7 @@ module _ {s : QueueWords} (S : Sound s) {k r p : ℕ} (N : Names (view s) k r p)
   poll-stays h (nothing-some T) out = stays-taken-out (taken-out S h T) r tt
   poll-stays h (not-yet T) out = stays-taken-out (taken-out S h T) r tt
 
-  pub does-stays : {c : Call} {x : Told} {w : View} → ViewGoes (view s) c x w → (Aims k c → not (isNo x) ≡ false) → (Out k x → ⊥)
+  pub does-stays : {c : Call} {x : Told} {w : View} → ViewGoes (view s) c x w → (Aims k c → not (isNo x) ≡ false) → (HandsKey k x → ⊥)
       → Stays (view s) w r
   does-stays refuses aims out = stays-same (view s) r
   does-stays formats aims out = absurd (true≢false (aims tt))

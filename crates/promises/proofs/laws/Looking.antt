@@ -14,8 +14,8 @@ use Rattle.times.proofs.laws.Quotients.{floor-le, floor-zero}
 use Rattle.links.specs.Lists.{Mem}
 use Rattle.links.specs.Links.{at}
 use Rattle.links.specs.Count.{cnt}
-use Rattle.stack.specs.Places.{slotPlace, parking, expired, free, levelAt}
-use Rattle.stack.proofs.laws.Whole as stack-laws
+use Rattle.places.specs.Places.{slotPlace, parking, expired, free, levelAt}
+use Rattle.places.proofs.laws.Whole as place-laws
 use Rattle.wheel.specs.Wheel.{Lists, Rule, NextList, in-slot, in-parking, NoneWaits, Polls, idle, early, out, drain}
 use Rattle.wheel.specs.Between.{Between}
 use Rattle.wheel.proofs.laws.Between.{rule-between}
@@ -119,8 +119,8 @@ now-at : {v : View} → Rule (v .deadline) (v .elapsed) (v .lists) → {r : ℕ}
 now-at {v} R n =
     record {
       not-past = omega arith;
-      in-time = λ x o. ⊎-elim (λ s. not-before R (s .0) x (s .1 .below) (s .1 .member)) (λ m. omega (arith, R .stack x m)) (pending-where o);
-      due = λ x m. (refl, sym (R .stack x m));
+      in-time = λ x o. ⊎-elim (λ s. not-before R (s .0) x (s .1 .below) (s .1 .member)) (λ m. omega (arith, R .expired x m)) (pending-where o);
+      due = λ x m. (refl, sym (R .expired x m));
       ahead = λ z. absurd (nil≢cons (sym z ∙ n));
     }
 
@@ -223,7 +223,7 @@ only-elapsed {s} {t} {now} S z T K e =
       standing =
           record {
             fits = A .fits;
-            whole = record { stack = A .whole .stack; rows = A .whole .rows };
+            whole = record { places = A .whole .places; occupied = A .whole .occupied };
             turns = A .turns;
             retired = A .retired;
           };
@@ -249,7 +249,7 @@ pub pending-exactly : {s : QueueWords} → Sound s → (i : ℕ) → i < count s
 pending-exactly {s} S i h = (
   λ e. let l = ltb-true (markOf s i) free e in (
     markOf s i,
-    record { timed = l; member = stack-laws.marked-member (S .standing .whole .stack) i h (omega arith) },
+    record { timed = l; member = place-laws.marked-member (S .standing .whole .places) i h (omega arith) },
   ),
   λ p a. lt-ltb (markOf s i) free (omega (arith, mark-at (S .standing) a)),
 )

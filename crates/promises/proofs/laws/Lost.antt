@@ -6,8 +6,8 @@ use mathlib.Core.Bool.{false}
 use Prim.Native.Nat.{ℕ, _<_}
 use native.Mathlib.Omega.{arith}
 use Rattle.links.specs.Lists.{nobody, Mem}
-use Rattle.stack.specs.Places.{retired}
-use Rattle.stack.proofs.laws.Whole as stack-laws
+use Rattle.places.specs.Places.{retired}
+use Rattle.places.proofs.laws.Whole as place-laws
 use Rattle.queue.specs.declared.Answer.{Answer}
 use Rattle.queue.specs.Told.{told}
 use Rattle.queue.specs.Told as T
@@ -22,7 +22,7 @@ use Rattle.promises.proofs.laws.Refused.{unsound-refused}
 
 pub lost-unsound : {s : QueueWords} {i : ℕ} → Lost s i → Sound s → ⊥
 lost-unsound {s} {i} L S =
-    L .mark (sound-retired S i (L .below) (stack-laws.unlisted-mark (S .standing .whole .stack) i (L .below) (L .nowhere)) .0)
+    L .mark (sound-retired S i (L .below) (place-laws.unlisted-mark (S .standing .whole .places) i (L .below) (L .nowhere)) .0)
 
 -- no timer is lost in silence
 pub lost-refused : {s : QueueWords} {i : ℕ} → Lost s i → (c : Call) (a : Answer) (t : QueueWords) → CallClaim c s a t → isFormat c ≡ false
@@ -41,6 +41,6 @@ pub retired-exactly : {s : QueueWords} → Sound s → (i : ℕ) → i < count s
     → (((p : ℕ) → Mem i (view s .lists p) → ⊥) ↔ (markOf s i ≡ retired)) × (markOf s i ≡ retired → view s .turn i ≡ lastTurn)
 retired-exactly S i h =
     let W = S .standing .whole in (
-      (λ out. sound-retired S i h (stack-laws.unlisted-mark (W .stack) i h out) .0, λ m. unmarked-out W i (omega (arith, m))),
+      (λ out. sound-retired S i h (place-laws.unlisted-mark (W .places) i h out) .0, λ m. unmarked-out W i (omega (arith, m))),
       λ m. sound-retired S i h (omega (arith, m)) .1,
     )

@@ -10,8 +10,8 @@ use native.Mathlib.Omega.{arith}
 use borrow.Author.Tests.{eq-eqb, ne-eqb}
 use Rattle.times.specs.Times.{slotOf}
 use Rattle.links.specs.Lists.{Mem, change}
-use Rattle.stack.specs.Places.{slotPlace, levelAt}
-use Rattle.stack.proofs.laws.Whole as stack-laws
+use Rattle.places.specs.Places.{slotPlace, levelAt}
+use Rattle.places.proofs.laws.Whole as place-laws
 use Rattle.wheel.specs.Wheel.{Lists, arrive}
 use Rattle.wheel.specs.Limited.{Outcome, ended as stopped, yet, Limited, rests, waits, hands, finds, stops, moves, empties}
 use Rattle.wheel.proofs.laws.Sums.{mem-joined, mem-left}
@@ -145,14 +145,14 @@ goes-on-masked {v} {r} {m} {n} {u} h g G = of G
 
 module _ {s : QueueWords} (S : Sound s) {now : ℕ} where
   some-masked : {limit m n : ℕ} {o : Outcome} {u : View} → TakesSome (view s) now limit o m n u → TakesSome (masked (view s)) now limit o m n (masked u)
-  some-masked T = takes-masked (stack-laws.member-below (S .standing .whole .stack)) T
+  some-masked T = takes-masked (place-laws.member-below (S .standing .whole .places)) T
 
   handed-masked : PollTaken (view s) now → {limit r m n : ℕ} {u : View} {x : Told} {w : View}
       → TakesSome (view s) now limit (stopped (some r)) m n u → GoesOn (view s) r m n u x w → GoesOn (masked (view s)) r m n (masked u) x (masked w)
   handed-masked K {r = r} T G =
       let O = taken-out S K T in
       let o = O .out r refl in
-      let b : r < count s = stack-laws.member-below (S .standing .whole .stack) (o .0) r (o .1 .member) in
+      let b : r < count s = place-laws.member-below (S .standing .whole .places) (o .0) r (o .1 .member) in
       goes-on-masked b (rw (O .size) b) G
 
   -- a poll with a limit, and a whole one that goes on

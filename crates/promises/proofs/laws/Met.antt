@@ -12,17 +12,17 @@ use Rattle.times.specs.Times.{maxDuration, block, levelOf, slotOf}
 use Rattle.times.proofs.laws.Quotients.{slot-lt}
 use Rattle.links.specs.Lists.{nobody}
 use Rattle.links.specs.Links.{at}
-use Rattle.stack.specs.Places.{slotPlace, slots, parking, expired, free, levelAt, slotAt}
-use Rattle.stack.specs.Heads.{slotHead}
-use Rattle.stack.specs.Format.{over, formatted}
-use Rattle.stack.specs.Words.{headAt as headIn, pop, remove}
+use Rattle.places.specs.Places.{slotPlace, slots, parking, expired, free, levelAt, slotAt}
+use Rattle.places.specs.Heads.{slotHead}
+use Rattle.places.specs.Format.{over, formatted}
+use Rattle.places.specs.Words.{headAt as headIn, pop, remove}
 use Rattle.wheel.specs.Wheel.{Lists, FirstSlot, EmptyWheel, NextList, in-slot, in-parking, NoneWaits, arrive}
 use Rattle.wheel.specs.Limited.{start}
 use Rattle.wheel.specs.Words.{WheelWords, wheelWords, markOf as markIn, lists as listsIn, CanPop, Pops, CanLeave, Leaves, CanAdd, Becomes}
 use Rattle.wheel.proofs.laws.Words.{headAt, popped-none, popped-more, popped-last, pops-aside, leaves-aside, leaves-more, leaves-last, add-law, push-aside}
 use Rattle.wheel.specs.Drain.{heights}
-use Rattle.wheel.specs.Turns.{CanTake, CanMove, MovesOne, DrainsTo, CanPoll, PollsTo}
-use Rattle.wheel.proofs.laws.Turns.{insert-adds, take-slot, taken-parking, moved-none, move-adds, moved-some, DrainedSo, turn-start, turn-can, turn-full, turn-more, turn-done, PolledSo, poll-start, poll-idle, poll-early, pop-can, place-can, poll-out, poll-finds, drain-can, poll-yet, poll-drained}
+use Rattle.wheel.specs.Moves.{CanTake, CanMove, MovesOne, DrainsTo, CanPoll, PollsTo}
+use Rattle.wheel.proofs.laws.Moves.{insert-adds, take-slot, taken-parking, moved-none, move-adds, moved-some, DrainedSo, step-start, step-can, step-full, step-more, step-done, PolledSo, poll-start, poll-idle, poll-early, pop-can, place-can, poll-out, poll-finds, drain-can, poll-yet, poll-drained}
 use Rattle.queue.specs.declared.Answer.{Answer}
 use Rattle.queue.specs.declared.Answer.the-variants as A
 use Rattle.queue.specs.Told.{told}
@@ -35,8 +35,8 @@ use Rattle.records.proofs.laws.Found.{no-far, no-near, no-old, no-recent, key-n
 use Rattle.records.specs.Inner.{LooseAt, CanPlace, PlacesTo, CanFree, LeavesTo}
 use Rattle.records.proofs.laws.Inner.{aside-now, aside-later, place-insert, placed-slot, place-aside, placed-aside, free-push, freed-last, freed-given}
 use Rattle.queue.proofs.laws.Calls.{insert-full, insert-refused, insert-place, insert-done, reset-dead, remove-dead, found-leaves, reset-refused, reset-place, reset-done, remove-frees, remove-done}
-use Rattle.queue.specs.Inner.{CanPollIdx, PollsIdx, of-stack, of-wheel, PollNo, HandsOut, pendingIn, ClearsOne}
-use Rattle.queue.proofs.laws.Polls.{out-frees, out-done, no-other as no-another, no-same, no-back, no-none, poll-refused, wheel-can, poll-can, poll-yet as poll-yet-on, poll-none, poll-loose, poll-handed, clear-stays, clear-leaves, clear-frees, clear-goes, ClearedSo, clear-none, clear-turn, clear-done, out-last, out-again, out-places}
+use Rattle.queue.specs.Inner.{CanPollIdx, PollsIdx, of-expired, of-wheel, PollNo, HandsOut, pendingIn, ClearsOne}
+use Rattle.queue.proofs.laws.Polls.{out-frees, out-done, no-other as no-another, no-same, no-back, no-none, poll-refused, wheel-can, poll-can, poll-yet as poll-yet-on, poll-none, poll-loose, poll-handed, clear-stays, clear-leaves, clear-frees, clear-goes, ClearedSo, clear-none, clear-step, clear-done, out-last, out-again, out-places}
 use Rattle.delay_queue.specs.Claims.{FormatClaim, Judging, InsertClaim, ResetClaim, RemoveClaim, PollClaim, PollSomeClaim, WakeClaim, LengthClaim, ClearClaim}
 use Rattle.delay_queue.proofs.laws.Back.{taken-up, length-done, whole-claim}
 use Rattle.delay_queue.proofs.laws.Format.{formats}
@@ -73,8 +73,8 @@ format-met s n turn =
     (λ T. (
       A.Done,
       queueWords
-          (wheelWords 0 (replicate 6 0) (formatted n (s .wheel .stack .links .nexts) (s .wheel .stack .links .prevs)
-          (s .wheel .stack .links .marks)))
+          (wheelWords 0 (replicate 6 0) (formatted n (s .wheel .places .links .nexts) (s .wheel .places .links .prevs)
+          (s .wheel .places .links .marks)))
           (over (2 * n) (λ i. 0) (s .values)) (over n (λ i. 0) (s .deadlines)) (over n (λ i. turn) (s .turns)) nobody 0,
       record {
         short = λ f. absurd (f F);
@@ -125,7 +125,7 @@ leave-met {t} {i} C =
     (λ h.
     let k : ℕ = levelAt (markIn t i) in
     let j : ℕ = slotAt (markIn t i) in
-    by-cases (ℕ-discrete (slotHead (remove (t .stack) i .heads) k j) nobody)
+    by-cases (ℕ-discrete (slotHead (remove (t .places) i .heads) k j) nobody)
     (λ z. (_, leaves-last C refl k j (omega arith) (omega arith) (omega arith) z refl))
     (λ z. (_, leaves-more C refl k j (omega arith) (omega arith) (omega arith) z)))
     (λ h. (_, leaves-aside C refl (omega arith)))
@@ -140,7 +140,7 @@ free-met {t} {ts} {i} C =
 
 insert-on : {s : QueueWords} → Sound s → AtRest s → (value when period : ℕ) → Met (InsertOn s value when period)
 insert-on {s} S rest value when period =
-    by-cases (ℕ-discrete (s .wheel .stack .stacks .free) nobody)
+    by-cases (ℕ-discrete (s .wheel .places .tops .free) nobody)
     (λ z. (A.No 3, s, insert-full S rest value when period z))
     (λ d.
     let D = deadline-met (elapsed s) when in
@@ -190,7 +190,7 @@ remove-met s key = freely-met s (λ S z. remove-on S z key)
 pub record FirstOf (f : ℕ → List ℕ) (n : ℕ) : Type 0 where
   pub index : ℕ
   pub within : index < n
-  pub before : (i : ℕ) → i < index → f i ≡ []
+  pub passed : (i : ℕ) → i < index → f i ≡ []
   pub head : ℕ
   pub rest : List ℕ
   pub filled : f index ≡ head ∷ rest
@@ -200,11 +200,11 @@ first-of f zero = inl (λ i h. absurd (omega arith))
 first-of f (suc n) = ⊎-elim (λ e. by e (f n) refl) (λ F. inr (more F)) (first-of f n)
   where
     more : FirstOf f n → FirstOf f (suc n)
-    more F = record { index = F .index; within = omega arith; before = F .before; head = F .head; rest = F .rest; filled = F .filled }
+    more F = record { index = F .index; within = omega arith; passed = F .passed; head = F .head; rest = F .rest; filled = F .filled }
 
     by : ((i : ℕ) → i < n → f i ≡ []) → (l : List ℕ) → f n ≡ l → ((i : ℕ) → i < suc n → f i ≡ []) ⊎ FirstOf f (suc n)
     by e [] q = inl (λ i h. by-cases (ℕ-discrete i n) (λ z. rw z q) (λ z. e i (omega arith)))
-    by e (x ∷ l) q = inr (record { index = n; within = omega arith; before = e; head = x; rest = l; filled = q })
+    by e (x ∷ l) q = inr (record { index = n; within = omega arith; passed = e; head = x; rest = l; filled = q })
 
 module _ (e : ℕ) (L : Lists) where
   -- the slots in the order in which they are looked at: level by level, each from elapsed's on
@@ -219,23 +219,23 @@ module _ (e : ℕ) (L : Lists) where
       rw (a, b)
 
   -- when a slot is looked at
-  turnOf : ℕ → ℕ
-  turnOf q = (slotAt q + 64 - slotOf e (levelAt q)) % 64
+  stepsTo : ℕ → ℕ
+  stepsTo q = (slotAt q + 64 - slotOf e (levelAt q)) % 64
 
-  turn-lt : (q : ℕ) → turnOf q < 64
-  unfolding turnOf
-  turn-lt q = omega arith
+  steps-lt : (q : ℕ) → stepsTo q < 64
+  unfolding stepsTo
+  steps-lt q = omega arith
 
-  look-slot : (q : ℕ) → look (64 * (levelAt q) + turnOf q) ≡ L q
-  unfolding turnOf
+  look-slot : (q : ℕ) → look (64 * (levelAt q) + stepsTo q) ≡ L q
+  unfolding stepsTo
   look-slot q =
-      let z : slotPlace (levelAt q) ((slotOf e (levelAt q) + turnOf q) % 64) ≡ q = omega (arith, slot-lt e (levelAt q)) in
-      look-at (levelAt q) (turnOf q) (turn-lt q) ∙ ap L z
+      let z : slotPlace (levelAt q) ((slotOf e (levelAt q) + stepsTo q) % 64) ≡ q = omega (arith, slot-lt e (levelAt q)) in
+      look-at (levelAt q) (stepsTo q) (steps-lt q) ∙ ap L z
 
   slot-met : EmptyWheel L ⊎ ((k : ℕ) × (s : ℕ) × FirstSlot e L k s)
   slot-met =
       ⊎-elim
-      (λ E. inl (λ q h. sym (look-slot q) ∙ E (64 * (levelAt q) + turnOf q) (omega (arith, turn-lt q))))
+      (λ E. inl (λ q h. sym (look-slot q) ∙ E (64 * (levelAt q) + stepsTo q) (omega (arith, steps-lt q))))
       (λ F. inr (found F))
       (first-of look slots)
     where
@@ -248,11 +248,11 @@ module _ (e : ℕ) (L : Lists) where
             (slotOf e k + j) % 64,
             record {
               within = omega arith;
-              lowest = λ q h. sym (look-slot q) ∙ F .before (64 * (levelAt q) + turnOf q) (omega (arith, turn-lt q));
+              lowest = λ q h. sym (look-slot q) ∙ F .passed (64 * (levelAt q) + stepsTo q) (omega (arith, steps-lt q));
               steps = j;
               near = omega arith;
               is = refl;
-              before = λ i h. sym (look-at k i (omega arith)) ∙ F .before (64 * k + i) (omega (arith, h));
+              passed = λ i h. sym (look-at k i (omega arith)) ∙ F .passed (64 * k + i) (omega (arith, h));
               head = F .head;
               rest = F .rest;
               filled = sym (look-at k j (omega arith)) ∙ ap look z ∙ F .filled;
@@ -311,7 +311,7 @@ clear-first {s} S (suc k) h =
     let C = m .1 in
     let g : k < count (m .0) = omega arith in
     let o = clear-one (C .standing) g in
-    (o .0, subst (λ i. ClearedSo s i (o .0)) (add-one k) (clear-turn C g (o .1)))
+    (o .0, subst (λ i. ClearedSo s i (o .0)) (add-one k) (clear-step C g (o .1)))
 
 pub clear-met : (s : QueueWords) → Met (ClearClaim s)
 clear-met s = judging-met s (λ S. let m = clear-first (S .standing) (count s) (omega arith) in (A.Done, _, clear-done (m .1) refl (s .hand) (s .until)))
@@ -325,7 +325,7 @@ pop-met {t} {k} {s} C =
     by-cases (ℕ-discrete (headAt t p) nobody)
     (λ z. (headAt t p, _, popped-none (C .whole) p (headAt t p) refl refl z))
     (λ d.
-    by-cases (ℕ-discrete (headIn (pop (t .stack) p) p) nobody)
+    by-cases (ℕ-discrete (headIn (pop (t .places) p) p) nobody)
     (λ z. (headAt t p, _, popped-last (C .whole) p (headAt t p) refl refl d k s (C .level) (C .slot) refl z refl))
     (λ z. (headAt t p, _, popped-more (C .whole) p (headAt t p) refl refl d z)))
 
@@ -355,15 +355,15 @@ module _ {t₀ : WheelWords} {ds : List ℕ} {k s : ℕ} (C : CanMove t₀ ds k 
   drain-loop zero S h = absurd (omega arith)
   drain-loop (suc fuel) {t} {left} S h =
       by-cases (ℕ-discrete left 0)
-      (λ z. (left, t, turn-full C S z))
+      (λ z. (left, t, step-full C S z))
       (λ n.
-      let M = move-met (turn-can C S) in
+      let M = move-met (step-can C S) in
       by-cases (ℕ-discrete (M .0) nobody)
-      (λ z. (left, M .1, turn-done C S (M .2) z))
-      (λ d. drain-loop fuel (turn-more C S (M .2) n d) (omega (arith, n, h))))
+      (λ z. (left, M .1, step-done C S (M .2) z))
+      (λ d. drain-loop fuel (step-more C S (M .2) n d) (omega (arith, n, h))))
 
   drain-met : Drained
-  drain-met = drain-loop (suc limit) (turn-start C limit) (omega arith)
+  drain-met = drain-loop (suc limit) (step-start C limit) (omega arith)
 
 module _ {t₀ : WheelWords} {ds : List ℕ} {hand now : ℕ} (C : CanPoll t₀ ds hand now) (limit : ℕ) where
   -- what a poll of the wheel ends with
@@ -396,7 +396,7 @@ module _ {t₀ : WheelWords} {ds : List ℕ} {hand now : ℕ} (C : CanPoll t₀ 
         left = D .0;
         made = limit - D .0;
         drains = drains + 1;
-        after = wheelWords (start (t .elapsed) place) (D .1 .occupied) (D .1 .stack);
+        after = wheelWords (start (t .elapsed) place) (D .1 .occupied) (D .1 .places);
         so = r .0;
         less = r .1;
       }))
@@ -453,7 +453,7 @@ idx-met {t} C limit =
     let Q = pops-aside (C .whole) expired first refl refl (omega arith) in
     by-cases (ℕ-discrete first nobody)
     (λ z. let R = wheel-met (wheel-can C Q z) limit in (R .0, R .1, R .2, R .3, R .4, of-wheel Q z (R .5)))
-    (λ d. (first, nobody, 0, 0, _, of-stack Q d))
+    (λ d. (first, nobody, 0, 0, _, of-expired Q d))
 
 number-met : (e hand until time : ℕ) → (n : ℕ) × PollNo e hand until time n
 number-met e hand until time =

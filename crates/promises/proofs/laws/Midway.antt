@@ -14,15 +14,15 @@ use Rattle.links.specs.Lists.{nobody, Mem, without, change}
 use Rattle.links.proofs.laws.Lists.{Nodup, nodup-apart, mem-right, without-split, change-same, change-other}
 use Rattle.links.specs.Links.{at}
 use Rattle.links.proofs.laws.Whole as links-laws
-use Rattle.stack.specs.Places.{slotPlace, slots, expired, free, places, put, levelAt}
-use Rattle.stack.proofs.laws.Places.{put-tail}
-use Rattle.stack.proofs.laws.Heads.{upd-head}
-use Rattle.stack.specs.Words.{StackWords, count as countIn, headAt, markOf as markIn, toHead, remove}
-use Rattle.stack.specs.Whole as stack
-use Rattle.stack.specs.Whole.{Whole, lists, StackKept, Changes}
-use Rattle.stack.proofs.laws.Whole as stack-laws
+use Rattle.places.specs.Places.{slotPlace, slots, expired, free, places, put, levelAt}
+use Rattle.places.proofs.laws.Places.{put-tail}
+use Rattle.places.proofs.laws.Heads.{upd-head}
+use Rattle.places.specs.Words.{PlaceWords, count as countIn, headAt, markOf as markIn, toHead, remove}
+use Rattle.places.specs.Whole as places
+use Rattle.places.specs.Whole.{Whole, lists, PlacesKept, Changes}
+use Rattle.places.proofs.laws.Whole as place-laws
 use Rattle.wheel.specs.Wheel.{Lists, arrive}
-use Rattle.wheel.specs.Rows.{flags, Rows}
+use Rattle.wheel.specs.Occupied.{flags, Occupied}
 use Rattle.wheel.specs.Words.{wheelWords}
 use Rattle.wheel.specs.Limited.{yet, Limited, finds, stops, moves, empties}
 use Rattle.wheel.specs.Midway.{Comes}
@@ -43,24 +43,24 @@ use Rattle.promises.proofs.laws.Masked.{arrive-from}
 -- ---- the words with one record at the head of a list
 
 -- a loose record comes to the head of the list of p, whichever place p is
-to-head : {t : StackWords} → Whole t → (p i : ℕ) → p < places → i < countIn t → markIn t i ≡ nobody → Changes t p (i ∷ lists t p) (toHead t p i)
+to-head : {t : PlaceWords} → Whole t → (p i : ℕ) → p < places → i < countIn t → markIn t i ≡ nobody → Changes t p (i ∷ lists t p) (toHead t p i)
 unfolding lists
 to-head {t} W p i hp hi lo =
-    stack-laws.changed W p i (stack-laws.still W i p (links-laws.joined-marks (t .links) p i (headAt t p)) (omega (arith, lo)))
-    (links-laws.join-law (W .held) p i hp hi lo (upd-head (t .heads) (W .shape) (t .stacks) p i hp))
+    place-laws.changed W p i (place-laws.still W i p (links-laws.joined-marks (t .links) p i (headAt t p)) (omega (arith, lo)))
+    (links-laws.join-law (W .held) p i hp hi lo (upd-head (t .heads) (W .shape) (t .tops) p i hp))
 
 -- ---- the words before a poll
 
 -- words with the lists L, that t has come from: as many records, the words past them, who is retired, and who is in no list
-record Undone (t : StackWords) (L : Lists) : Type 0 where
-  words : StackWords
+record Undone (t : PlaceWords) (L : Lists) : Type 0 where
+  words : PlaceWords
   whole : Whole words
   is : lists words ≡ L
-  kept : StackKept t words
+  kept : PlacesKept t words
   loose : (i : ℕ) → i < countIn t → places ≤ markIn words i → places ≤ markIn t i
 
 -- one move back: x was the head of p, and is the last of its slot one level down
-move-back : {t : StackWords} {p x : ℕ} (w : ℕ) {l : List ℕ} {L : Lists} → p < expired → L p ≡ x ∷ l
+move-back : {t : PlaceWords} {p x : ℕ} (w : ℕ) {l : List ℕ} {L : Lists} → p < expired → L p ≡ x ∷ l
     → Undone t (arrive (levelAt p - 1) w x (change L p l)) → Undone t L
 unfolding arrive
 move-back {t} {p} {x} w {l} {L} hp is U =
@@ -71,11 +71,11 @@ move-back {t} {p} {x} w {l} {L} hp is U =
     let hq : q < slots = omega (arith, slot-lt w k) in
     let end : lists u q ≡ J q ++ x ∷ [] = ap (λ (M : Lists). M q) (U .is) ∙ change-same J q (put q x (J q)) ∙ put-tail q x (J q) (omega (arith, hq)) in
     let m : Mem x (lists u q) = subst (Mem x) (sym end) (mem-right x (J q) (x ∷ []) (inl refl)) in
-    let mark : markIn u x ≡ q = stack-laws.member-mark (U .whole) q x m in
-    let hx : x < countIn u = stack-laws.member-below (U .whole) q x m in
+    let mark : markIn u x ≡ q = place-laws.member-mark (U .whole) q x m in
+    let hx : x < countIn u = place-laws.member-below (U .whole) q x m in
     let R : Changes u q (without x (lists u q)) (remove u x)
-    = subst (λ (j : ℕ). Changes u j (without x (lists u j)) (remove u x)) mark (stack-laws.remove-law (U .whole) x hx (omega (arith, mark, hq))) in
-    let apart = nodup-apart (J q) (x ∷ []) (subst Nodup end (stack-laws.list-nodup (U .whole) q)) x in
+    = subst (λ (j : ℕ). Changes u j (without x (lists u j)) (remove u x)) mark (place-laws.remove-law (U .whole) x hx (omega (arith, mark, hq))) in
+    let apart = nodup-apart (J q) (x ∷ []) (subst Nodup end (place-laws.list-nodup (U .whole) q)) x in
     let out : without x (lists u q) ≡ J q
     = ap (without x) end ∙ without-split x (J q) [] (λ i. apart i (inl refl)) ∙ append-nil (J q) in
     let v = remove u x in
@@ -84,7 +84,7 @@ move-back {t} {p} {x} w {l} {L} hp is U =
     by-cases (ℕ-discrete j q)
     (λ (e : j ≡ q). rw e (change-same (lists u) q (without x (lists u q)) ∙ out))
     (λ d. change-other (lists u) q (without x (lists u q)) j d ∙ ap (λ (M : Lists). M j) (U .is) ∙ change-other J q (put q x (J q)) j d)) in
-    let T = to-head (R .whole) p x (omega (arith, hp)) (rw (R .kept .size) hx) (stack-laws.remove-mark (U .whole) x hx .0) in
+    let T = to-head (R .whole) p x (omega (arith, hp)) (rw (R .kept .size) hx) (place-laws.remove-mark (U .whole) x hx .0) in
     let back : lists (toHead v p x) ≡ L
     = T .lists ∙ fun-ext (λ j.
     by-cases (ℕ-discrete j p)
@@ -94,12 +94,12 @@ move-back {t} {p} {x} w {l} {L} hp is U =
       words = toHead v p x;
       whole = T .whole;
       is = back;
-      kept = stack-laws.kept-trans (U .kept) (stack-laws.kept-trans (R .kept) (T .kept));
+      kept = place-laws.kept-trans (U .kept) (place-laws.kept-trans (R .kept) (T .kept));
       loose = λ i hi z. U .loose i hi
-          (stack-laws.unlisted-mark (U .whole) i (rw (U .kept .size) hi) (λ j m₁.
+          (place-laws.unlisted-mark (U .whole) i (rw (U .kept .size) hi) (λ j m₁.
           let o = arrive-from k w p x L l is j i (subst (λ (M : Lists). Mem i (M j)) (U .is) m₁) in
           let o′ : Mem i (lists (toHead v p x) (o .0)) = subst (λ (M : Lists). Mem i (M (o .0))) (sym back) (o .1) in
-          omega (arith, z, stack-laws.member-mark (T .whole) (o .0) i o′, stack-laws.member-place (T .whole) (o .0) i o′)));
+          omega (arith, z, place-laws.member-mark (T .whole) (o .0) i o′, place-laws.member-place (T .whole) (o .0) i o′)));
     }
 
 -- all moves of a call back, from where it said "not yet"; the list in hand is a slot or the parking list
@@ -107,25 +107,25 @@ abbrev Listed : Option ℕ → Type 0
 Listed none = Unit {0}
 Listed (some p) = p < expired
 
-undo : {d : ℕ → ℕ} {now b e p m n c : ℕ} {h : Option ℕ} {L N : Lists} {t : StackWords} → Listed h → Limited d now h b e L (yet p) m n c N → Whole t
+undo : {d : ℕ → ℕ} {now b e p m n c : ℕ} {h : Option ℕ} {L N : Lists} {t : PlaceWords} → Listed h → Limited d now h b e L (yet p) m n c N → Whole t
     → lists t ≡ N → Undone t L
 undo a (finds X h r) W e = undo (list-height X .1) r W e
-undo {t = t} a (stops i) W e = record { words = t; whole = W; is = e; kept = stack-laws.kept-refl t; loose = λ i hi z. z }
+undo {t = t} a (stops i) W e = record { words = t; whole = W; is = e; kept = place-laws.kept-refl t; loose = λ i hi z. z }
 undo {d} a (moves {x = x} i r) W e = move-back (d x) a i (undo a r W e)
 undo a (empties i r) W e = undo tt r W e
 
 -- ---- the store that it comes from
 
 -- the rows of any lists
-rowsFor : Lists → List ℕ
-rowsFor L =
+occupiedFor : Lists → List ℕ
+occupiedFor L =
     rowOf (flags L 0) ∷ rowOf (flags L 1) ∷ rowOf (flags L 2) ∷ rowOf (flags L 3) ∷ rowOf (flags L 4) ∷ rowOf (flags L 5) ∷ []
 
-rows-for : (L : Lists) → Rows (rowsFor L) L
-unfolding rowsFor
-rows-for L = record { six = refl; row = by }
+occupied-for : (L : Lists) → Occupied (occupiedFor L) L
+unfolding occupiedFor
+occupied-for L = record { six = refl; row = by }
   where
-    by : (k : ℕ) → k < 6 → at (rowsFor L) k ≡ rowOf (flags L k)
+    by : (k : ℕ) → k < 6 → at (occupiedFor L) k ≡ rowOf (flags L k)
     by zero h = refl
     by (suc zero) h = refl
     by (suc (suc zero)) h = refl
@@ -138,12 +138,12 @@ module _ {s : QueueWords} (S : Sound s) (D : MidPoll s) where
   comes : Comes (view s .deadline) (s .until) (yet (s .hand)) (elapsed s) (view s .lists)
   comes = midway-lists (view s .deadline) (s .until) (s .hand) (elapsed s) (view s .lists) .0 (S .rule .inside D)
 
-  undone : Undone (s .wheel .stack) (comes .lists)
-  undone = undo tt (comes .polls) (S .standing .whole .stack) refl
+  undone : Undone (s .wheel .places) (comes .lists)
+  undone = undo tt (comes .polls) (S .standing .whole .places) refl
 
   -- the same values, deadlines and turns, at rest
   before : QueueWords
-  before = queueWords (wheelWords (comes .from) (rowsFor (comes .lists)) (undone .words)) (s .values) (s .deadlines) (s .turns) nobody 0
+  before = queueWords (wheelWords (comes .from) (occupiedFor (comes .lists)) (undone .words)) (s .values) (s .deadlines) (s .turns) nobody 0
 
   before-size : count before ≡ count s
   unfolding before
@@ -157,7 +157,7 @@ module _ {s : QueueWords} (S : Sound s) (D : MidPoll s) where
       record {
         standing = record {
           fits = omega (arith, n, undone .kept .links .nexts .size, undone .kept .links .prevs .size, undone .kept .links .marks .size, T .fits);
-          whole = record { stack = undone .whole; rows = rw (undone .is) (rows-for (comes .lists)) };
+          whole = record { places = undone .whole; occupied = rw (undone .is) (occupied-for (comes .lists)) };
           turns = λ i h. T .turns i (rw (← n) h);
           retired = λ i h d z.
               let r = T .retired i (rw (← n) h) d (undone .loose i (rw (← n) h) z) in (undone .kept .retired i (r .0), r .1);
@@ -185,7 +185,7 @@ module _ {s : QueueWords} (S : Sound s) (D : MidPoll s) where
       let same : withHand (s .hand) (s .until) (withElapsed (elapsed s) (withLists (view s .lists) v)) ≡ view s
       = view-eq before-size refl refl refl refl refl refl in
       subst (TakesSome v (s .until) (comes .limit) (yet (s .hand)) (comes .moves) (comes .drains)) same
-      (polled-some (ap (λ (L : Lists). L expired) (undone .is) ∙ comes .stack) (rw (undone .is) (comes .polls)))
+      (polled-some (ap (λ (L : Lists). L expired) (undone .is) ∙ comes .expired) (rw (undone .is) (comes .polls)))
 
   before-polls : PollSomeClaim before (s .until) (comes .limit) (A.NotYet (comes .moves) (comes .drains)) s
   unfolding before
@@ -209,7 +209,7 @@ module _ {s : QueueWords} (S : Sound s) (D : MidPoll s) where
         from = before;
         sound = before-sound;
         at-rest = refl;
-        stack = ap (λ (L : Lists). L expired) (undone .is) ∙ comes .stack;
+        expired = ap (λ (L : Lists). L expired) (undone .is) ∙ comes .expired;
         due = comes .due;
         limit = comes .limit;
         answer = A.NotYet (comes .moves) (comes .drains);

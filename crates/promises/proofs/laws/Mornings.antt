@@ -11,14 +11,14 @@ use Rattle.times.specs.Times.{width, slotOf, startAt, levelBelow, levelOf, bloc
 use Rattle.times.proofs.laws.Levels.{levels-of-01}
 use Rattle.links.specs.Lists.{nobody, change}
 use Rattle.links.proofs.laws.Lists.{change-same, change-other}
-use Rattle.stack.specs.Places.{slotPlace, parking, expired, free, put}
-use Rattle.stack.proofs.laws.Places.{put-empty}
+use Rattle.places.specs.Places.{slotPlace, parking, expired, free, put}
+use Rattle.places.proofs.laws.Places.{put-empty}
 use Rattle.wheel.specs.Wheel.{Lists, placeFor, FirstSlot, NextList, in-slot, in-parking, arrive, Drains, drained, moved, Polls, early, out, drain}
 use Rattle.wheel.proofs.laws.Next.{list-one, list-not-none}
 use Rattle.wheel.proofs.laws.One.{polls-one}
 use Rattle.wheel.specs.Limited.{yet, Limited, finds, stops}
-use Rattle.wheel.specs.Turns.{gotten}
-use Rattle.wheel.proofs.laws.Turns.{got-none}
+use Rattle.wheel.specs.Moves.{gotten}
+use Rattle.wheel.proofs.laws.Moves.{got-none}
 use Rattle.queue.specs.declared.Answer.{Answer}
 use Rattle.queue.specs.Told.{Told, told}
 use Rattle.queue.specs.Told as T
@@ -74,7 +74,7 @@ only-first {L} {x} e k s hk h hs O =
       steps = s - slotOf e k;
       near = omega arith;
       is = omega arith;
-      before = λ j g. O .else (slotPlace k ((slotOf e k + j) % 64)) (omega arith) (omega arith);
+      passed = λ j g. O .else (slotPlace k ((slotOf e k + j) % 64)) (omega arith) (omega arith);
       head = x;
       rest = [];
       filled = O .here;
@@ -120,7 +120,7 @@ one-polls {L} {x} d e O =
 record Inserted (v : View) (x : ℕ) : Type 0 where
   at-rest : v .hand ≡ nobody
   clock : v .elapsed ≡ 0
-  stack : v .lists expired ≡ []
+  expired : v .lists expired ≡ []
   only : Only (v .lists) 129 x
   deadline : v .deadline x ≡ 4101
 
@@ -135,7 +135,7 @@ placed-then v x z e E =
     record {
       at-rest = z;
       clock = e;
-      stack = rw t (change-other (v .lists) 129 (put 129 x (v .lists 129)) expired (omega arith) ∙ E expired (omega arith));
+      expired = rw t (change-other (v .lists) 129 (put 129 x (v .lists 129)) expired (omega arith) ∙ E expired (omega arith));
       only = rw t (only-put (v .lists) 129 x (omega arith) (λ q h. E q (omega arith)));
       deadline = upd-same (v .deadline) x (max 4101 (v .elapsed)) ∙ rw e;
     }
@@ -152,7 +152,7 @@ inserted {s} {s′} {a} {value} Q I =
 
 wakes-one : (v : View) (x : ℕ) → Inserted v x → {y : Told} → NextWake v y → y ≡ T.wake 4096
 unfolding startAt width
-wakes-one v x R (at-once e) = absurd (nil≢cons (sym (R .stack) ∙ e))
+wakes-one v x R (at-once e) = absurd (nil≢cons (sym (R .expired) ∙ e))
 wakes-one v x R (from-wheel e (sleeps E)) = absurd (list-not-none (in-slot (first-then (R .only))) E)
 wakes-one v x R (from-wheel e (starts X)) = ap T.wake (list-one (rw (R .clock) at X) (in-slot (first-then (R .only))) .start)
 
@@ -160,7 +160,7 @@ wakes-then : Holds (wakes 0 4101 4096)
 wakes-then s s′ a b value period Q I W = let R = inserted Q I in wakes-one (view s′) (Q .item) (R .1) (W .good (R .0) .free (R .1 .at-rest) .done)
 
 polls-so : (v : View) (x : ℕ) → Inserted v x → {y : Told} {u : View} → QueuePolls v 4096 y u → (y ≡ T.none 2 2) × (u .elapsed ≡ 4096)
-polls-so v x R (handed (popped e) G) = absurd (nil≢cons (sym (R .stack) ∙ e))
+polls-so v x R (handed (popped e) G) = absurd (nil≢cons (sym (R .expired) ∙ e))
 polls-so v x R (handed (polled e P) G) = let A = one-polls (v .deadline) (R .deadline) (R .only) in
     absurd (Option·some-ne-none _ (polls-one (rw (R .clock) at P) (A .1) .got))
 polls-so v x R (nothing (polled e P)) =
@@ -217,7 +217,7 @@ one-crosses {L} {x} d e O =
 -- what the insert leaves
 record Parks (v : View) (x y : ℕ) : Type 0 where
   clock : v .elapsed ≡ 1
-  stack : v .lists expired ≡ []
+  expired : v .lists expired ≡ []
   only : Only (v .lists) parking x
   deadline : v .deadline x ≡ 68719476736
   value : v .value x ≡ y
@@ -234,7 +234,7 @@ placed-park v x value e ev ep E =
     let t : target (v .elapsed) (max 68719476736 (v .elapsed)) ≡ parking = target-park (v .elapsed) e in
     record {
       clock = e;
-      stack = rw t (change-other (v .lists) parking (put parking x (v .lists parking)) expired (omega arith) ∙ E expired (omega arith));
+      expired = rw t (change-other (v .lists) parking (put parking x (v .lists parking)) expired (omega arith) ∙ E expired (omega arith));
       only = rw t (only-put (v .lists) parking x (omega arith) (λ q h. E q (omega (arith, h))));
       deadline = upd-same (v .deadline) x (max 68719476736 (v .elapsed)) ∙ rw e;
       value = ev;
@@ -243,7 +243,7 @@ placed-park v x value e ev ep E =
 
 crossing : (v : View) (x value : ℕ) → Parks v x value → {y : Told} {u : View} → QueuePolls v 68719476736 y u
     → (y ≡ T.out (keyOf v x) value 68719476736 6 6) × (u .elapsed ≡ 68719476736)
-crossing v x value R (handed (popped e) G) = absurd (nil≢cons (sym (R .stack) ∙ e))
+crossing v x value R (handed (popped e) G) = absurd (nil≢cons (sym (R .expired) ∙ e))
 crossing v x value R (nothing (polled e P)) =
     let A = one-crosses (v .deadline) (R .deadline) (R .only) in
     absurd (Option·some-ne-none _ (sym (polls-one (rw (R .clock) at P) (A .1) .got)))
@@ -260,7 +260,7 @@ crossing v x value R {y} {u} (handed {r} {m} {n} {u = w} (polled {e = c} {L = N}
     by {r} (ended p f) em en i ec = absurd (omega (arith, p, ap (v .period) i, R .period))
 
 waking : (v : View) (x value : ℕ) → Parks v x value → {y : Told} → NextWake v y → y ≡ T.wake 68719476736
-waking v x value R (at-once e) = absurd (nil≢cons (sym (R .stack) ∙ e))
+waking v x value R (at-once e) = absurd (nil≢cons (sym (R .expired) ∙ e))
 waking v x value R (from-wheel e (sleeps E)) = absurd (list-not-none (only-parking (R .only)) E)
 waking v x value R (from-wheel e (starts X)) = ap T.wake (list-one (rw (R .clock) at X) (only-parking (R .only)) .start)
 
@@ -270,7 +270,7 @@ pausing : (v : View) (x value : ℕ) → Parks v x value → v .hand ≡ nobody 
 pausing v x value R z P =
     let l : Limited (v .deadline) 68719476736 (gotten (v .hand)) 0 (v .elapsed) (v .lists) (yet parking) 0 0 (v .elapsed) (v .lists)
     = rw (got-none (v .hand) z, R .clock) (finds (only-parking (R .only)) (omega arith) (stops (R .only .here))) in
-    let q = polls-same P (not-yet (polled-some (R .stack) l)) in
+    let q = polls-same P (not-yet (polled-some (R .expired) l)) in
     (q .0, ap (λ u. u .hand) (q .1))
 
 held-parking : {s t : QueueWords} {now : ℕ} → OnlyHeld s now t → t .hand ≡ parking → t ≡ holding parking now s

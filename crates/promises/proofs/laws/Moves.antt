@@ -9,8 +9,8 @@ use native.Mathlib.Omega.{arith}
 use borrow.Author.Tests.{eq-eqb, ne-eqb, lt-ltb, le-ltb}
 use Rattle.links.specs.Lists.{without, change, Mem}
 use Rattle.links.proofs.laws.Lists.{change-same, change-other}
-use Rattle.stack.specs.Places.{expired, free, put, levelAt, topHeight}
-use Rattle.stack.specs.Format.{range}
+use Rattle.places.specs.Places.{expired, free, put, levelAt, topHeight}
+use Rattle.places.specs.Format.{range}
 use Rattle.wheel.specs.Wheel.{Lists}
 use Rattle.wheel.specs.Sums.{sumOf, total}
 use Rattle.wheel.proofs.laws.Sums.{total-ext, total-more, mem-joined}
@@ -37,7 +37,7 @@ use Rattle.promises.specs.Polling.{Finished}
 use Rattle.promises.specs.Bounded.{heightAt, IsSetAgain}
 use Rattle.promises.proofs.laws.TakesOut.{key-of-names, taken-out}
 use mathlib.Core.Option.{some}
-use Rattle.promises.specs.KeysStay.{Out}
+use Rattle.promises.specs.KeysStay.{HandsKey}
 use Rattle.promises.proofs.laws.Outs.{set-counts}
 
 -- ---- sums over lists that lose some
@@ -241,7 +241,7 @@ poll-paid {s} S h {x} {w} (handed-some {r} {m} {n} {u} T G) = by (goes-on-height
     by (stays d e) = omega (arith, B, e, goes-on-counts G .0)
     by (rises d q e) =
         let N = key-of-names S (taken-out S h T .out r refl .1) in
-        let o : Out (keyOf (view s) r) x = (_, _, _, _, goes-on-says G) in
+        let o : HandsKey (keyOf (view s) r) x = (_, _, _, _, goes-on-says G) in
         rw (set-counts s x N o d)
         (omega (arith, B, goes-on-counts G .0, ap (λ v. heights (v .lists)) q, placed-heights r (view s .deadline r + view s .period r) u))
 

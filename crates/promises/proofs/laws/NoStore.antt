@@ -28,7 +28,7 @@ no-store-once {w} {w′} A B =
     λ i. record {
       elapsed = (A .elapsed ∙ sym (B .elapsed)) i;
       occupied = (A .occupied ∙ sym (B .occupied)) i;
-      stacks = record {
+      tops = record {
         n = (A .records ∙ sym (B .records)) i;
         expired = (A .expired ∙ sym (B .expired)) i;
         free = (A .free ∙ sym (B .free)) i;
@@ -40,7 +40,7 @@ no-store-once {w} {w′} A B =
 
 pub no-store-met : (w : Wheel) × NoStoreClaim w
 no-store-met = (
-  record { elapsed = 0; occupied = replicate 6 0; stacks = record { n = 0; expired = nobody; free = nobody; parking = nobody }; hand = nobody; until = 0 },
+  record { elapsed = 0; occupied = replicate 6 0; tops = record { n = 0; expired = nobody; free = nobody; parking = nobody }; hand = nobody; until = 0 },
   record { elapsed = refl; occupied = refl; records = refl; expired = refl; free = refl; parking = refl; hand = refl; until = refl },
 )
 

@@ -8,7 +8,7 @@ use native.Mathlib.Decide.{ℕ-discrete, decLt}
 use native.Mathlib.Omega.{arith}
 use Rattle.links.specs.Lists.{nobody}
 use Rattle.links.specs.Whole.{Kept}
-use Rattle.stack.specs.Places.{free}
+use Rattle.places.specs.Places.{free}
 use Rattle.wheel.proofs.laws.Next.{list-one, list-not-none}
 use Rattle.wheel.proofs.laws.One.{polls-one}
 use Rattle.wheel.specs.declared.Wheel.{Wheel}
@@ -73,17 +73,17 @@ words-one w hh vs ds ns ps ts ms w′ hh′ vs′ ds′ ns′ ps′ ts′ ms′ 
       state = λ i. record {
         elapsed = e i .wheel .elapsed;
         occupied = e i .wheel .occupied;
-        stacks = e i .wheel .stack .stacks;
+        tops = e i .wheel .places .tops;
         hand = e i .hand;
         until = e i .until;
       };
-      heads = λ i. e i .wheel .stack .heads;
+      heads = λ i. e i .wheel .places .heads;
       values = λ i. e i .values;
       deadlines = λ i. e i .deadlines;
-      nexts = λ i. e i .wheel .stack .links .nexts;
-      prevs = λ i. e i .wheel .stack .links .prevs;
+      nexts = λ i. e i .wheel .places .links .nexts;
+      prevs = λ i. e i .wheel .places .links .prevs;
       turns = λ i. e i .turns;
-      marks = λ i. e i .wheel .stack .links .marks;
+      marks = λ i. e i .wheel .places .links .marks;
     }
 
 -- one answer, one final content

@@ -9,8 +9,8 @@ use native.Mathlib.Decide.{ℕ-discrete, decLt}
 use native.Mathlib.Omega.{arith}
 use Rattle.links.specs.Lists.{nobody}
 use Rattle.links.proofs.laws.Lists.{change-same}
-use Rattle.stack.specs.Places.{free}
-use Rattle.stack.specs.Format.{over, range}
+use Rattle.places.specs.Places.{free}
+use Rattle.places.specs.Format.{over, range}
 use Rattle.queue.specs.declared.Answer.{Answer}
 use Rattle.queue.specs.declared.Answer.the-variants as A
 use Rattle.queue.specs.Told.{Told, told}

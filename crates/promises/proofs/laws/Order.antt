@@ -13,8 +13,8 @@ use Rattle.times.specs.Times.{slotOf, width, levelOf}
 use Rattle.times.proofs.laws.Quotients.{slot-lt}
 use Rattle.links.specs.Lists.{Mem, change}
 use Rattle.links.proofs.laws.Lists.{change-same, change-other}
-use Rattle.stack.specs.Places.{slotPlace, expired, free, put, levelAt}
-use Rattle.stack.proofs.laws.Places.{put-tail}
+use Rattle.places.specs.Places.{slotPlace, expired, free, put, levelAt}
+use Rattle.places.proofs.laws.Places.{put-tail}
 use Rattle.wheel.specs.Wheel.{Lists, NextList, arrive, Drains, drained, moved, Polls, out, drain, placeFor}
 use Rattle.wheel.specs.Between.{Between}
 use Rattle.wheel.proofs.laws.Between.{rule-between, place-level}
@@ -270,12 +270,12 @@ module _ {s : QueueWords} (S : Sound s) where
     order-popped {x} {w} {r} {l} e G =
         let v = view s in
         let a : At v r expired = record { timed = omega arith; member = rw e (inl refl) } in
-        let late : v .elapsed ≤ v .deadline r = omega (arith, S .rule .free z₀ .stack r (a .member)) in
+        let late : v .elapsed ≤ v .deadline r = omega (arith, S .rule .free z₀ .expired r (a .member)) in
         let z = goes-on-says G in
         let away : (k y d m n i p : ℕ) → Hands x k y d m n → Names v k i p → p < expired → ⊥
         = λ k y d m n i p is N h. omega (arith, names-it a (same-key x z is .0) N .1) in
         record {
-          stack = λ i j f.
+          popped = λ i j f.
               let q : r ∷ l ≡ i ∷ j = sym e ∙ f in
               let q₁ : r ≡ i = cc in
               let q₂ : l ≡ j = cc in
@@ -334,13 +334,13 @@ module _ {s : QueueWords} (S : Sound s) where
     order-of (handed (popped e) G) = order-popped e G
     order-of (handed (polled empty P) G) =
         record {
-          stack = λ i j f. absurd (nil≢cons (sym empty ∙ f));
+          popped = λ i j f. absurd (nil≢cons (sym empty ∙ f));
           head = λ k y d m n i p is N h. order-head empty P G is N h;
           equals = λ k y d m n i p is N h. order-equals empty P G is N;
         }
     order-of (nothing (polled empty P)) =
         record {
-          stack = λ i j f. absurd (nil≢cons (sym empty ∙ f));
+          popped = λ i j f. absurd (nil≢cons (sym empty ∙ f));
           head = λ k w d m n i p is N h. absurd (none-out is);
           equals = λ k w d m n i p is N h. absurd (none-out is);
         }

@@ -9,9 +9,9 @@ use native.Mathlib.Omega.{arith}
 use borrow.Author.Tests.{eq-eqb, ne-eqb, lt-ltb}
 use Rattle.links.specs.Lists.{Mem}
 use Rattle.links.proofs.laws.Lists.{change-other}
-use Rattle.stack.specs.Places.{free}
-use Rattle.stack.proofs.laws.Whole as stack-laws
-use Rattle.stack.specs.Format.{range}
+use Rattle.places.specs.Places.{free}
+use Rattle.places.proofs.laws.Whole as place-laws
+use Rattle.places.specs.Format.{range}
 use Rattle.wheel.proofs.laws.Sums.{mem-joined, mem-left}
 use Rattle.queue.specs.declared.Answer.{Answer}
 use Rattle.queue.specs.Told.{Told, told, timer}
@@ -33,7 +33,7 @@ use Rattle.promises.proofs.laws.Views.{ViewGoes, refuses, formats, inse
 use Rattle.promises.proofs.laws.Polling.{freed-beside, none-out}
 use Rattle.promises.proofs.laws.TakesOut.{TakenOut, taken-out}
 use Rattle.promises.proofs.laws.KeysGone.{names-given, left-out, clear-empty, spent-unnamed, out-spent}
-use Rattle.promises.specs.KeysStay.{Out}
+use Rattle.promises.specs.KeysStay.{HandsKey}
 use Rattle.promises.proofs.laws.KeysStay.{key-is}
 use Rattle.promises.proofs.laws.Keys.{given-no-more, no-key-twice}
 use Rattle.records.specs.Slices.{Fits}
@@ -103,7 +103,7 @@ module _ {s : QueueWords} (S : Sound s) where
   named-so {r = r} {q = q} N t a =
       record {
         number = N .number;
-        below = stack-laws.member-below (S .standing .whole .stack) q r (a .member);
+        below = place-laws.member-below (S .standing .whole .places) q r (a .member);
         pending = a;
         turn = sym t ∙ N .turn;
       }
@@ -143,7 +143,7 @@ module _ {s : QueueWords} (S : Sound s) where
 
 data Kind (k : ℕ) (x : Told) : Type 0 where
   gives : x ≡ T.key k → Kind k x
-  hands : Out k x → Kind k x
+  hands : HandsKey k x → Kind k x
   other : keyed k x ≡ 0 → outed k x ≡ 0 → Kind k x
 
 kind : (k : ℕ) (x : Told) → Kind k x
@@ -164,7 +164,7 @@ kind k (T.no n) = other refl refl
 gives-counts : {k : ℕ} {x : Told} → x ≡ T.key k → (keyed k x ≡ 1) × (outed k x ≡ 0)
 gives-counts {k} e = (rw (e, eq-eqb k k refl), rw e)
 
-hands-counts : (k : ℕ) (x : Told) → Out k x → (keyed k x ≡ 0) × (outed k x ≡ 1)
+hands-counts : (k : ℕ) (x : Told) → HandsKey k x → (keyed k x ≡ 0) × (outed k x ≡ 1)
 hands-counts k T.ok o = absurd (none-out (o .4))
 hands-counts k (T.key j) o = absurd (none-out (o .4))
 hands-counts k (T.gone v d) o = absurd (none-out (o .4))
@@ -180,7 +180,7 @@ hands-counts k (T.len n) o = absurd (none-out (o .4))
 hands-counts k (T.no n) o = absurd (none-out (o .4))
 
 -- what is handed out and not done with is set again
-pub set-counts : (s : QueueWords) {k r p : ℕ} (x : Told) → Names (view s) k r p → Out k x → (Finished (view s) r x → ⊥) → resetting s x ≡ 1
+pub set-counts : (s : QueueWords) {k r p : ℕ} (x : Told) → Names (view s) k r p → HandsKey k x → (Finished (view s) r x → ⊥) → resetting s x ≡ 1
 set-counts s T.ok N o f = absurd (none-out (o .4))
 set-counts s (T.key j) N o f = absurd (none-out (o .4))
 set-counts s (T.gone v d) N o f = absurd (none-out (o .4))

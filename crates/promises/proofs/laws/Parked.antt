@@ -12,7 +12,7 @@ use Rattle.times.proofs.laws.Quotients.{slot-lt}
 use Rattle.times.proofs.laws.Levels.{level-is}
 use Rattle.times.proofs.laws.Blocks.{next-floor, lies-ends}
 use Rattle.links.specs.Lists.{Mem}
-use Rattle.stack.specs.Places.{slotPlace, slots, parking, expired, free, levelAt}
+use Rattle.places.specs.Places.{slotPlace, slots, parking, expired, free, levelAt}
 use Rattle.wheel.specs.Wheel.{Lists, placeFor, Rule, NextList, in-slot, in-parking}
 use Rattle.wheel.specs.Between.{Between}
 use Rattle.wheel.proofs.laws.Next.{here-below, next-before}
@@ -79,4 +79,4 @@ rule-target {d} {e} {L} R p x hp m later =
     (λ h.
     by-cases (ℕ-discrete p parking)
     (λ (z : p ≡ parking). z ∙ sym (target-parking e (d x) later (λ b. omega (arith, b, R .parked x (rw z at m)))))
-    (λ n. let z : p ≡ expired = omega (arith, hp, h, n) in absurd (omega (arith, later, R .stack x (rw z at m)))))
+    (λ n. let z : p ≡ expired = omega (arith, hp, h, n) in absurd (omega (arith, later, R .expired x (rw z at m)))))

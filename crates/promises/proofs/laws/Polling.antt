@@ -8,8 +8,8 @@ use native.Mathlib.Omega.{arith}
 use borrow.Author.Tests.{eq-eqb, ne-eqb}
 use Rattle.links.specs.Lists.{nobody}
 use Rattle.links.proofs.laws.Lists.{change-other, change-same}
-use Rattle.stack.specs.Places.{expired, free, put}
-use Rattle.stack.proofs.laws.Whole as stack-laws
+use Rattle.places.specs.Places.{expired, free, put}
+use Rattle.places.proofs.laws.Whole as place-laws
 use Rattle.wheel.specs.Wheel.{Lists, placeFor}
 use Rattle.wheel.specs.Sums.{sumOf, total}
 use Rattle.wheel.proofs.laws.Sums.{total-ext, hits, lies-times, times-lies, total-more, mem-joined, mem-kept, put-mem}
@@ -102,7 +102,7 @@ Became v (stopped none) m n u x w = (x ≡ T.none m n) × (w ≡ u)
 Became v (stopped (some r)) m n u x w = GoesOn v r m n u x w
 Became v (yet q) m n u x w = (x ≡ T.yet m n) × (w ≡ u)
 
-pub record Polled (v : View) (now : ℕ) (x : Told) (w : View) : Type 0 where
+pub record PolledBy (v : View) (now : ℕ) (x : Told) (w : View) : Type 0 where
   pub outcome : Outcome
   pub moves : ℕ
   pub drains : ℕ
@@ -148,7 +148,7 @@ module _ {s : QueueWords} (S : Sound s) {now : ℕ} (K : PollTaken (view s) now)
         few = P .few;
       }
 
-  pub poll-works : {limit : ℕ} {x : Told} {w : View} → PollsSome (view s) now limit x w → Polled (view s) now x w
+  pub poll-works : {limit : ℕ} {x : Told} {w : View} → PollsSome (view s) now limit x w → PolledBy (view s) now x w
   poll-works (handed-some {r} {m} {n} {u} T G) =
       let B = takes-works T in
       record {
@@ -431,7 +431,7 @@ stays-all {s} S {o = o} {u = u} K T z =
 
 module _ {s : QueueWords} (S : Sound s) {now : ℕ} (not-back : PollTaken (view s) now) {x : Told} {w : View} {limit : ℕ}
     (P : PollsSome (view s) now limit x w) where
-  pub view-parts : Polled (view s) now x w
+  pub view-parts : PolledBy (view s) now x w
   view-parts = poll-works S not-back P
 
   -- 02 [10]: "Demand 2's hand-out is claimed of polls answered neither "not yet" nor 12"
@@ -497,7 +497,7 @@ module _ {s : QueueWords} (S : Sound s) {now : ℕ} (not-back : PollTaken (view 
 
 module _ {s : QueueWords} (S : Sound s) {c : Call} {now : ℕ} (at : PollAt c now) (not-back : PollTaken (view s) now) (a : Answer) (t : QueueWords)
     (P : CallClaim c s a t) where
-  pub poll-parts : Polled (view s) now (told a) (view t)
+  pub poll-parts : PolledBy (view s) now (told a) (view t)
   poll-parts = view-parts S not-back (poll-done S at not-back a t P .1)
 
   pub poll-least : (SaysYet (told a) → ⊥) → PollLeast (view s) now (told a) (view t)

@@ -13,8 +13,8 @@ use Rattle.times.proofs.laws.Quotients.{slot-lt}
 use Rattle.links.specs.Lists.{Mem, without, change}
 use Rattle.links.proofs.laws.Lists.{mem-left, mem-right, change-same, change-other}
 use Rattle.records.proofs.laws.Inner.{mem-other}
-use Rattle.stack.specs.Places.{slotPlace, expired, put, levelAt}
-use Rattle.stack.proofs.laws.Places.{put-tail}
+use Rattle.places.specs.Places.{slotPlace, expired, put, levelAt}
+use Rattle.places.proofs.laws.Places.{put-tail}
 use Rattle.wheel.specs.Wheel.{Lists, arrive}
 use Rattle.wheel.proofs.laws.Next.{list-height}
 use Rattle.wheel.specs.Limited.{Outcome, ended as stopped, yet, Limited, rests, waits, hands, finds, stops, moves, empties}

@@ -10,13 +10,13 @@ use native.Mathlib.Decide.{ℕ-discrete}
 use native.Mathlib.Omega.{arith}
 use Rattle.links.specs.Lists.{nobody, Mem, without, change}
 use Rattle.links.proofs.laws.Lists.{change-same, change-other, mem-app}
-use Rattle.stack.specs.Places.{slotPlace, expired, free, put, levelAt}
-use Rattle.stack.proofs.laws.Places.{put-tail}
-use Rattle.stack.proofs.laws.Whole as stack-laws
+use Rattle.places.specs.Places.{slotPlace, expired, free, put, levelAt}
+use Rattle.places.proofs.laws.Places.{put-tail}
+use Rattle.places.proofs.laws.Whole as place-laws
 use Rattle.wheel.specs.Wheel.{Lists}
 use Rattle.wheel.specs.Limited.{Outcome, ended as stopped, yet}
-use Rattle.wheel.specs.Turns.{gotten}
-use Rattle.wheel.proofs.laws.Turns.{got-none, got-some}
+use Rattle.wheel.specs.Moves.{gotten}
+use Rattle.wheel.proofs.laws.Moves.{got-none, got-some}
 use Rattle.wheel.proofs.laws.Sums.{mem-kept, put-mem}
 use Rattle.times.specs.Times.{slotOf}
 use Rattle.times.proofs.laws.Quotients.{slot-lt}
@@ -32,7 +32,7 @@ use Rattle.records.proofs.laws.Inner.{mem-other}
 use Rattle.delay_queue.specs.declared.Call.{Call}
 use Rattle.delay_queue.specs.declared.Call.the-variants as C
 use Rattle.promises.specs.OneCall.{isNo}
-use Rattle.promises.specs.KeysStay.{Aims, Out}
+use Rattle.promises.specs.KeysStay.{Aims, HandsKey}
 use Rattle.promises.proofs.laws.Views.{ViewGoes, refuses, formats, inserts, resets, removes, polls, wakes, counts, clears, out-polls, freed-hand}
 use Rattle.promises.proofs.laws.Polling.{target-timed, freed-beside, none-out, goes-on-says}
 use Rattle.promises.proofs.laws.TakesOut.{one-list, lies-once, taken-out, gotBy}
@@ -41,8 +41,8 @@ use Rattle.promises.proofs.laws.Order.{names-it}
 use Rattle.promises.proofs.laws.Precedes.{Precedes, Leads, Split, Ahead, High, prec-mem, prec-left, prec-end, prec-without, gone-then, leave-first, limited-first}
 
 -- in one list, a slot's or the expired stack, with one deadline, r before s; or, inside the drain in hand, r was moved already and s was not
-abbrev First : View → ℕ → ℕ → Type 0
-First v r s = Leads free (v .deadline) (v .lists) r s ⊎ Split (v .deadline) (v .hand) (v .lists) r s
+abbrev Sooner : View → ℕ → ℕ → Type 0
+Sooner v r s = Leads free (v .deadline) (v .lists) r s ⊎ Split (v .deadline) (v .hand) (v .lists) r s
 
 -- so wait the timers of the keys j and k
 pub record Queued (v : View) (j k : ℕ) : Type 0 where
@@ -52,14 +52,14 @@ pub record Queued (v : View) (j k : ℕ) : Type 0 where
   pub rear : ℕ
   pub front-key : Names v j front place
   pub back-key : Names v k back rear
-  pub order : First v front back
+  pub order : Sooner v front back
 
 -- ---- one record moves
 
 module _ {r s : ℕ} where
   -- another view with the same lists
-  first-same : (v u : View) → u .deadline ≡ v .deadline → u .hand ≡ v .hand → ((p : ℕ) → p < free → u .lists p ≡ v .lists p) → First v r s
-      → First u r s
+  first-same : (v u : View) → u .deadline ≡ v .deadline → u .hand ≡ v .hand → ((p : ℕ) → p < free → u .lists p ≡ v .lists p) → Sooner v r s
+      → Sooner u r s
   first-same v u d h e (inl O) =
       inl (record { place = O .place; within = O .within; order = rw (e (O .place) (O .within)) (O .order); equal = rw d (O .equal) })
   first-same v u d h e (inr O) =
@@ -83,7 +83,7 @@ module _ {r s : ℕ} where
       (λ (z : O .place ≡ p). rw (z, change-same (v .lists) p l) (h (rw z at (O .within)) (rw z at (O .order))))
       (λ z. rw (change-other (v .lists) p l (O .place) z) (O .order))
 
-  placed-first : (i when : ℕ) (v : View) → r ≢ i → s ≢ i → First v r s → First (placed i when v) r s
+  placed-first : (i when : ℕ) (v : View) → r ≢ i → s ≢ i → Sooner v r s → Sooner (placed i when v) r s
   unfolding placed
   placed-first i when v a b (inl O) =
       let w = max when (v .elapsed) in
@@ -109,7 +109,7 @@ module _ {r s : ℕ} where
         equal = upd-other (v .deadline) i w r a ∙ O .equal ∙ sym (upd-other (v .deadline) i w s b);
       })
 
-  left-first : (p i : ℕ) (v : View) → r ≢ i → s ≢ i → First v r s → First (left p i v) r s
+  left-first : (p i : ℕ) (v : View) → r ≢ i → s ≢ i → Sooner v r s → Sooner (left p i v) r s
   unfolding left
   left-first p i v a b (inl O) =
       inl (record {
@@ -129,7 +129,7 @@ module _ {r s : ℕ} where
         equal = O .equal;
       })
 
-  freed-first : (i : ℕ) (v : View) → First v r s → First (freed i v) r s
+  freed-first : (i : ℕ) (v : View) → Sooner v r s → Sooner (freed i v) r s
   freed-first i v O = let B = freed-beside i v in first-same v (freed i v) (B .deadline) (freed-hand i v) (B .lists) O
 
 -- the one that is placed stands behind all that lie where it comes
@@ -159,7 +159,7 @@ renamed : {v u : View} {k r p q : ℕ} → Names v k r p → u .n ≡ v .n → u
 renamed N n t a = record { number = N .number; below = rw n (N .below); pending = a; turn = t ∙ N .turn }
 
 requeued : {v u : View} {j k : ℕ} (Q : Queued v j k) → u .n ≡ v .n → u .turn (Q .front) ≡ v .turn (Q .front)
-    → u .turn (Q .back) ≡ v .turn (Q .back) → First u (Q .front) (Q .back) → Queued u j k
+    → u .turn (Q .back) ≡ v .turn (Q .back) → Sooner u (Q .front) (Q .back) → Queued u j k
 requeued {v} {u} Q n f b (inl O) =
     let m = prec-mem (Q .front) (Q .back) (u .lists (O .place)) (O .order) in
     record {
@@ -187,7 +187,7 @@ module _ {st : QueueWords} (S : Sound st) {j k : ℕ} (Q : Queued (view st) j k)
   abbrev v : View
   v = view st
 
-  abbrev now-first : First v (Q .front) (Q .back)
+  abbrev now-first : Sooner v (Q .front) (Q .back)
   now-first = Q .order
 
   -- who lies elsewhere is neither
@@ -199,21 +199,21 @@ module _ {st : QueueWords} (S : Sound st) {j k : ℕ} (Q : Queued (view st) j k)
 
   -- that of k is not handed out; that of j is, or both wait on in their order
   abbrev pub Ends : Told → View → Type 0
-  Ends x u = (Out k x → ⊥) × (Out j x ⊎ Queued u j k)
+  Ends x u = (HandsKey k x → ⊥) × (HandsKey j x ⊎ Queued u j k)
 
   -- another than the two goes on, freed or placed again, and both wait on
-  kept-placed : (i when : ℕ) (u : View) → u .n ≡ v .n → u .turn ≡ v .turn → First (placed i when u) (Q .front) (Q .back)
+  kept-placed : (i when : ℕ) (u : View) → u .n ≡ v .n → u .turn ≡ v .turn → Sooner (placed i when u) (Q .front) (Q .back)
       → Queued (placed i when u) j k
   unfolding placed
   kept-placed i when u n t O = requeued Q n (ap (λ f. f (Q .front)) t) (ap (λ f. f (Q .back)) t) O
 
-  kept-freed : (i : ℕ) (u : View) → u .n ≡ v .n → u .turn ≡ v .turn → Q .front ≢ i → Q .back ≢ i → First u (Q .front) (Q .back) → Queued (freed i u) j k
+  kept-freed : (i : ℕ) (u : View) → u .n ≡ v .n → u .turn ≡ v .turn → Q .front ≢ i → Q .back ≢ i → Sooner u (Q .front) (Q .back) → Queued (freed i u) j k
   kept-freed i u n t f g O =
       let B = freed-beside i u in
       requeued Q (B .size ∙ n) (B .turn (Q .front) f ∙ ap (λ h. h (Q .front)) t) (B .turn (Q .back) g ∙ ap (λ h. h (Q .back)) t) (freed-first i u O)
 
   kept-on : {i m n : ℕ} {u : View} {x : Told} {w : View} → GoesOn v i m n u x w → u .n ≡ v .n → u .turn ≡ v .turn → Q .front ≢ i → Q .back ≢ i
-      → First u (Q .front) (Q .back) → Queued w j k
+      → Sooner u (Q .front) (Q .back) → Queued w j k
   kept-on {i} {u = u} (once z) n t f g O = kept-freed i u n t f g O
   kept-on {i} {u = u} (again p z) n t f g O =
       let when = v .deadline i + v .period i in
@@ -222,10 +222,10 @@ module _ {st : QueueWords} (S : Sound st) {j k : ℕ} (Q : Queued (view st) j k)
 
   -- i is handed out, which is not that of k: it is that of j, or both wait on
   out-ends : (i p : ℕ) {m n : ℕ} {u : View} {x : Told} {w : View} → At v i p → GoesOn v i m n u x w → u .n ≡ v .n → u .turn ≡ v .turn → Q .back ≢ i
-      → (Q .front ≡ i) ⊎ First u (Q .front) (Q .back) → Ends x w
+      → (Q .front ≡ i) ⊎ Sooner u (Q .front) (Q .back) → Ends x w
   out-ends i p {m} {n} {u} {x} {w} a G size t back O =
       let z : handing x ≡ timer (keyOf v i) (v .value i) (v .deadline i) m n = goes-on-says G in
-      let gives : Q .front ≡ i → Out j x
+      let gives : Q .front ≡ i → HandsKey j x
       = λ y. (_, _, _, _, z ∙ ap (λ e. timer e (v .value i) (v .deadline i) m n) (sym (key-is (Q .front-key) ∙ ap (keyOf v) y))) in (
         λ o. back (sym (names-it S a (by x z (o .4)) (Q .back-key) .0)),
         by-cases (ℕ-discrete (Q .front) i) (λ y. inl (gives y))
@@ -261,12 +261,12 @@ module _ {st : QueueWords} (S : Sound st) {j k : ℕ} (Q : Queued (view st) j k)
 
   -- it is not that of k that is taken out; it is that of j, or both wait on in their order
   takes-ends : {now limit m n : ℕ} {o : Outcome} {u : View} → TakesSome v now limit o m n u
-      → (gotBy o ≡ some (Q .back) → ⊥) × ((gotBy o ≡ some (Q .front)) ⊎ First u (Q .front) (Q .back))
-  takes-ends (popped-some {r = i} {l = l} e) = ⊎-elim on-stack inside (Q .order)
+      → (gotBy o ≡ some (Q .back) → ⊥) × ((gotBy o ≡ some (Q .front)) ⊎ Sooner u (Q .front) (Q .back))
+  takes-ends (popped-some {r = i} {l = l} e) = ⊎-elim on-expired inside (Q .order)
     where
-      on-stack : Leads free (v .deadline) (v .lists) (Q .front) (Q .back)
-          → (some i ≡ some (Q .back) → ⊥) × ((some i ≡ some (Q .front)) ⊎ First (withLists (change (v .lists) expired l) v) (Q .front) (Q .back))
-      on-stack O =
+      on-expired : Leads free (v .deadline) (v .lists) (Q .front) (Q .back)
+          → (some i ≡ some (Q .back) → ⊥) × ((some i ≡ some (Q .front)) ⊎ Sooner (withLists (change (v .lists) expired l) v) (Q .front) (Q .back))
+      on-expired O =
           let A = leave-first {b = free} expired i l (omega arith) e O in (
             λ z.
                 let y : i ≡ Q .back = Option·some-injective i (Q .back) z in
@@ -275,10 +275,10 @@ module _ {st : QueueWords} (S : Sound st) {j k : ℕ} (Q : Queued (view st) j k)
           )
 
       inside : Split (v .deadline) (v .hand) (v .lists) (Q .front) (Q .back)
-          → (some i ≡ some (Q .back) → ⊥) × ((some i ≡ some (Q .front)) ⊎ First (withLists (change (v .lists) expired l) v) (Q .front) (Q .back))
+          → (some i ≡ some (Q .back) → ⊥) × ((some i ≡ some (Q .front)) ⊎ Sooner (withLists (change (v .lists) expired l) v) (Q .front) (Q .back))
       inside O =
           let d : st .hand ≢ nobody = λ z. omega (arith, O .below, z) in
-          absurd (nil≢cons (sym (S .rule .inside d .stack) ∙ e))
+          absurd (nil≢cons (sym (S .rule .inside d .expired) ∙ e))
   takes-ends (polled-some {o = stopped g} empty P) =
       let O = limited-first P high (lies-once S (Q .back) expired) (ahead empty) in
       (O .0, ⊎-elim inl (λ y. inr (inl (off-wheel y))) (O .1))
@@ -310,7 +310,7 @@ module _ {st : QueueWords} (S : Sound st) {j k : ℕ} (Q : Queued (view st) j k)
 
   -- a call that neither resets, removes, clears nor formats away one of the two
   pub goes-queued : {c : Call} {x : Told} {u : View} → ViewGoes v c x u → (Aims j c → not (isNo x) ≡ false) → (Aims k c → not (isNo x) ≡ false)
-      → (Out j x → ⊥) → Queued u j k
+      → (HandsKey j x → ⊥) → Queued u j k
   goes-queued refuses a b o = Q
   goes-queued formats a b o = absurd (true≢false (a tt))
   goes-queued (inserts {value = value} {when = when} {period = period} {r = i} {l = l} e) a b o =
@@ -318,7 +318,7 @@ module _ {st : QueueWords} (S : Sound st) {j k : ℕ} (Q : Queued (view st) j k)
       let away : free ≢ Q .place = omega (arith, Q .front-key .pending .timed) in
       let away-too : free ≢ Q .rear = omega (arith, Q .back-key .pending .timed) in
       let u = withPeriod (upd (v .period) i period) (withValue (upd (v .value) i value) (taken l v)) in
-      let O : First u (Q .front) (Q .back)
+      let O : Sooner u (Q .front) (Q .back)
       = first-same v u refl refl (λ p h. change-other (v .lists) free l p (omega (arith, h))) now-first in
       kept-placed i when u refl refl (placed-first i when u (other-front i free away m) (other-back i free away-too m) O)
   goes-queued (resets {when = when} {r = i} {p = p} N) a b o =
@@ -337,7 +337,7 @@ module _ {st : QueueWords} (S : Sound st) {j k : ℕ} (Q : Queued (view st) j k)
   goes-queued (clears r) a b o = absurd (true≢false (a tt))
 
   -- and no call hands out that of k
-  pub queued-waits : {c : Call} {x : Told} {u : View} → ViewGoes v c x u → Out k x → ⊥
+  pub queued-waits : {c : Call} {x : Told} {u : View} → ViewGoes v c x u → HandsKey k x → ⊥
   queued-waits D o = let P = out-polls D (o .4) in poll-ends (P .1) (P .2 .1) .0 o
 
 -- ---- a placing

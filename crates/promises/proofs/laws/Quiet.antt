@@ -11,10 +11,10 @@ use borrow.Author.Tests.{eq-eqb}
 use Rattle.times.specs.Times.{width, slotOf, levelBelow, levelOf}
 use Rattle.links.specs.Lists.{nobody, Mem, change}
 use Rattle.links.proofs.laws.Lists.{change-same, change-other}
-use Rattle.stack.specs.Places.{parking, expired, free, put}
-use Rattle.stack.proofs.laws.Places.{put-empty}
-use Rattle.stack.specs.Format.{formatted, range}
-use Rattle.stack.proofs.laws.Whole as stack-laws
+use Rattle.places.specs.Places.{parking, expired, free, put}
+use Rattle.places.proofs.laws.Places.{put-empty}
+use Rattle.places.specs.Format.{formatted, range}
+use Rattle.places.proofs.laws.Whole as place-laws
 use Rattle.wheel.specs.Wheel.{idle, placeFor}
 use Rattle.wheel.proofs.laws.One.{polls-one}
 use Rattle.wheel.proofs.laws.Sums.{put-mem}
@@ -76,11 +76,11 @@ one-quiet = record {
     by : (p : ℕ) → p < free → (l : List ℕ) → view one .lists p ≡ l → view one .lists p ≡ []
     by p h [] e = e
     by p h (x ∷ l) e =
-        let W = one-sound .standing .whole .stack in
+        let W = one-sound .standing .whole .places in
         let m : Mem x (view one .lists p) = rw e (inl refl) in
         let f : Mem 0 (view one .lists free) = rw one-free (inl refl) in
-        let z : x ≡ 0 = omega (arith, stack-laws.member-below W p x m, one-count) in
-        absurd (omega (arith, stack-laws.member-mark W p 0 (rw z at m), stack-laws.member-mark W free 0 f))
+        let z : x ≡ 0 = omega (arith, place-laws.member-below W p x m, one-count) in
+        absurd (omega (arith, place-laws.member-mark W p 0 (rw z at m), place-laws.member-mark W free 0 f))
 
 -- there is one, at any time
 pub quiet-shown : (e : ℕ) → (s : QueueWords) × Quiet s e

@@ -8,7 +8,7 @@ use native.Mathlib.Decide.{ℕ-discrete, decLt}
 use native.Mathlib.Omega.{arith}
 use Rattle.links.specs.Links.{at}
 use Rattle.links.specs.Lists.{Mem, nobody}
-use Rattle.stack.specs.Places.{expired, free}
+use Rattle.places.specs.Places.{expired, free}
 use Rattle.queue.specs.declared.Answer.{Answer}
 use Rattle.queue.specs.Told.{Told, told}
 use Rattle.queue.specs.Told as T
@@ -30,11 +30,11 @@ use Rattle.promises.specs.OneCall.{isNo, reach}
 use Rattle.promises.specs.Runs.{isFormat}
 use Rattle.promises.proofs.laws.OneCall.{polls-says, some-says, rest-says, wakes-says, refusal-same}
 use Rattle.queue.proofs.laws.Polls.{polls-size, some-size, rest-size, clears-size}
-use Rattle.promises.specs.Refused.{NoSuchKey, absent, beyond, stale, Lines, end, line, deadlineLines, linesOf, First, numbers, RefusedBy, Settled, accepted, refused, whenOf}
+use Rattle.promises.specs.Refused.{NoSuchKey, absent, beyond, stale, Lines, end, line, deadlineLines, linesOf, FirstMet, numbers, RefusedBy, Settled, accepted, refused, whenOf}
 
 -- ---- the table
 
-first-once : (l : Lines) {j k : ℕ} → First l j → First l k → j ≡ k
+first-once : (l : Lines) {j k : ℕ} → FirstMet l j → FirstMet l k → j ≡ k
 first-once end x y = absurd x
 first-once (line n P l) (inl a) (inl b) = a .0 ∙ sym (b .0)
 first-once (line n P l) (inl a) (inr b) = absurd (b .0 (a .1))
@@ -45,7 +45,7 @@ first-once (line n P l) (inr a) (inr b) = first-once l (a .1) (b .1)
 pub refused-once : (c : Call) (s : QueueWords) {j k : ℕ} → RefusedBy c s j → RefusedBy c s k → j ≡ k
 refused-once c s x y = first-once (linesOf c s) x y
 
-first-listed : (l : Lines) (k : ℕ) → First l k → Mem k (numbers l)
+first-listed : (l : Lines) (k : ℕ) → FirstMet l k → Mem k (numbers l)
 first-listed end k x = x
 first-listed (line j P l) k (inl x) = inl (x .0)
 first-listed (line j P l) k (inr x) = inr (first-listed l k (x .1))
@@ -247,7 +247,7 @@ one-at-the-limit s turn = (
   λ R x. ⊎-elim (λ y. y .1 (record { some = omega arith; few = omega arith; room = R })) (λ y. passed-eight (y .1)) x,
 )
   where
-    passed-eight : First (line 8 (InRange turn → ⊥) end) 1 → ⊥
+    passed-eight : FirstMet (line 8 (InRange turn → ⊥) end) 1 → ⊥
     passed-eight x = ⊎-elim (λ y. omega (arith, y .0)) (λ y. y .1) x
 
 -- 02 [5]: "record number 65,535 means nobody": a key with it is refused with 6 by every reset and remove, whatever N and its turn
@@ -262,7 +262,7 @@ pub seven-though-waiting : {s t : QueueWords} {a : Answer} {now : ℕ} → PollC
     → view s .lists expired ≡ r ∷ l
     → now < elapsed s → (told a ≡ T.no 7) × (t ≡ s)
 seven-though-waiting {s} {t} {a} {now} P S e h =
-    let rest : AtRest s = by-cases (ℕ-discrete (s .hand) nobody) (λ z. z) (λ d. absurd (nil≢cons (sym (S .rule .inside d .stack) ∙ e))) in
+    let rest : AtRest s = by-cases (ℕ-discrete (s .hand) nobody) (λ z. z) (λ d. absurd (nil≢cons (sym (S .rule .inside d .expired) ∙ e))) in
     refused-exactly (C.Poll now) s a t P 7 .0 (inr (λ f. f S, inr (λ x. x .0 rest, inl (refl, h))))
 
 -- a store where that happens
@@ -276,7 +276,7 @@ behind d x = ⊎-elim (λ y. absurd (d (y .0))) (λ y. y) x
 passed : {j k : ℕ} {P Q : Type 0} → k ≢ j → ((k ≡ j) × P) ⊎ ((P → ⊥) × Q) → Q
 passed d x = behind d x .1
 
-far : {e w k : ℕ} → k < 6 → First (deadlineLines e w) k → e < w
+far : {e w k : ℕ} → k < 6 → FirstMet (deadlineLines e w) k → e < w
 far h x = ⊎-elim (λ y. y .1 .0) (λ y. absurd (y .1)) (passed (omega arith) x)
 
 later : (c : Call) (s : QueueWords) (k : ℕ) → 3 < k → k < 6 → RefusedBy c s k → elapsed s < whenOf c

@@ -9,8 +9,8 @@ use Prim.Native.Nat.{ℕ, _+_, _<_, _≤_}
 use native.Mathlib.Omega.{arith}
 use Rattle.links.proofs.laws.Lists.{change-other}
 use Rattle.times.specs.Times.{block}
-use Rattle.stack.specs.Places.{free}
-use Rattle.stack.specs.Format.{over}
+use Rattle.places.specs.Places.{free}
+use Rattle.places.specs.Format.{over}
 use Rattle.queue.specs.declared.Answer.{Answer}
 use Rattle.queue.specs.declared.Answer.the-variants as A
 use Rattle.queue.specs.Told.{Told, told, Hands, timer, handing}
@@ -28,7 +28,7 @@ use Rattle.delay_queue.specs.declared.Call.{Call}
 use Rattle.delay_queue.specs.declared.Call.the-variants as C
 use Rattle.delay_queue.specs.Claims.{CallClaim}
 use Rattle.promises.specs.Runs.{Asked, Runs, rest, next, All, NoFormat, Each, isFormat}
-use Rattle.promises.specs.KeysStay.{Out}
+use Rattle.promises.specs.KeysStay.{HandsKey}
 use Rattle.promises.specs.KeysReach.{Reaches}
 use Rattle.promises.specs.Polling.{IsPending, PollLeast, SaysLast, Finished, SetAgain}
 use Rattle.promises.specs.OneCall.{one, isNo}
@@ -216,7 +216,7 @@ module _ {s : QueueWords} (S : Sound s) (c : Call) (a : Answer) (t : QueueWords)
   pub last-exactly : SaysLast (told a) ↔ ((0 < view s .period (numberIn k)) × NoNextTime (elapsed t) (d + view s .period (numberIn k)))
   last-exactly = last-of Q o
 
-  -- elapsed after the hand-out and w lie in one block, and within one turn of level 0, also where elapsed before it lay in the block before (02 [12])
+  -- elapsed after the hand-out and w lie in one block, and within one lap of level 0, also where elapsed before it lay in the block before (02 [12])
   pub out-near : (block (elapsed t) ≡ block d) × (elapsed t ≤ d) × (d < elapsed t + 64)
   out-near =
       let H = view-least S h Q (out-ended o) .out k w d m n o in
@@ -239,7 +239,7 @@ module _ {s : QueueWords} (S : Sound s) (c : Call) (a : Answer) (t : QueueWords)
 -- ---- two hand-outs of one key
 
 each-unset : {s t : QueueWords} {l : List Asked} (k : ℕ) → Sound s → Given (view s) k → (R : Runs s l t) → NoFormat l → All (NotReset k) l
-    → All (λ x. Out k (told (x .answer)) → ⊥) l → Each (NotSet k) R
+    → All (λ x. HandsKey k (told (x .answer)) → ⊥) l → Each (NotSet k) R
 each-unset k S G rest f g o = tt
 each-unset k S G (next {s} {t} {x = x} A R) f g o =
     let D = call-goes (x .call) s (x .answer) t S A in (
@@ -259,7 +259,7 @@ polls-format limited b = refl
 -- of two hand-outs of k in succession, with no accepted reset of k or format in between, the second shows the first's value, and its deadline plus the
 -- period
 pub second-out : {s u : QueueWords} {k w d m n w₂ d₂ m₂ n₂ : ℕ} {l : List Asked} → Sound s → (c : Call) (a : Answer) (t : QueueWords)
-    → CallClaim c s a t → Hands (told a) k w d m n → Runs t l u → NoFormat l → All (NotReset k) l → All (λ x. Out k (told (x .answer)) → ⊥) l
+    → CallClaim c s a t → Hands (told a) k w d m n → Runs t l u → NoFormat l → All (NotReset k) l → All (λ x. HandsKey k (told (x .answer)) → ⊥) l
     → (c₂ : Call) (b : Answer) (z : QueueWords) → CallClaim c₂ u b z → Hands (told b) k w₂ d₂ m₂ n₂ → (w₂ ≡ w) × (d₂ ≡ d + view s .period (numberIn k))
 second-out {s} {u} {k} {w} {d} {m} {n} S c a t A o R f g none c₂ b z B o₂ =
     let T = call-sound c s a t A S in
@@ -285,12 +285,12 @@ second-out {s} {u} {k} {w} {d} {m} {n} S c a t A o R f g none c₂ b z B o₂ =
 record Alone (s : QueueWords) (k x q d : ℕ) : Type 0 where
   sound : Sound s
   at-rest : AtRest s
-  before : elapsed s ≤ d
+  ahead : elapsed s ≤ d
   reaches : Reaches (view s) k x q d
   only : (y : ℕ) → IsPending (view s) y → y ≡ reaches .number
 
 -- polled at its time it is handed out, and waits alone for the next
-record Turns (s : QueueWords) (k x q d : ℕ) : Type 0 where
+record NextOut (s : QueueWords) (k x q d : ℕ) : Type 0 where
   answer : Answer
   left : QueueWords
   poll : CallClaim (C.Poll d) s answer left
@@ -314,7 +314,7 @@ module _ {s : QueueWords} {k x q d : ℕ} (W : Alone s k x q d) where
   claim = poll-met s d .2
 
   taken : PollTaken (view s) d
-  taken = taken-from-rest s (W .at-rest) (W .before)
+  taken = taken-from-rest s (W .at-rest) (W .ahead)
 
   ends : SaysYet (told reply) → ⊥
   ends = whole-no-yet (W .sound) taken claim
@@ -341,7 +341,7 @@ module _ {s : QueueWords} {k x q d : ℕ} (W : Alone s k x q d) where
   -- elapsed has not passed it
   still-before : elapsed store ≤ d
   still-before =
-      omega (arith, poll-clock (W .sound) whole taken reply store claim .out k x d (comes-out .0) (comes-out .1) (comes-out .2), W .before)
+      omega (arith, poll-clock (W .sound) whole taken reply store claim .out k x d (comes-out .0) (comes-out .1) (comes-out .2), W .ahead)
 
   module _ (more : 0 < q) (low : d + q < 68719476736) where
     not-last : SaysLast (told reply) → ⊥
@@ -357,7 +357,7 @@ module _ {s : QueueWords} {k x q d : ℕ} (W : Alone s k x q d) where
         record {
           sound = call-sound (C.Poll d) s reply store claim (W .sound);
           at-rest = goes-rest (call-goes (C.Poll d) s reply store (W .sound) claim) ends (W .at-rest);
-          before = omega (arith, still-before);
+          ahead = omega (arith, still-before);
           reaches = record {
             number = numberIn k;
             place = Q .place;
@@ -369,8 +369,8 @@ module _ {s : QueueWords} {k x q d : ℕ} (W : Alone s k x q d) where
           only = λ y p. W .only y (L .only y p) ∙ R .names .number;
         }
 
-turn : {s : QueueWords} {k x q d : ℕ} → Alone s k x q d → 0 < q → d + q < 68719476736 → Turns s k x q d
-turn {s} {d = d} W more low =
+next-out : {s : QueueWords} {k x q d : ℕ} → Alone s k x q d → 0 < q → d + q < 68719476736 → NextOut s k x q d
+next-out {s} {d = d} W more low =
     let o = comes-out W in
     record {
       answer = poll-met s d .0;
@@ -395,13 +395,13 @@ three-times =
     = record {
       sound = D .sound;
       at-rest = ap (λ v. v .hand) (D .view);
-      before = omega (arith, ap (λ v. v .elapsed) (D .view));
+      ahead = omega (arith, ap (λ v. v .elapsed) (D .view));
       reaches = R;
       only = λ y p. omega (arith, key-of-names (D .sound) (p .1) .below, R .names .below, ap (λ v. v .n) (D .view));
     } in
-    let a = turn W (omega arith) (omega arith) in
-    let b = turn (a .then) (omega arith) (omega arith) in
-    let c = turn (b .then) (omega arith) (omega arith) in
+    let a = next-out W (omega arith) (omega arith) in
+    let b = next-out (a .then) (omega arith) (omega arith) in
+    let c = next-out (b .then) (omega arith) (omega arith) in
     record {
       one = a .answer;
       two = b .answer;

@@ -10,9 +10,9 @@ use native.Mathlib.Omega.{arith}
 use Rattle.times.specs.Times.{width, slotOf, levelBelow, levelOf}
 use Rattle.links.specs.Lists.{Mem, change}
 use Rattle.links.proofs.laws.Lists.{change-same, change-other}
-use Rattle.stack.specs.Places.{expired, free, put, levelAt}
-use Rattle.stack.specs.Format.{over, formatted}
-use Rattle.stack.proofs.laws.Whole as stack-laws
+use Rattle.places.specs.Places.{expired, free, put, levelAt}
+use Rattle.places.specs.Format.{over, formatted}
+use Rattle.places.proofs.laws.Whole as place-laws
 use Rattle.wheel.specs.Wheel.{placeFor}
 use Rattle.wheel.specs.Sums.{total}
 use Rattle.wheel.proofs.laws.Sums.{total-ext, total-more, put-mem}
@@ -64,14 +64,14 @@ alone {s} S c p f = by (view s .lists p) refl
     by [] e = e
     by (x ∷ l) e =
         let m : Mem x (view s .lists p) = rw e (inl refl) in
-        let z : x ≡ 0 = omega (arith, stack-laws.member-below (S .standing .whole .stack) p x m) in
+        let z : x ≡ 0 = omega (arith, place-laws.member-below (S .standing .whole .places) p x m) in
         absurd (f (rw z at m))
 
 one-empty : (p : ℕ) → p < free → view one .lists p ≡ []
 one-empty p h =
-    let W = one-sound .standing .whole .stack in
+    let W = one-sound .standing .whole .places in
     let f : Mem 0 (view one .lists free) = rw one-free (inl refl) in
-    alone one-sound one-count p (λ m. omega (arith, stack-laws.member-mark W p 0 m, stack-laws.member-mark W free 0 f))
+    alone one-sound one-count p (λ m. omega (arith, place-laws.member-mark W p 0 m, place-laws.member-mark W free 0 f))
 
 -- ---- the timer is inserted
 
@@ -221,7 +221,7 @@ waited {l} R u e =
       sound = waiting-sound;
       names = record { number = refl; below = omega (arith, waiting-size); pending = waiting-at; turn = waiting-turn };
       once = λ y k.
-          let b = stack-laws.member-below (waiting-sound .standing .whole .stack) (k .0) y (k .1 .member) in
+          let b = place-laws.member-below (waiting-sound .standing .whole .places) (k .0) y (k .1 .member) in
           let z : y ≡ 0 = omega (arith, b, waiting-size) in
           ap (view waiting .period) z ∙ waiting-period;
       runs = R;

@@ -13,13 +13,13 @@ use Rattle.times.proofs.laws.Quotients.{floor-64}
 use Rattle.times.proofs.laws.Blocks.{end-later, next-floor}
 use Rattle.links.specs.Lists.{Mem, nobody}
 use Rattle.links.proofs.laws.Lists.{change-other}
-use Rattle.stack.specs.Places.{slots, parking, expired, free, levelAt}
+use Rattle.places.specs.Places.{slots, parking, expired, free, levelAt}
 use Rattle.wheel.specs.Wheel.{Lists, Rule, NextList, placeFor}
 use Rattle.wheel.proofs.laws.Between.{on-spot}
 use Rattle.wheel.specs.Sums.{total}
 use Rattle.wheel.proofs.laws.Sums.{total-ext}
 use Rattle.wheel.specs.Limited.{yet, Limited, finds, stops, moves, empties}
-use Rattle.wheel.proofs.laws.Turns.{got-none}
+use Rattle.wheel.proofs.laws.Moves.{got-none}
 use Rattle.wheel.proofs.laws.Next.{list-one, list-not-none}
 use Rattle.wheel.specs.Drain.{heights}
 use Rattle.queue.specs.declared.Answer.{Answer}

@@ -10,8 +10,8 @@ use native.Mathlib.Omega.{arith}
 use borrow.Author.Tests.{eq-eqb, ne-eqb}
 use Rattle.links.specs.Lists.{nobody, Mem, change}
 use Rattle.links.proofs.laws.Lists.{Nodup, change-same, change-other}
-use Rattle.stack.specs.Places.{expired, free}
-use Rattle.stack.proofs.laws.Whole as stack-laws
+use Rattle.places.specs.Places.{expired, free}
+use Rattle.places.proofs.laws.Whole as place-laws
 use Rattle.wheel.specs.Wheel.{Lists}
 use Rattle.wheel.specs.Sums.{sumOf, total}
 use Rattle.wheel.proofs.laws.Sums.{mem-change, mem-kept, mem-left, mem-sum, hits, lies-times, times-lies}
@@ -43,8 +43,8 @@ sum-once y (x ∷ l) d =
 module _ {s : QueueWords} (S : Sound s) where
   -- in two lists at once is nobody
   pub one-list : (i p q : ℕ) → Mem i (view s .lists p) → Mem i (view s .lists q) → p ≡ q
-  one-list i p q m k = sym (stack-laws.member-mark (S .standing .whole .stack) p i m)
-      ∙ stack-laws.member-mark (S .standing .whole .stack) q i k
+  one-list i p q m k = sym (place-laws.member-mark (S .standing .whole .places) p i m)
+      ∙ place-laws.member-mark (S .standing .whole .places) q i k
 
   -- nobody lies twice in all the lists together
   pub lies-once : (y n : ℕ) → total (λ q x. hits y x) n (view s .lists) ≤ 1
@@ -55,12 +55,12 @@ module _ {s : QueueWords} (S : Sound s) where
       (λ h.
       let b = times-lies n (view s .lists) y h in
       omega (arith, lies-once y n, sum-none y (view s .lists n) (λ m. omega (arith, one-list y (b .0) n (b .2) m))))
-      (λ h. omega (arith, sum-once y (view s .lists n) (stack-laws.list-nodup (S .standing .whole .stack) n)))
+      (λ h. omega (arith, sum-once y (view s .lists n) (place-laws.list-nodup (S .standing .whole .places) n)))
 
   -- the key of a pending record names it
   pub key-of-names : {r p : ℕ} → At (view s) r p → Names (view s) (keyOf (view s) r) r p
   key-of-names {r} {p} a =
-      let b = stack-laws.member-below (S .standing .whole .stack) p r (a .member) in
+      let b = place-laws.member-below (S .standing .whole .places) p r (a .member) in
       record { number = omega arith; below = b; pending = a; turn = omega arith }
 
 -- ---- what is taken out
@@ -109,12 +109,12 @@ module _ {s : QueueWords} (S : Sound s) where
       by-cases (ℕ-discrete (s .hand) nobody)
       (λ z.
       by-cases (ℕ-discrete p expired)
-      (λ e. omega (arith, S .rule .free z .stack y (rw e at (a .member))))
+      (λ e. omega (arith, S .rule .free z .expired y (rw e at (a .member))))
       (λ d. not-before (S .rule .free z) p y (omega (arith, a .timed, d)) (a .member)))
       (λ z.
       let I = S .rule .inside z in
       by-cases (ℕ-discrete p expired)
-      (λ e. absurd (rw (e, I .stack) at (a .member)))
+      (λ e. absurd (rw (e, I .expired) at (a .member)))
       (λ d. omega (arith, I .late, hand-reached I p y (omega (arith, a .timed, d)) (a .member))))
 
   module _ {o : Outcome} {m : ℕ} {N : Lists} (P : Passed (v .lists) o m N) (empty : v .lists expired ≡ []) where
@@ -160,7 +160,7 @@ module _ {s : QueueWords} (S : Sound s) where
   pub taken-out : {now limit m n : ℕ} {o : Outcome} {u : View} → PollTaken v now → TakesSome v now limit o m n u → TakenOut v (gotBy o) u
   taken-out h (popped-some {r} {l} e) =
       let m : Mem r (v .lists expired) = rw e (inl refl) in
-      let d = rw e at (stack-laws.list-nodup (S .standing .whole .stack) expired) in
+      let d = rw e at (place-laws.list-nodup (S .standing .whole .places) expired) in
       let rest : (y : ℕ) → y ≢ r → Mem y (v .lists expired) → Mem y l = λ y d₁ k. ⊎-elim (λ z. absurd (d₁ z)) (λ x. x) (rw e at k) in
       record {
         size = refl;

@@ -12,7 +12,7 @@ use Rattle.delay_queue.specs.declared.Call.{Call}
 use Rattle.delay_queue.specs.declared.Call.the-variants as C
 use Rattle.delay_queue.specs.Claims.{CallClaim}
 use Rattle.promises.specs.OneCall.{isNo, Ends, accepted, refused}
-use Rattle.promises.specs.Refused.{First, deadlineLines, RefusedBy}
+use Rattle.promises.specs.Refused.{FirstMet, deadlineLines, RefusedBy}
 use Rattle.promises.specs.Twelve.{AsksMidPoll, Ending, clears, formats}
 use Rattle.promises.proofs.laws.Decided.{sound-dec}
 use Rattle.promises.proofs.laws.OneCall.{call-ends}
@@ -29,7 +29,7 @@ midway-line s x d f =
     let y = behind d x in
     (sound-so s (y .0), ⊎-elim (λ z. z .1) (λ z. absurd (f (z .1))) (y .1))
 
-no-deadline : {e w : ℕ} → First (deadlineLines e w) 12 → ⊥
+no-deadline : {e w : ℕ} → FirstMet (deadlineLines e w) 12 → ⊥
 no-deadline x = behind (omega arith) (behind (omega arith) x .1) .1
 
 asks-mid : (c : Call) (s : QueueWords) → RefusedBy c s 12 → AsksMidPoll c s

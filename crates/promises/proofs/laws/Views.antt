@@ -10,7 +10,7 @@ use borrow.Author.Tests.{eq-eqb, ne-eqb}
 use Rattle.wheel.specs.Limited.{ended as stopped}
 use Rattle.pausing.specs.Pausing.{SaysYet, PollTaken}
 use Rattle.links.specs.Lists.{nobody}
-use Rattle.stack.specs.Places.{free}
+use Rattle.places.specs.Places.{free}
 use Rattle.records.specs.View.{View, withElapsed, withValue, withHand, upd, withPeriod}
 use Rattle.records.specs.Records.{lastTurn, keyOf, Names, taken, left, placed, freed}
 use Rattle.records.specs.Words.{QueueWords, view, Sound}

@@ -10,7 +10,7 @@ use native.Mathlib.Omega.{arith}
 use lib.Dec.{eqb}
 use borrow.Author.Tests.{lt-leb}
 use Rattle.links.specs.Count.{bit}
-use Rattle.stack.specs.Places.{free}
+use Rattle.places.specs.Places.{free}
 use Rattle.wheel.proofs.laws.Sums.{hits, total-le, lies-times}
 use Rattle.queue.specs.Told.{Told, told, Hands, timer}
 use Rattle.queue.specs.Told as T
@@ -32,7 +32,7 @@ use Rattle.promises.specs.Polling.{Dead, Finished}
 use Rattle.promises.proofs.laws.Polling.{none-out, TakenBy, freed-beside, takes-works, goes-on-says, least-of}
 use Rattle.promises.proofs.laws.Moves.{left-total, freed-total}
 use Rattle.promises.proofs.laws.KeysGone.{spent-unnamed, remove-spent}
-use Rattle.promises.specs.KeysStay.{Aims, Out}
+use Rattle.promises.specs.KeysStay.{Aims, HandsKey}
 use Rattle.promises.proofs.laws.KeysStay.{does-stays}
 use Rattle.promises.specs.KeysReach.{Reaches}
 use Rattle.promises.proofs.laws.KeysReach.{poll-tells, stays-reaches}
@@ -94,7 +94,7 @@ removed-once p i v f y k =
 
 module _ {s : QueueWords} (S : Sound s) (once : NoneRepeats (view s)) {k y d : ℕ} (R : Reaches (view s) k y 0 d) where
   -- the call does not take it
-  waits-on : {c : Call} {x : Told} {w : View} → ViewGoes (view s) c x w → (Aims k c → not (isNo x) ≡ false) → (Out k x → ⊥) → NoneRepeats w
+  waits-on : {c : Call} {x : Told} {w : View} → ViewGoes (view s) c x w → (Aims k c → not (isNo x) ≡ false) → (HandsKey k x → ⊥) → NoneRepeats w
       → pending w + counted d c x ≤ pending (view s) → Went (view s) k y d c x w
   waits-on D aims out f few = waits (stays-reaches R (does-stays S (R .names) D aims out)) f few
 

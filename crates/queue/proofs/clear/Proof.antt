@@ -1,22 +1,22 @@
--- `clear` meets its contract: the records passed are done (`clear-turn`), and then all are (`clear-done`).
+-- `clear` meets its contract: the records passed are done (`clear-step`), and then all are (`clear-done`).
 use borrow.Author.Needs.{needs}
 use mathlib.Core.Path.{_≡_}
 use Prim.Native.Nat.{_≤_, _-_}
 use native.Mathlib.Omega.{arith}
 use Rattle.records.specs.Words.{parts, count}
-use Rattle.queue.proofs.laws.Polls.{ClearedSo, clear-none, clear-turn, clear-done}
+use Rattle.queue.proofs.laws.Polls.{ClearedSo, clear-none, clear-step, clear-done}
 use Rattle.queue.proofs.clear.Statement.{statement}
 use Rattle.queue.proofs.clear.Tie as tie
 
 abbrev Inv-loop : tie.InvT-loop
-Inv-loop elapsed rows₀ tops₀ heads₀ values deadlines nexts₀ prevs₀ turns₀ marks₀ n i₀ rows tops heads nexts prevs turns marks i =
+Inv-loop elapsed occupied₀ tops₀ heads₀ values deadlines nexts₀ prevs₀ turns₀ marks₀ n i₀ occupied tops heads nexts prevs turns marks i =
     (i ≤ n)
-    × (n ≡ count (parts elapsed rows₀ tops₀ heads₀ values deadlines nexts₀ prevs₀ turns₀ marks₀))
-    × ClearedSo (parts elapsed rows₀ tops₀ heads₀ values deadlines nexts₀ prevs₀ turns₀ marks₀)
-    i (parts elapsed rows tops heads values deadlines nexts prevs turns marks)
+    × (n ≡ count (parts elapsed occupied₀ tops₀ heads₀ values deadlines nexts₀ prevs₀ turns₀ marks₀))
+    × ClearedSo (parts elapsed occupied₀ tops₀ heads₀ values deadlines nexts₀ prevs₀ turns₀ marks₀)
+    i (parts elapsed occupied tops heads values deadlines nexts prevs turns marks)
 
 abbrev μ-loop : tie.MeasureT-loop
-μ-loop elapsed rows₀ tops₀ heads₀ values deadlines nexts₀ prevs₀ turns₀ marks₀ n i₀ rows tops heads nexts prevs turns marks i = n - i
+μ-loop elapsed occupied₀ tops₀ heads₀ values deadlines nexts₀ prevs₀ turns₀ marks₀ n i₀ occupied tops heads nexts prevs turns marks i = n - i
 
 abbrev to-start : tie.After-count-of Inv-loop μ-loop → tie.Start Inv-loop μ-loop
 to-start c =
@@ -55,7 +55,7 @@ loop-again c =
     let turn = to-at-loop at-clear-one in (
       omega arith,
       turn .loop .inv .1,
-      clear-turn (turn .loop .inv .2) (search needs) (at-clear-one .clear-one .ensures),
+      clear-step (turn .loop .inv .2) (search needs) (at-clear-one .clear-one .ensures),
     )
 
 same-length : tie.Need-same-length Inv-loop μ-loop

@@ -8,10 +8,10 @@ use native.Mathlib.Omega.{arith}
 use lib.ListN.{length}
 use Rattle.links.specs.Lists.{nobody}
 use Rattle.links.specs.Links.{at}
-use Rattle.stack.specs.Places.{free}
-use Rattle.stack.proofs.laws.Heads.{head-free}
-use Rattle.stack.specs.Words.{headAt}
-use Rattle.stack.proofs.laws.Whole as stack-laws
+use Rattle.places.specs.Places.{free}
+use Rattle.places.proofs.laws.Heads.{head-free}
+use Rattle.places.specs.Words.{headAt}
+use Rattle.places.proofs.laws.Whole as place-laws
 use Rattle.wheel.specs.Words.{WheelWords, Pops, CanLeave, Leaves}
 use Rattle.queue.specs.declared.Answer.{Answer}
 use Rattle.queue.specs.declared.Answer.the-variants as A
@@ -56,17 +56,17 @@ answered z u e G = record { told = e; sound = sounds (G .sound) z u; view = G .v
 -- ---- insert
 
 module _ {s : QueueWords} (S : Sound s) (rest : AtRest s) (value when period : ℕ) where
-  free-head : s .wheel .stack .stacks .free ≡ headAt (s .wheel .stack) free
-  free-head = sym (head-free (s .wheel .stack .stacks) (s .wheel .stack .heads))
+  free-head : s .wheel .places .tops .free ≡ headAt (s .wheel .places) free
+  free-head = sym (head-free (s .wheel .places .tops) (s .wheel .places .heads))
 
-  none-free : s .wheel .stack .stacks .free ≡ nobody → view s .lists free ≡ []
-  none-free z = stack-laws.list-empty (S .standing .whole .stack) free (sym free-head ∙ z)
+  none-free : s .wheel .places .tops .free ≡ nobody → view s .lists free ≡ []
+  none-free z = place-laws.list-empty (S .standing .whole .places) free (sym free-head ∙ z)
 
-  some-free : s .wheel .stack .stacks .free ≢ nobody → (r : ℕ) × (l : List ℕ) × (view s .lists free ≡ r ∷ l)
-  some-free d = let c = stack-laws.list-cons (S .standing .whole .stack) free (λ z. d (free-head ∙ z)) in (_, c .0, c .1)
+  some-free : s .wheel .places .tops .free ≢ nobody → (r : ℕ) × (l : List ℕ) × (view s .lists free ≡ r ∷ l)
+  some-free d = let c = place-laws.list-cons (S .standing .whole .places) free (λ z. d (free-head ∙ z)) in (_, c .0, c .1)
 
   -- no record is free
-  pub insert-full : s .wheel .stack .stacks .free ≡ nobody → InsertOn s value when period (A.No 3) s
+  pub insert-full : s .wheel .places .tops .free ≡ nobody → InsertOn s value when period (A.No 3) s
   insert-full z =
       let e = none-free z in
       record {
@@ -76,7 +76,7 @@ module _ {s : QueueWords} (S : Sound s) (rest : AtRest s) (value when period : �
         done = λ r l f. absurd (nil≢cons (sym e ∙ f));
       }
 
-  module _ (some : s .wheel .stack .stacks .free ≢ nobody) {n : ℕ} (D : DeadlineNo (elapsed s) when n) where
+  module _ (some : s .wheel .places .tops .free ≢ nobody) {n : ℕ} (D : DeadlineNo (elapsed s) when n) where
     -- the deadline is refused
     pub insert-refused : n ≢ 0 → InsertOn s value when period (A.No n) s
     insert-refused d =
@@ -153,7 +153,7 @@ module _ {s : QueueWords} (S : Sound s) (rest : AtRest s) (value when period : �
 
 -- ---- reset and remove
 
-pub find-room : {s : QueueWords} → Sound s → (count s ≤ length (s .turns)) × (count s ≤ length (s .wheel .stack .links .marks))
+pub find-room : {s : QueueWords} → Sound s → (count s ≤ length (s .turns)) × (count s ≤ length (s .wheel .places .links .marks))
 find-room S = (S .standing .fits .room .turns, S .standing .fits .room .links .marks)
 
 -- a key names one record only, in one place
@@ -161,13 +161,13 @@ pub names-one : {s : QueueWords} → Sound s → {key i p j q : ℕ} → Names (
 names-one {s} S {key} {i} {p} {j} {q} M N =
     let e : i ≡ j = M .number ∙ sym (N .number) in (
       e,
-      sym (stack-laws.member-mark (S .standing .whole .stack) p i (M .pending .member)) ∙ ap (markOf s) e
-          ∙ stack-laws.member-mark (S .standing .whole .stack) q j (N .pending .member),
+      sym (place-laws.member-mark (S .standing .whole .places) p i (M .pending .member)) ∙ ap (markOf s) e
+          ∙ place-laws.member-mark (S .standing .whole .places) q j (N .pending .member),
     )
 
 module _ {s : QueueWords} (S : Sound s) (rest : AtRest s) (key when : ℕ) where
   -- the key names nobody
-  pub reset-dead : ((i : ℕ) → KeyIs (count s) (s .turns) (s .wheel .stack .links .marks) key i → ⊥) → ResetOn s key when (A.No 6) s
+  pub reset-dead : ((i : ℕ) → KeyIs (count s) (s .turns) (s .wheel .places .links .marks) key i → ⊥) → ResetOn s key when (A.No 6) s
   reset-dead h =
       record {
         dead = λ f. record { told = refl; same = refl };
@@ -176,10 +176,10 @@ module _ {s : QueueWords} (S : Sound s) (rest : AtRest s) (key when : ℕ) where
         done = λ r p N. absurd (h r (names-key S key N));
       }
 
-  pub remove-dead : ((i : ℕ) → KeyIs (count s) (s .turns) (s .wheel .stack .links .marks) key i → ⊥) → RemoveOn s key (A.No 6) s
+  pub remove-dead : ((i : ℕ) → KeyIs (count s) (s .turns) (s .wheel .places .links .marks) key i → ⊥) → RemoveOn s key (A.No 6) s
   remove-dead h = record { dead = λ f. record { told = refl; same = refl }; done = λ r p N. absurd (h r (names-key S key N)) }
 
-  module _ {i : ℕ} (K : KeyIs (count s) (s .turns) (s .wheel .stack .links .marks) key i) where
+  module _ {i : ℕ} (K : KeyIs (count s) (s .turns) (s .wheel .places .links .marks) key i) where
     abbrev M : Names (view s) key i (markOf s i)
     M = key-names S key K
 

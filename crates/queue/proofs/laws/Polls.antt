@@ -17,8 +17,8 @@ use Rattle.links.proofs.laws.Lists.{change-other}
 use Rattle.links.specs.Links.{at}
 use Rattle.links.proofs.laws.Count.{elem, cnt-ext, cnt-elem, mem-elem, elem-mem}
 use Rattle.links.proofs.laws.Judge.{cat, mem-cat, cat-mem, cat-nodup}
-use Rattle.stack.specs.Places.{parking, expired, free}
-use Rattle.stack.proofs.laws.Whole as stack-laws
+use Rattle.places.specs.Places.{parking, expired, free}
+use Rattle.places.proofs.laws.Whole as place-laws
 use Rattle.wheel.specs.Limited.{Outcome, ended as stopped, yet, Limited}
 use Rattle.wheel.specs.Midway.{Obeys}
 use Rattle.wheel.proofs.laws.Sums.{mem-change, mem-left, total-zero, total-scale, hits}
@@ -29,8 +29,8 @@ use Rattle.wheel.specs.declared.Wake.{Wake}
 use Rattle.wheel.specs.declared.Wake.the-variants.{At as Wake·At, Never}
 use Rattle.wheel.specs.Expiration.{WakeIs}
 use Rattle.wheel.specs.Words.{WheelWords, wheelWords, Becomes, LooseIn, Pops, CanLeave, Leaves, lists as listsIn}
-use Rattle.wheel.specs.Turns.{CanPoll, PollsTo, gotten, outcome}
-use Rattle.wheel.proofs.laws.Turns.{popped-empty, popped-cons}
+use Rattle.wheel.specs.Moves.{CanPoll, PollsTo, gotten, outcome}
+use Rattle.wheel.proofs.laws.Moves.{popped-empty, popped-cons}
 use Rattle.queue.specs.declared.Answer.{Answer}
 use Rattle.queue.specs.declared.Answer.the-variants as A
 use Rattle.queue.specs.Told.{Told, told, out, wake, never}
@@ -48,7 +48,7 @@ use Rattle.records.specs.Inner.{StandsBut, GoesBut, Goes, LooseAt, CanPlace, Pl
 use Rattle.records.proofs.laws.Inner.{with-rule, sounds, stands-hold, loose-out, StayBut, stay-all, stay-popped, stands-wheel, stands-lists, can-leave, mem-without, stands-left, stands-freed, goes-placed, goes-freed, left-size, placed-size, freed-size}
 use Rattle.records.proofs.laws.Again.{again-near}
 use Rattle.queue.proofs.laws.Calls.{stands-then}
-use Rattle.queue.specs.Inner.{CanPollIdx, PollsIdx, of-stack, of-wheel, PollNo, HandsOut, Shows, pendingIn, ClearsOne}
+use Rattle.queue.specs.Inner.{CanPollIdx, PollsIdx, of-expired, of-wheel, PollNo, HandsOut, Shows, pendingIn, ClearsOne}
 
 -- ---- a loose record is handed out, and freed or placed again
 
@@ -133,7 +133,7 @@ wheel-can C Q z =
     record {
       whole = B .whole;
       rule = rw (B .elapsed, B .lists) (C .rule);
-      stack = ap (λ L. L expired) (B .lists) ∙ empty;
+      expired = ap (λ L. L expired) (B .lists) ∙ empty;
       not-back = λ h. omega (arith, B .elapsed, C .not-back h);
       deadlines = omega (arith, B .kept .size, C .deadlines);
     }
@@ -218,12 +218,12 @@ module _ {s : QueueWords} (S : Sound s) (time limit : ℕ) {no : ℕ} (N : PollN
         (v : View) × TakesSome (view s) time limit (stopped (gotten i)) m n v × GoesBut i s v (polledTo t nobody 0) × (i ≢ nobody → LooseIn t i)
 
     -- the expired stack has a first: so no poll is in hand
-    taken-stack : {i : ℕ} {t : WheelWords} → Pops (s .wheel) expired i t → i ≢ nobody → Taken i 0 0 t
-    taken-stack {i} {t} Q d =
+    taken-expired : {i : ℕ} {t : WheelWords} → Pops (s .wheel) expired i t → i ≢ nobody → Taken i 0 0 t
+    taken-expired {i} {t} Q d =
         let (l, was) = popped-cons (S .standing .whole) Q d in
         let (same, loose, B) = Q .some i l was in
         let rest : AtRest s = by-cases (ℕ-discrete (s .hand) nobody) (λ z. z)
-        (λ z. absurd (nil≢cons (sym (S .rule .inside z .stack) ∙ was))) in
+        (λ z. absurd (nil≢cons (sym (S .rule .inside z .expired) ∙ was))) in
         let G : GoesBut i s (withLists (change (view s .lists) expired l) (view s)) (polledTo t (s .hand) (s .until))
         = with-rule (stands-lists (S .standing) B (stay-popped (view s .lists) expired i l was))
         (rule-less (S .rule .free rest) (mem-left (view s .lists) expired i l was)) in
@@ -257,7 +257,7 @@ module _ {s : QueueWords} (S : Sound s) (time limit : ℕ) {no : ℕ} (N : PollN
             (λ h. (p, rw (passed .aside p (omega arith)) k))
 
         stood : StandsBut i s (withElapsed (t .elapsed) (withLists (listsIn t) (view s))) (polledTo t (s .hand) (s .until))
-        stood = stands-wheel (S .standing) (R .whole) (stack-laws.kept-trans (B .kept) (R .kept)) refl refl stays
+        stood = stands-wheel (S .standing) (R .whole) (place-laws.kept-trans (B .kept) (R .kept)) refl refl stays
 
         taken-wheel : to ≡ nobody → Taken i m n t
         taken-wheel z =
@@ -274,7 +274,7 @@ module _ {s : QueueWords} (S : Sound s) (time limit : ℕ) {no : ℕ} (N : PollN
             let o : outcome i to ≡ yet to = rw (ne-eqb to nobody d) in
             let T : TakesSome (view s) time limit (yet to) m n (withHand to time (withElapsed (t .elapsed) (withLists (listsIn t) (view s))))
             = polled-some empty (rw o at polls) in
-            let P = stands-hold (stands-wheel (S .standing) (R .whole) (stack-laws.kept-trans (B .kept) (R .kept)) refl refl (stay-yet d)) to time in (
+            let P = stands-hold (stands-wheel (S .standing) (R .whole) (place-laws.kept-trans (B .kept) (R .kept)) refl refl (stay-yet d)) to time in (
               record { standing = P .standing; rule = R .rule; no-now = λ z. absurd (d z) },
               rw (P .view) (not-yet T),
               P .kept,
@@ -288,7 +288,7 @@ module _ {s : QueueWords} (S : Sound s) (time limit : ℕ) {no : ℕ} (N : PollN
                 (λ h. (p, rw (passed .aside p (omega arith)) k))
 
     taken : {i to m n : ℕ} {t : WheelWords} → PollsIdx (at (s .deadlines)) time limit (s .hand) (s .wheel) i to m n t → to ≡ nobody → Taken i m n t
-    taken (of-stack Q d) z = taken-stack Q d
+    taken (of-expired Q d) z = taken-expired Q d
     taken (of-wheel Q e R) z = taken-wheel Q e R z
 
     -- what is owed, whether it began or went on
@@ -306,7 +306,7 @@ module _ {s : QueueWords} (S : Sound s) (time limit : ℕ) {no : ℕ} (N : PollN
         where
           by : {i to m n : ℕ} {t : WheelWords} → PollsIdx (at (s .deadlines)) time limit (s .hand) (s .wheel) i to m n t → to ≢ nobody
               → SomeOn s time limit (A.NotYet m n) (polledTo t to time)
-          by (of-stack Q e) d = absurd (d refl)
+          by (of-expired Q e) d = absurd (d refl)
           by (of-wheel Q e R) d = taken-yet Q e R d
 
       module _ (z : to ≡ nobody) where
@@ -365,22 +365,22 @@ pub pending-is : {s : QueueWords} → Sound s → pendingIn (markOf s) (count s)
 unfolding pendingIn pending
 pending-is {s} S =
     let L = view s .lists in
-    let W = S .standing .whole .stack in
+    let W = S .standing .whole .places in
     let c = cat L free 0 in
-    let below : (i : ℕ) → Mem i c → i < count s = λ i m. let r = mem-cat L free 0 i m in stack-laws.member-below W (r .0) i (r .3) in
+    let below : (i : ℕ) → Mem i c → i < count s = λ i m. let r = mem-cat L free 0 i m in place-laws.member-below W (r .0) i (r .3) in
     let same : (i : ℕ) → i < count s → ltb (markOf s i) free ≡ elem i c
     = λ i h.
     by-cases (decLt (markOf s i) free)
     (λ g.
     lt-ltb (markOf s i) free g
-    ∙ sym (mem-elem i c (cat-mem L free 0 (markOf s i) i (omega arith) (omega arith) (stack-laws.marked-member W i h (omega arith)))))
+    ∙ sym (mem-elem i c (cat-mem L free 0 (markOf s i) i (omega arith) (omega arith) (place-laws.marked-member W i h (omega arith)))))
     (λ g.
     le-ltb (markOf s i) free (omega (arith, g))
     ∙ sym (not-in (elem i c) (λ e.
     let r = mem-cat L free 0 i (elem-mem i c e) in
-    g (omega (arith, stack-laws.member-mark W (r .0) i (r .3)))))) in
+    g (omega (arith, place-laws.member-mark W (r .0) i (r .3)))))) in
     cnt-ext (λ i. ltb (markOf s i) free) (λ i. elem i c) (count s) same
-    ∙ cnt-elem c (count s) (cat-nodup L (markOf s) free 0 (λ q. stack-laws.list-nodup W q) (λ q i m. stack-laws.member-mark W q i m)) below
+    ∙ cnt-elem c (count s) (cat-nodup L (markOf s) free 0 (λ q. place-laws.list-nodup W q) (λ q i m. place-laws.member-mark W q i m)) below
     ∙ sym (omega (arith, total-scale 1 free L 0 free (omega arith), total-zero (λ p x. 1) L))
   where
     not-in : (b : Bool) → (b ≡ true → ⊥) → b ≡ false
@@ -390,7 +390,7 @@ pending-is {s} S =
 -- ---- clear
 
 at-mark : {s : QueueWords} → Standing s → {i : ℕ} → i < count s → markOf s i < free → At (view s) i (markOf s i)
-at-mark S {i} h g = record { timed = g; member = stack-laws.marked-member (S .whole .stack) i h (omega arith) }
+at-mark S {i} h g = record { timed = g; member = place-laws.marked-member (S .whole .places) i h (omega arith) }
 
 -- in a slot or on the expired stack after it, and so before it
 freed-at : (i : ℕ) (v : View) (j p : ℕ) → At (freed i v) j p → At v j p
@@ -410,7 +410,7 @@ left-less p i v q x m = ⊎-elim (λ a. rw (a .0) (mem-without i x (v .lists p) 
 module _ {s : QueueWords} (S : Standing s) {i : ℕ} (h : i < count s) where
   pub clear-stays : free ≤ markOf s i → ClearsOne s i s
   clear-stays g =
-      let out : (p : ℕ) → At (view s) i p → ⊥ = λ p a. omega (arith, stack-laws.member-mark (S .whole .stack) p i (a .member)) in
+      let out : (p : ℕ) → At (view s) i p → ⊥ = λ p a. omega (arith, place-laws.member-mark (S .whole .places) p i (a .member)) in
       record {
         stays = λ f. refl;
         goes = λ p a. absurd (out p a);
@@ -444,7 +444,7 @@ module _ {s : QueueWords} (S : Standing s) {i : ℕ} (h : i < count s) where
           = λ j p a. freed-at i (view s₃) j p (rw (H .view) at a) in
           record {
             stays = λ f. absurd (f (markOf s i) (at-mark S h g));
-            goes = λ p a. let e : markOf s i ≡ p = stack-laws.member-mark (S .whole .stack) p i (a .member) in rw (← e) G;
+            goes = λ p a. let e : markOf s i ≡ p = place-laws.member-mark (S .whole .places) p i (a .member) in rw (← e) G;
             gone = λ p a. loose-out (G₄ .standing) (Q .item) p (before i p a .member);
             others = λ j p a.
                 let b = rw (G₄ .view) at (before j p a) in
@@ -465,8 +465,8 @@ pub record ClearedSo (s : QueueWords) (i : ℕ) (s′ : QueueWords) : Type 0 whe
 pub clear-none : {s : QueueWords} → Standing s → ClearedSo s 0 s
 clear-none {s} S = record { standing = S; size = refl; kept = past-refl (count s) s; clears = begun; gone = λ j h. absurd (omega arith) }
 
-pub clear-turn : {s s₁ s₂ : QueueWords} {i : ℕ} → ClearedSo s i s₁ → i < count s₁ → ClearsOne s₁ i s₂ → ClearedSo s (i + 1) s₂
-clear-turn {s} {s₁} {s₂} {i} C h Q =
+pub clear-step : {s s₁ s₂ : QueueWords} {i : ℕ} → ClearedSo s i s₁ → i < count s₁ → ClearsOne s₁ i s₂ → ClearedSo s (i + 1) s₂
+clear-step {s} {s₁} {s₂} {i} C h Q =
     record {
       standing = Q .standing;
       size = Q .size ∙ C .size;
@@ -479,7 +479,7 @@ clear-turn {s} {s₁} {s₂} {i} C h Q =
     by (yes g) = let a = at-mark (C .standing) h g in rw (Q .goes (markOf s₁ i) a .view) (gave (C .clears) a)
     by (no g) =
         let out : (p : ℕ) → At (view s₁) i p → ⊥ = λ p a. g
-        (omega (arith, stack-laws.member-mark (C .standing .whole .stack) p i (a .member))) in
+        (omega (arith, place-laws.member-mark (C .standing .whole .places) p i (a .member))) in
         rw (Q .stays out) (kept (C .clears) out)
 
 -- freeing and unlinking do not ask for the poll in hand
@@ -504,20 +504,20 @@ clears-hold {v} (gave {k} {p} {u = w} r a) h u =
 -- nobody is pending, elapsed is 0, and no poll is in hand
 pub clear-done : {s s₁ : QueueWords} {i : ℕ} → ClearedSo s i s₁ → i ≡ count s → (h u : ℕ)
     → ClearOn (holding h u s) A.Done
-    (queueWords (wheelWords 0 (s₁ .wheel .occupied) (s₁ .wheel .stack)) (s₁ .values) (s₁ .deadlines) (s₁ .turns) nobody 0)
+    (queueWords (wheelWords 0 (s₁ .wheel .occupied) (s₁ .wheel .places)) (s₁ .values) (s₁ .deadlines) (s₁ .turns) nobody 0)
 clear-done {s} {s₁} {i} C e h u =
     let S = C .standing in
     let out : (p x : ℕ) → p < free → Mem x (view s₁ .lists p) → ⊥
-    = λ p x h m. C .gone x (omega (arith, stack-laws.member-below (S .whole .stack) p x m)) p (record { timed = h; member = m }) in
+    = λ p x h m. C .gone x (omega (arith, place-laws.member-below (S .whole .places) p x m)) p (record { timed = h; member = m }) in
     let G : Goes s₁ (withHand nobody 0 (withElapsed 0 (view s₁)))
-    (queueWords (wheelWords 0 (s₁ .wheel .occupied) (s₁ .wheel .stack)) (s₁ .values) (s₁ .deadlines) (s₁ .turns) nobody 0)
+    (queueWords (wheelWords 0 (s₁ .wheel .occupied) (s₁ .wheel .places)) (s₁ .values) (s₁ .deadlines) (s₁ .turns) nobody 0)
     = with-rule
-    (stands-hold (stands-wheel S (record { stack = S .whole .stack; rows = S .whole .rows }) (stack-laws.kept-refl (s₁ .wheel .stack)) refl refl
+    (stands-hold (stands-wheel S (record { places = S .whole .places; occupied = S .whole .occupied }) (place-laws.kept-refl (s₁ .wheel .places)) refl refl
     (stay-all nobody (view s₁ .lists))) nobody 0)
     (record {
       wheel = λ p x h m. absurd (out p x (omega arith) m);
       parked = λ x m. absurd (out parking x (omega arith) m);
-      stack = λ x m. absurd (out expired x (omega arith) m);
+      expired = λ x m. absurd (out expired x (omega arith) m);
     }) in
     let K = past-then (C .size) (C .kept) (G .kept) in
     record {

@@ -5,11 +5,11 @@ use mathlib.Core.Option.{Option, none}
 use Prim.Native.Nat.{ℕ, _≤_, _<_}
 use native.Mathlib.Omega.{arith}
 use Rattle.links.specs.Lists.{nobody}
-use Rattle.stack.specs.Places.{mostHeights}
+use Rattle.places.specs.Places.{mostHeights}
 use Rattle.wheel.specs.Limited.{ended as stopped, yet, Limited}
 use Rattle.wheel.specs.Midway.{Obeys}
 use Rattle.wheel.proofs.laws.Limited.{yet-all, limited-polls}
-use Rattle.wheel.proofs.laws.Turns.{got-none, heights-small}
+use Rattle.wheel.proofs.laws.Moves.{got-none, heights-small}
 use Rattle.wheel.proofs.laws.Passed.{limited-passed}
 use Rattle.records.specs.View.{View, withElapsed, withLists, withHand}
 use Rattle.records.specs.Words.{QueueWords, elapsed, view, AtRest, MidPoll, Sound}

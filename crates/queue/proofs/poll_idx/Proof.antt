@@ -1,6 +1,6 @@
--- `poll_idx` meets its contract: the expired stack has a first (`of-stack`), or the wheel answers (`of-wheel`).
+-- `poll_idx` meets its contract: the expired stack has a first (`of-expired`), or the wheel answers (`of-wheel`).
 use borrow.Author.Needs.{needs}
-use Rattle.queue.specs.Inner.{of-stack, of-wheel}
+use Rattle.queue.specs.Inner.{of-expired, of-wheel}
 use Rattle.queue.proofs.laws.Polls.{wheel-can}
 use Rattle.queue.proofs.poll_idx.Statement.{statement}
 use Rattle.queue.proofs.poll_idx.Tie as tie
@@ -39,7 +39,7 @@ same-length-3 : tie.Need-same-length-3
 same-length-3 c = search needs
 
 returns : tie.Need-returns
-returns c = of-stack (to-pop (c .before) .pop .ensures) (c .if1 .taken)
+returns c = of-expired (to-pop (c .before) .pop .ensures) (c .if1 .taken)
 
 poll-requires : tie.Need-poll-requires
 poll-requires c κs =

@@ -6,7 +6,7 @@ use native.Mathlib.Decide.{ℕ-discrete, decLt}
 use native.Mathlib.Omega.{arith}
 use Rattle.times.specs.Times.{maxDuration}
 use Rattle.links.specs.Links.{at}
-use Rattle.stack.specs.Places.{free}
+use Rattle.places.specs.Places.{free}
 use Rattle.records.specs.Records.{turnIn, numberIn, Names, TooFar, Near, TooOld, Takes}
 use Rattle.records.specs.Words.{QueueWords, count, markOf, view, Sound}
 use Rattle.records.proofs.laws.Found.{key-names, names-key, find-turn}

@@ -9,9 +9,9 @@ use lib.Dec.{ltb}
 use borrow.Author.Tests.{ltb-true, ltb-false}
 use Rattle.times.specs.Times.{maxDuration}
 use Rattle.links.specs.Links.{at}
-use Rattle.stack.specs.Places.{free}
-use Rattle.stack.proofs.laws.Asked.{not-below, is-below}
-use Rattle.stack.proofs.laws.Whole as stack-laws
+use Rattle.places.specs.Places.{free}
+use Rattle.places.proofs.laws.Asked.{not-below, is-below}
+use Rattle.places.proofs.laws.Whole as place-laws
 use Rattle.records.specs.declared.Found.{Found}
 use Rattle.records.specs.declared.Found.the-variants as F
 use Rattle.records.specs.Records.{turnIn, numberIn, Names, TooOld}
@@ -51,25 +51,25 @@ module _ (e w : ℕ) where
 
 module _ {s : QueueWords} (S : Sound s) (key : ℕ) where
   -- and by the view
-  pub key-names : {i : ℕ} → KeyIs (count s) (s .turns) (s .wheel .stack .links .marks) key i → Names (view s) key i (markOf s i)
+  pub key-names : {i : ℕ} → KeyIs (count s) (s .turns) (s .wheel .places .links .marks) key i → Names (view s) key i (markOf s i)
   key-names {i} K =
       record {
         number = K .number;
         below = K .below;
         pending = record {
           timed = K .pending;
-          member = stack-laws.marked-member (S .standing .whole .stack) i (K .below)
+          member = place-laws.marked-member (S .standing .whole .places) i (K .below)
               (omega (arith, K .pending));
         };
         turn = K .turn;
       }
 
-  pub names-key : {i p : ℕ} → Names (view s) key i p → KeyIs (count s) (s .turns) (s .wheel .stack .links .marks) key i
+  pub names-key : {i p : ℕ} → Names (view s) key i p → KeyIs (count s) (s .turns) (s .wheel .places .links .marks) key i
   names-key {i} {p} N =
       record {
         number = N .number;
         below = N .below;
-        pending = omega (arith, stack-laws.member-mark (S .standing .whole .stack) p i (N .pending .member), N .pending .timed);
+        pending = omega (arith, place-laws.member-mark (S .standing .whole .places) p i (N .pending .member), N .pending .timed);
         turn = N .turn;
       }
 

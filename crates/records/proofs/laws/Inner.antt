@@ -18,15 +18,15 @@ use Rattle.links.proofs.laws.Lists.{change-same, change-other}
 use Rattle.links.specs.Links.{at}
 use Rattle.links.specs.Whole.{Kept}
 use Rattle.links.proofs.laws.Whole.{kept-refl, kept-trans, kept-set}
-use Rattle.stack.specs.Places.{slots, parking, expired, free, places, retired, put}
-use Rattle.stack.specs.Words.{StackWords, markOf as markAt, retire}
-use Rattle.stack.specs.Whole as stack
-use Rattle.stack.proofs.laws.Whole as stack-laws
+use Rattle.places.specs.Places.{slots, parking, expired, free, places, retired, put}
+use Rattle.places.specs.Words.{PlaceWords, markOf as markAt, retire}
+use Rattle.places.specs.Whole as places
+use Rattle.places.proofs.laws.Whole as place-laws
 use Rattle.wheel.specs.Wheel.{Lists, placeFor, OnWheel, Rule, arrive}
 use Rattle.wheel.proofs.laws.Sums.{mem-kept, put-mem, mem-joined}
 use Rattle.wheel.proofs.laws.Between.{rule-less}
 use Rattle.wheel.specs.Words.{WheelWords, wheelWords, WheelWhole, Becomes, CanPush, CanLeave, Leaves, lists as listsIn, markOf as markIn}
-use Rattle.wheel.specs.Turns.{CanInsert}
+use Rattle.wheel.specs.Moves.{CanInsert}
 use Rattle.records.specs.View.{View, viewOf, withElapsed, withLists, withValue, withPeriod, withHand, upd}
 use Rattle.records.proofs.laws.View.{view-eq}
 use Rattle.records.specs.Slices.{valueAt, periodAt, given}
@@ -55,7 +55,7 @@ sounds S z u = record { standing = S .standing; rule = record { free = λ _. S .
 
 -- whose mark is no list's is in none
 pub unmarked-out : {t : WheelWords} → WheelWhole t → (i : ℕ) → places ≤ markIn t i → (p : ℕ) → Mem i (listsIn t p) → ⊥
-unmarked-out W i z p m = omega (arith, z, stack-laws.member-mark (W .stack) p i m, stack-laws.member-place (W .stack) p i m)
+unmarked-out W i z p m = omega (arith, z, place-laws.member-mark (W .places) p i m, place-laws.member-place (W .places) p i m)
 
 pub loose-out : {j : ℕ} {s : QueueWords} → StandingBut j s → {i : ℕ} → LooseAt s i → (p : ℕ) → Mem i (view s .lists p) → ⊥
 loose-out S {i} o = unmarked-out (S .whole) i (omega (arith, o .loose))
@@ -67,9 +67,9 @@ abbrev RetiredBut : ℕ → ℕ → Lists → (ℕ → ℕ) → (ℕ → ℕ) �
 RetiredBut item n L m k = (i : ℕ) → i < n → i ≢ item → ((p : ℕ) → Mem i (L p) → ⊥) → (m i ≡ retired) × (k i ≡ lastTurn)
 
 -- t keeps who is retired
-retired-but : {j : ℕ} {s : QueueWords} → StandingBut j s → {t : StackWords} → stack.StackKept (s .wheel .stack) t
+retired-but : {j : ℕ} {s : QueueWords} → StandingBut j s → {t : PlaceWords} → places.PlacesKept (s .wheel .places) t
     → RetiredBut j (count s) (view s .lists) (markAt t) (view s .turn)
-retired-but S K i h d out = let r = S .retired i h d (stack-laws.unlisted-mark (S .whole .stack) i h out) in (K .retired i (r .0), r .1)
+retired-but S K i h d out = let r = S .retired i h d (place-laws.unlisted-mark (S .whole .places) i h out) in (K .retired i (r .0), r .1)
 
 -- no record has nobody's number: all that are in no list are retired
 pub sound-retired : {s : QueueWords} → Sound s → (i : ℕ) → i < count s → places ≤ markOf s i → (markOf s i ≡ retired) × (at (s .turns) i ≡ lastTurn)
@@ -89,7 +89,7 @@ stay-popped L p x l e q y m d = (q, mem-kept L p l q y (λ k. ⊎-elim (λ z. ab
 -- ---- the wheel and the words of the records change: what is left to show is that turns are in range, and who is retired
 
 stands : {j : ℕ} {s : QueueWords} → StandingBut j s → {e : ℕ} {L : Lists} {t : WheelWords} → WheelWhole t
-    → stack.StackKept (s .wheel .stack) (t .stack)
+    → places.PlacesKept (s .wheel .places) (t .places)
     → t .elapsed ≡ e → listsIn t ≡ L → {vs ds ts : List ℕ} → Kept (2 * count s) (s .values) vs
     → Kept (count s) (s .deadlines) ds → Kept (count s) (s .turns) ts → {v p d k : ℕ → ℕ}
     → valueAt vs ≡ v → periodAt vs ≡ p → at ds ≡ d → at ts ≡ k
@@ -101,7 +101,7 @@ stands S W K ee el vals dues terms ev ep ed et turns retired =
         fits = record {
           some = omega arith;
           few = omega arith;
-          room = record { values = omega arith; deadlines = omega arith; links = stack-laws.room (W .stack); turns = omega arith };
+          room = record { values = omega arith; deadlines = omega arith; links = place-laws.room (W .places); turns = omega arith };
         };
         whole = W;
         turns = λ i h. rw (ap (λ f. f i) et) (turns i (omega arith));
@@ -117,7 +117,7 @@ abbrev shifted : QueueWords → WheelWords → QueueWords
 shifted s t = queueWords t (s .values) (s .deadlines) (s .turns) (s .hand) (s .until)
 
 module _ {s : QueueWords} (S : Standing s) {t : WheelWords} where
-  pub stands-wheel : {e item : ℕ} {L : Lists} → WheelWhole t → stack.StackKept (s .wheel .stack) (t .stack) → t .elapsed ≡ e
+  pub stands-wheel : {e item : ℕ} {L : Lists} → WheelWhole t → places.PlacesKept (s .wheel .places) (t .places) → t .elapsed ≡ e
       → listsIn t ≡ L → StayBut item (view s .lists) L → StandsBut item s (withElapsed e (withLists L (view s))) (shifted s t)
   stands-wheel W K ee el stay =
       stands S W K ee el (kept-refl _ _) (kept-refl _ _) (kept-refl _ _) refl refl refl refl (S .turns)
@@ -148,7 +148,7 @@ rule-beside {d} {e} {L} R l =
     record {
       wheel = λ p x hp m. R .wheel p x hp (rw (change-other L free l p (omega arith)) at m);
       parked = λ x m. R .parked x (rw (change-other L free l parking (omega arith)) at m);
-      stack = λ x m. R .stack x (rw (change-other L free l expired (omega arith)) at m);
+      expired = λ x m. R .expired x (rw (change-other L free l expired (omega arith)) at m);
     }
 
 -- ---- taken from the free list
@@ -169,22 +169,22 @@ goes-given {s = s} S i x y h =
     let n : ℕ = 2 * count s in
     let room : 2 * i + 1 < length (s .values) = omega arith in
     with-rule
-    (stands T (T .whole) (stack-laws.kept-refl (s .wheel .stack)) refl refl
+    (stands T (T .whole) (place-laws.kept-refl (s .wheel .places)) refl refl
     (kept-trans (kept-set n (s .values) (2 * i) x (omega arith)) (kept-set n (set (s .values) (2 * i) x) (2 * i + 1) y (omega arith)))
     (kept-refl _ _) (kept-refl _ _) (given-value (s .values) i x y room) (given-period (s .values) i x y room) refl refl
-    (T .turns) (retired-but T (stack-laws.kept-refl (s .wheel .stack))))
+    (T .turns) (retired-but T (place-laws.kept-refl (s .wheel .places))))
     (S .rule)
 
 -- ---- unlinked from the list of p
 
 pub mark-at : {j : ℕ} {s : QueueWords} → StandingBut j s → {i p : ℕ} → At (view s) i p → markOf s i ≡ p
-mark-at S {i} {p} a = stack-laws.member-mark (S .whole .stack) p i (a .member)
+mark-at S {i} {p} a = place-laws.member-mark (S .whole .places) p i (a .member)
 
 pub can-leave : {s : QueueWords} → Standing s → {i p : ℕ} → At (view s) i p → CanLeave (s .wheel) i
 can-leave S {i} {p} a =
     record {
       whole = S .whole;
-      below = stack-laws.member-below (S .whole .stack) p i (a .member);
+      below = place-laws.member-below (S .whole .places) p i (a .member);
       listed = omega (arith, mark-at S a);
     }
 
@@ -273,14 +273,14 @@ module _ {t : WheelWords} {ds : List ℕ} {i when : ℕ} (C : CanPlace t ds i wh
 pub record Suits (e w p : ℕ) : Type 0 where
   pub wheel : p < slots → OnWheel p e w
   pub parked : p ≡ parking → NextBlock e w
-  pub stack : p ≡ expired → w ≡ e
+  pub expired : p ≡ expired → w ≡ e
 
 pub target-suits : (e w : ℕ) → e ≤ w → w - e ≤ maxDuration → Suits e w (target e w)
 target-suits e w late near =
     by-cases (ℕ-discrete w e)
     (λ z.
     let t : target e w ≡ expired = target-now e w z in
-    record { wheel = λ h. absurd (omega (arith, t, h)); parked = λ h. absurd (omega (arith, t, h)); stack = λ h. z })
+    record { wheel = λ h. absurd (omega (arith, t, h)); parked = λ h. absurd (omega (arith, t, h)); expired = λ h. z })
     (λ z.
     by-cases (ℕ-discrete (block w) (block e))
     (λ b.
@@ -288,11 +288,11 @@ target-suits e w late near =
     record {
       wheel = λ h. record { place = t; late = late; near = b };
       parked = λ h. absurd (omega (arith, t, h, place-slot e w));
-      stack = λ h. absurd (omega (arith, t, h, place-slot e w));
+      expired = λ h. absurd (omega (arith, t, h, place-slot e w));
     })
     (λ b.
     let t : target e w ≡ parking = target-next e w z b in
-    record { wheel = λ h. absurd (omega (arith, t, h)); parked = λ h. near-next e w late near b; stack = λ h. absurd (omega (arith, t, h)) }))
+    record { wheel = λ h. absurd (omega (arith, t, h)); parked = λ h. near-next e w late near b; expired = λ h. absurd (omega (arith, t, h)) }))
 
 rule-placed : {d : ℕ → ℕ} {e : ℕ} {L : Lists} → Rule d e L → (x w : ℕ) → ((p : ℕ) → Mem x (L p) → ⊥) → e ≤ w → w - e ≤ maxDuration
     → let p = target e w in Rule (upd d x w) e (change L p (put p x (L p)))
@@ -311,15 +311,15 @@ rule-placed {d} {e} {L} R x w out late near =
           (λ a. rw (a .1, upd-same d x w) (T .parked (sym (a .0))))
           (λ k. rw (old parking y k) (R .parked y k))
           (mem-joined L p x parking y m);
-      stack = λ y m.
+      expired = λ y m.
           ⊎-elim
-          (λ a. rw (a .1, upd-same d x w) (T .stack (sym (a .0))))
-          (λ k. old expired y k ∙ R .stack y k)
+          (λ a. rw (a .1, upd-same d x w) (T .expired (sym (a .0))))
+          (λ k. old expired y k ∙ R .expired y k)
           (mem-joined L p x expired y m);
     }
 
 -- i comes into a list: who is in none now was in none before it, and is not i
-come-retired : {i : ℕ} {s : QueueWords} → StandingBut i s → {t : StackWords} → stack.StackKept (s .wheel .stack) t → (p : ℕ)
+come-retired : {i : ℕ} {s : QueueWords} → StandingBut i s → {t : PlaceWords} → places.PlacesKept (s .wheel .places) t → (p : ℕ)
     → (x : ℕ) → x < count s → ((q : ℕ) → Mem x (change (view s .lists) p (put p i (view s .lists p)) q) → ⊥)
     → (x ≢ i) × (markAt t x ≡ retired) × (view s .turn x ≡ lastTurn)
 come-retired {i} {s} S K p x h out =
@@ -392,12 +392,12 @@ module _ {t : WheelWords} {ts : List ℕ} {i : ℕ} (C : CanFree t ts i) where
   pub free-push : CanPush t free i
   free-push = record { whole = C .whole; aside = omega arith; place = omega arith; item = C .item }
 
-  pub freed-last : at ts i ≡ lastTurn → LeavesTo t ts i (wheelWords (t .elapsed) (t .occupied) (retire (t .stack) i)) ts
+  pub freed-last : at ts i ≡ lastTurn → LeavesTo t ts i (wheelWords (t .elapsed) (t .occupied) (retire (t .places) i)) ts
   freed-last z =
-      let R = stack-laws.retire-law (C .whole .stack) i (C .item .below) (C .item .loose) in
+      let R = place-laws.retire-law (C .whole .places) i (C .item .below) (C .item .loose) in
       record {
         retired = λ e. (
-          record { whole = record { stack = R .0; rows = rw (R .1) (C .whole .rows) }; lists = R .1; elapsed = refl; kept = R .2 },
+          record { whole = record { places = R .0; occupied = rw (R .1) (C .whole .occupied) }; lists = R .1; elapsed = refl; kept = R .2 },
           R .3,
           refl,
         );

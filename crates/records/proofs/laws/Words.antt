@@ -11,8 +11,8 @@ use borrow.Author.Tests.{eq-eqb, ne-eqb}
 use Rattle.links.specs.Lists.{nobody}
 use Rattle.links.specs.Links.{links, at}
 use Rattle.links.proofs.laws.Whole.{kept-refl, kept-trans, links-refl, links-trans}
-use Rattle.stack.proofs.laws.Whole as stack-laws
-use Rattle.wheel.proofs.laws.Rows.{rows-fixed}
+use Rattle.places.proofs.laws.Whole as place-laws
+use Rattle.wheel.proofs.laws.Occupied.{occupied-fixed}
 use Rattle.wheel.specs.Words.{wheelWords, lists as listsIn}
 use Rattle.records.specs.View.{upd}
 use Rattle.records.specs.Slices.{valueAt, periodAt, given}
@@ -21,7 +21,7 @@ use Rattle.records.specs.Words.{QueueWords, queueWords, count, elapsed, 
 pub past-refl : (n : ℕ) (s : QueueWords) → PastKept n s s
 past-refl n s =
     record {
-      links = links-refl n (s .wheel .stack .links);
+      links = links-refl n (s .wheel .places .links);
       values = kept-refl _ (s .values);
       deadlines = kept-refl n (s .deadlines);
       turns = kept-refl n (s .turns);
@@ -90,11 +90,11 @@ pub view-fixed : {s s′ : QueueWords} → Sound s → Sound s′ → view s′ 
 view-fixed {s} {s′} S S′ e K =
     let l : listsIn (s′ .wheel) ≡ listsIn (s .wheel) = ap (λ v. v .lists) e in
     let n : count s′ ≡ count s = ap (λ v. v .n) e in
-    let few : count s ≤ nobody = stack-laws.small (S .standing .whole .stack) in
-    let t : s′ .wheel .stack ≡ s .wheel .stack = stack-laws.lists-fixed (S .standing .whole .stack) (S′ .standing .whole .stack) l n (K .links)
+    let few : count s ≤ nobody = place-laws.small (S .standing .whole .places) in
+    let t : s′ .wheel .places ≡ s .wheel .places = place-laws.lists-fixed (S .standing .whole .places) (S′ .standing .whole .places) l n (K .links)
     (λ i h a b.
     S′ .standing .retired i (rw n h) (omega (arith, h, few)) b .0 ∙ sym (S .standing .retired i h (omega (arith, h, few)) a .0)) in
-    let o : s′ .wheel .occupied ≡ s .wheel .occupied = rows-fixed (S .standing .whole .rows) (rw l at (S′ .standing .whole .rows)) in
+    let o : s′ .wheel .occupied ≡ s .wheel .occupied = occupied-fixed (S .standing .whole .occupied) (rw l at (S′ .standing .whole .occupied)) in
     let c : elapsed s′ ≡ elapsed s = ap (λ v. v .elapsed) e in
     let a = pairs-same (s .values) (s′ .values) (K .values .size) (ap (λ v. v .value) e) (ap (λ v. v .period) e) in
     let b = words-same (s .deadlines) (s′ .deadlines) (K .deadlines .size) (ap (λ v. v .deadline) e) in

@@ -1,13 +1,13 @@
--- `wheel_of` meets its contract: `stacks_of` says what the stacks are.
+-- `wheel_of` meets its contract: `tops_of` says what the top are.
 use borrow.Author.Needs.{needs}
 use Rattle.records.proofs.wheel_of.Statement.{statement}
 use Rattle.records.proofs.wheel_of.Tie as tie
 
-stacks-of-requires : tie.Need-stacks-of-requires
-stacks-of-requires c κs = search needs
+tops-of-requires : tie.Need-tops-of-requires
+tops-of-requires c κs = search needs
 
 returns : tie.Need-returns
-returns c = rw (c .stacks-of .ensures)
+returns c = rw (c .tops-of .ensures)
 
 pub wheel-of-spec : {M : Type 1} → statement M
-wheel-of-spec = tie.close (tie.spec stacks-of-requires returns)
+wheel-of-spec = tie.close (tie.spec tops-of-requires returns)

@@ -1,4 +1,4 @@
--- `apply_parts` meets its claim: a turn asks one step (`apply-turn`), and it ends where there is none (`apply-ends`).
+-- `apply_parts` meets its claim: one pass asks one step (`apply-pass`), and it ends where there is none (`apply-ends`).
 use borrow.Author.Needs.{needs}
 use mathlib.Core.Path.{_≡_, refl, sym, _∙_}
 use Prim.Native.Nat.{_-_}
@@ -6,16 +6,16 @@ use native.Mathlib.Omega.{arith}
 use lib.ListN.{length}
 use Rattle.contracts.specs.Tells.{Tells}
 use Rattle.records.specs.Words.{parts, holding, Sound}
-use Rattle.recover.proofs.laws.Apply.{Applying, apply-start, apply-turn, apply-ends, step-forth}
+use Rattle.recover.proofs.laws.Apply.{Applying, apply-start, apply-pass, apply-ends, step-forth}
 use Rattle.recover.proofs.apply_parts.Statement.{statement}
 use Rattle.recover.proofs.apply_parts.Tie as tie
 
 abbrev Inv-loop : tie.InvT-loop
-Inv-loop bytes sound elapsed rows₀ tops₀ heads₀ values₀ deadlines₀ nexts₀ prevs₀ turns₀ marks₀ hand until used₀ e₀ h₀ u₀ fine₀ rows tops heads values deadlines
-    nexts prevs turns marks used e h u fine =
-    Applying bytes (holding hand until (parts elapsed rows₀ tops₀ heads₀ values₀ deadlines₀ nexts₀ prevs₀ turns₀ marks₀))
-    (holding h u (parts e rows tops heads values deadlines nexts prevs turns marks)) used
-    × Tells (Sound (holding h u (parts e rows tops heads values deadlines nexts prevs turns marks))) fine
+Inv-loop bytes sound elapsed occupied₀ tops₀ heads₀ values₀ deadlines₀ nexts₀ prevs₀ turns₀ marks₀ hand until used₀ e₀ h₀ u₀ fine₀ occupied tops heads values
+    deadlines nexts prevs turns marks used e h u fine =
+    Applying bytes (holding hand until (parts elapsed occupied₀ tops₀ heads₀ values₀ deadlines₀ nexts₀ prevs₀ turns₀ marks₀))
+    (holding h u (parts e occupied tops heads values deadlines nexts prevs turns marks)) used
+    × Tells (Sound (holding h u (parts e occupied tops heads values deadlines nexts prevs turns marks))) fine
     × (length values ≡ length values₀)
     × (length deadlines ≡ length deadlines₀)
     × (length nexts ≡ length nexts₀)
@@ -24,8 +24,8 @@ Inv-loop bytes sound elapsed rows₀ tops₀ heads₀ values₀ deadlines₀ nex
     × (length marks ≡ length marks₀)
 
 abbrev μ-loop : tie.MeasureT-loop
-μ-loop bytes sound elapsed rows₀ tops₀ heads₀ values₀ deadlines₀ nexts₀ prevs₀ turns₀ marks₀ hand until used₀ e₀ h₀ u₀ fine₀ rows tops heads values deadlines
-    nexts prevs turns marks used e h u fine =
+μ-loop bytes sound elapsed occupied₀ tops₀ heads₀ values₀ deadlines₀ nexts₀ prevs₀ turns₀ marks₀ hand until used₀ e₀ h₀ u₀ fine₀ occupied tops heads values
+    deadlines nexts prevs turns marks used e h u fine =
     length bytes - used
 
 abbrev to-one : tie.After-size-of Inv-loop μ-loop → tie.After-one Inv-loop μ-loop
@@ -124,7 +124,7 @@ loop-again c =
     let r = to-read n in
     let I = r .before .loop .inv in
     let k = o .one .kept .1 .1 .1 .1 .1 .1 in (
-      apply-turn (I .0) (sym (r .read-step .ensures) ∙ n .n2 .given .1) (o .one .ensures .makes) (c .size-of .ensures),
+      apply-pass (I .0) (sym (r .read-step .ensures) ∙ n .n2 .given .1) (o .one .ensures .makes) (c .size-of .ensures),
       o .one .ensures .tells,
       k .0 ∙ I .2,
       k .1 .0 ∙ I .3,

@@ -13,8 +13,8 @@ use Rattle.promises.proofs.laws.OneCall.{call-once, call-met}
 use Rattle.entries.specs.declared.Step.{Step}
 use Rattle.entries.specs.declared.Step.the-variants as S
 use Rattle.entries.specs.declared.Ending.{Ending}
-use Rattle.entries.specs.declared.Next.{Next}
-use Rattle.entries.specs.declared.Next.the-variants as X
+use Rattle.entries.specs.declared.NextStep.{NextStep}
+use Rattle.entries.specs.declared.NextStep.the-variants as X
 use Rattle.entries.specs.Reading as read
 use Rattle.entries.proofs.laws.Reading.{next-cut}
 use Rattle.entries.proofs.laws.Inverse.{next-size}
@@ -52,7 +52,7 @@ met : (k : ℕ) (l : List ℕ) → length l ≤ k → (s : QueueWords) → (n : 
 met zero l h s = (0, s, ends (sym (next-cut l 0 (omega arith))))
 met (suc k) l h s = by (λ (m : List ℕ) g r. met k m g r) (read.next l) refl
   where
-    by : ((m : List ℕ) → length m ≤ k → (r : QueueWords) → (n : ℕ) × (t : QueueWords) × Applies m r n t) → (n : Next) → read.next l ≡ n
+    by : ((m : List ℕ) → length m ≤ k → (r : QueueWords) → (n : ℕ) × (t : QueueWords) × Applies m r n t) → (n : NextStep) → read.next l ≡ n
         → (n : ℕ) × (t : QueueWords) × Applies l s n t
     by rec (X.Ends e) q = (0, s, ends q)
     by rec (X.One x) q =
@@ -114,22 +114,22 @@ alone l {s} {s₁} {x} h M =
     subst (λ (z : List ℕ × ℕ). Applies (z .0) s (z .1) s₁) (λ i. (append-nil (take (size x) l) i, e i)) (one-more l h M nothing-left)
 
 -- nothing more is kept, or the steps up to there lead to the store found
-data Kept (l : List ℕ) (at : ℕ) (s : QueueWords) (kept : ℕ) (t : QueueWords) (f : Found) : Type 0 where
-  same : f .kept ≡ kept → f .store ≡ t → Kept l at s kept t f
-  more : (u : ℕ) → f .kept ≡ at + u → Applies (take u l) s u (f .store) → Kept l at s kept t f
+data KeptUpTo (l : List ℕ) (at : ℕ) (s : QueueWords) (kept : ℕ) (t : QueueWords) (f : Found) : Type 0 where
+  same : f .kept ≡ kept → f .store ≡ t → KeptUpTo l at s kept t f
+  more : (u : ℕ) → f .kept ≡ at + u → Applies (take u l) s u (f .store) → KeptUpTo l at s kept t f
 
 inside-kept : {l : List ℕ} {at : ℕ} {s s₁ : QueueWords} {kept : ℕ} {t : QueueWords} {f : Found} {x : Step} → read.next l ≡ X.One x → Makes x s s₁
-    → Kept (drop (size x) l) (at + size x) s₁ kept t f → Kept l at s kept t f
+    → KeptUpTo (drop (size x) l) (at + size x) s₁ kept t f → KeptUpTo l at s kept t f
 inside-kept h M (same e g) = same e g
 inside-kept {l} {at} {x = x} h M (more v e A) = more (size x + v) (omega (arith, e)) (front l h M A)
 
 outside-kept : {l : List ℕ} {at : ℕ} {s s₁ : QueueWords} {kept : ℕ} {t : QueueWords} {f : Found} {x : Step} → read.next l ≡ X.One x → Makes x s s₁
-    → Kept (drop (size x) l) (at + size x) s₁ (at + size x) s₁ f → Kept l at s kept t f
+    → KeptUpTo (drop (size x) l) (at + size x) s₁ (at + size x) s₁ f → KeptUpTo l at s kept t f
 outside-kept {l} {s = s} {x = x} h M (same e g) = more (size x) e (subst (λ (w : QueueWords). Applies (take (size x) l) s (size x) w) (sym g) (alone l h M))
 outside-kept {l} {at} {x = x} h M (more v e A) = more (size x + v) (omega (arith, e)) (front l h M A)
 
 replays-kept : {l : List ℕ} {at : ℕ} {p : Bool} {s : QueueWords} {kept : ℕ} {t : QueueWords} {f : Found} → Replays l at p s kept t f
-    → Kept l at s kept t f
+    → KeptUpTo l at s kept t f
 replays-kept (stops h) = same refl refl
 replays-kept (gets h A q u) = same refl refl
 replays-kept (inside h A u R) = inside-kept h (acts-makes A) (replays-kept R)
@@ -139,7 +139,7 @@ replays-kept (outside h A u R) = outside-kept h (acts-makes A) (replays-kept R)
 pub replay-applies : {l : List ℕ} {s : QueueWords} {f : Found} → ReplayClaim l s f → Applies (take (f .kept) l) s (f .kept) (f .store)
 replay-applies {l} {s} {f} C = by (replays-kept C)
   where
-    by : Kept l 0 s 0 s f → Applies (take (f .kept) l) s (f .kept) (f .store)
+    by : KeptUpTo l 0 s 0 s f → Applies (take (f .kept) l) s (f .kept) (f .store)
     by (same e g) = subst (λ (z : ℕ × QueueWords). Applies (take (z .0) l) s (z .0) (z .1)) (λ i. (sym e i, sym g i)) nothing-left
     by (more u e A) = let g : u ≡ f .kept = omega (arith, e) in subst (λ (n : ℕ). Applies (take n l) s n (f .store)) g A
 
@@ -154,8 +154,8 @@ pub apply-start : (l : List ℕ) (s : QueueWords) → Applying l s s 0
 apply-start l s = record { then = λ n t A. let e : n ≡ 0 + n = omega arith in subst (λ (i : ℕ). Applies l s i t) e A; within = omega arith }
 
 module _ {l : List ℕ} {s s′ : QueueWords} {used : ℕ} (I : Applying l s s′ used) where
-  pub apply-turn : {s″ : QueueWords} {x : Step} {k : ℕ} → read.next (drop used l) ≡ X.One x → Makes x s′ s″ → k ≡ size x → Applying l s s″ (used + k)
-  apply-turn {s″} {x} e M q =
+  pub apply-pass : {s″ : QueueWords} {x : Step} {k : ℕ} → read.next (drop used l) ≡ X.One x → Makes x s′ s″ → k ≡ size x → Applying l s s″ (used + k)
+  apply-pass {s″} {x} e M q =
       let n = next-size (drop used l) e in
       subst (λ (k : ℕ). Applying l s s″ (used + k)) (sym q)
       (record {

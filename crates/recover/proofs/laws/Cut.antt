@@ -13,7 +13,7 @@ use Rattle.queue.specs.Told.{told}
 use Rattle.records.specs.Words.{QueueWords}
 use Rattle.entries.specs.declared.Step.{Step}
 use Rattle.entries.specs.declared.Ending.the-variants as E
-use Rattle.entries.specs.declared.Next.the-variants as X
+use Rattle.entries.specs.declared.NextStep.the-variants as X
 use Rattle.entries.specs.Entries.{stepBytes, Fit}
 use Rattle.entries.specs.Reading as read
 use Rattle.entries.proofs.laws.Reading.{next-cut}
@@ -51,8 +51,8 @@ module _ {p q : Bool} {s t : QueueWords} {x : Step} {a : Answer} (A : Acts p s x
 -- ---- a step in front of what is replayed
 
 -- outside a patch all is kept
-abbrev Kept : Bool → ℕ → QueueWords → ℕ → QueueWords → Type 0
-Kept p at s kept t = p ≡ false → (kept ≡ at) × (t ≡ s)
+abbrev KeptOutside : Bool → ℕ → QueueWords → ℕ → QueueWords → Type 0
+KeptOutside p at s kept t = p ≡ false → (kept ≡ at) × (t ≡ s)
 
 module _ {p q : Bool} {s u : QueueWords} {x : Step} {a : Answer} (A : Acts p s x a q u) (fit : Fit x) {l : List ℕ} {at kept : ℕ}
     {t : QueueWords} {f : Found} where
@@ -94,7 +94,7 @@ module _ {p q : Bool} {s u : QueueWords} {x : Step} {a : Answer} (A : Acts p s x
       by (none w e g) = skipped w e g R
       by (bytes n h w) = wrote-inside n h w o R
 
-  step-outside : q ≡ false → Kept p at s kept t → Replays l (at + length (written x (told a))) q u (at + length (written x (told a))) u f
+  step-outside : q ≡ false → KeptOutside p at s kept t → Replays l (at + length (written x (told a))) q u (at + length (written x (told a))) u f
       → Replays (written x (told a) ++ l) at p s kept t f
   step-outside o K R = by (writes A)
     where
@@ -166,7 +166,7 @@ run-inside {q = q} {s} {u} (J.next {p₁ = p₁} {s₁ = s₁} {x = x} {J = K} g
 
 -- a run that ends with no patch open: all of it is kept
 pub run-outside : {p q : Bool} {s u : QueueWords} {l : List Noted} {K : List ℕ} → Journals p s l K q u → q ≡ false → (m : List ℕ) (at kept : ℕ) (t : QueueWords)
-    (f : Found) → Kept p at s kept t → Replays m (at + length K) q u (at + length K) u f → Replays (K ++ m) at p s kept t f
+    (f : Found) → KeptOutside p at s kept t → Replays m (at + length K) q u (at + length K) u f → Replays (K ++ m) at p s kept t f
 run-outside {p} {s = s} J.rest o m at kept t f k r =
     let e : at + 0 ≡ at = omega arith in
     let h = k o in
@@ -174,13 +174,13 @@ run-outside {p} {s = s} J.rest o m at kept t f k r =
 run-outside {p} {q} {s} {u} (J.next {p₁ = p₁} {s₁ = s₁} {x = x} {J = K} g A R) o m at kept t f k r =
     let W = written (x .step) (told (x .answer)) in
     let r′ = subst (λ (n : ℕ). Replays m n q u n u f) (further at W K) r in
-    let on : (kept′ : ℕ) (t′ : QueueWords) → Kept p₁ (at + length W) s₁ kept′ t′ → Replays (K ++ m) (at + length W) p₁ s₁ kept′ t′ f =
+    let on : (kept′ : ℕ) (t′ : QueueWords) → KeptOutside p₁ (at + length W) s₁ kept′ t′ → Replays (K ++ m) (at + length W) p₁ s₁ kept′ t′ f =
     λ kept′ t′ k′. run-outside R o m (at + length W) kept′ t′ f k′ r′
     in
     rw (append-assoc W K m) (by A g on p₁ refl)
   where
     by : Acts p s (x .step) (x .answer) p₁ s₁ → Fit (x .step)
-        → ((kept′ : ℕ) (t′ : QueueWords) → Kept p₁ (at + length (written (x .step) (told (x .answer)))) s₁ kept′ t′
+        → ((kept′ : ℕ) (t′ : QueueWords) → KeptOutside p₁ (at + length (written (x .step) (told (x .answer)))) s₁ kept′ t′
         → Replays (K ++ m) (at + length (written (x .step) (told (x .answer)))) p₁ s₁ kept′ t′ f)
         → (b : Bool) → p₁ ≡ b → Replays (written (x .step) (told (x .answer)) ++ (K ++ m)) at p s kept t f
     by B h on true e = step-inside B h e (on kept t (λ z. absurd (true≢false (sym e ∙ z))))

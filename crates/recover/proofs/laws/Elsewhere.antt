@@ -82,7 +82,7 @@ same-room C.Length s s₁ u a A w room e = absurd (false≢true e)
 same-room C.Clear s s₁ u a A w room e = absurd (false≢true e)
 
 -- what a step leaves in other slices
-pub record Goes (p q : Bool) (x : Step) (a : Answer) (s₁ u : QueueWords) : Type 0 where
+pub record LeavesElsewhere (p q : Bool) (x : Step) (a : Answer) (s₁ u : QueueWords) : Type 0 where
   pub store : QueueWords
   pub acts : Acts p u x a q store
   pub matched : Matched s₁ store
@@ -90,7 +90,7 @@ pub record Goes (p q : Bool) (x : Step) (a : Answer) (s₁ u : QueueWords) : Typ
 
 step-elsewhere : {p q : Bool} {x : Step} {a : Answer} {s s₁ u : QueueWords} → Acts p s x a q s₁ → Matched s u → unwritten (told a) ≡ false
     → ((n turn : ℕ) → x ≡ S.Asks (C.Format n turn) → Fits (slices u) n)
-    → Goes p q x a s₁ u
+    → LeavesElsewhere p q x a s₁ u
 step-elsewhere {a = a} {s} {s₁} {u} (asks {c = c} A) M w room =
     let o = call-elsewhere c s s₁ u a A M (same-room c s s₁ u a A w (λ n turn e. room n turn (ap S.Asks e))) in
     record { store = o .0; acts = asks (o .1); matched = o .2; room = λ n F. fits-kept (past-kept c u a (o .0) (o .1)) .0 F }

@@ -19,7 +19,7 @@ use Rattle.delay_queue.specs.declared.Call.the-variants as C
 use Rattle.delay_queue.specs.Claims.{InRange, CallClaim, FormatClaim}
 use Rattle.promises.specs.OneCall.{reach}
 use Rattle.promises.specs.Runs.{isFormat}
-use Rattle.promises.specs.Refused.{First, linesOf, deadlineLines, RefusedBy}
+use Rattle.promises.specs.Refused.{FirstMet, linesOf, deadlineLines, RefusedBy}
 use Rattle.promises.proofs.laws.Refused.{behind, refused-exactly, unsound-refused}
 use Rattle.promises.proofs.laws.OneCall.{past-kept, call-sound}
 use Rattle.promises.proofs.laws.Alike.{fits-kept}
@@ -73,7 +73,7 @@ apart thirteen =
       twelve = λ e. omega arith;
     }
 
-no-deadline : (e w : ℕ) {k : ℕ} → Apart k → First (deadlineLines e w) k → ⊥
+no-deadline : (e w : ℕ) {k : ℕ} → Apart k → FirstMet (deadlineLines e w) k → ⊥
 no-deadline e w a f = behind (a .four) (behind (a .eleven) f .1) .1
 
 -- what the table says behind its line of 12

@@ -12,7 +12,7 @@ use Rattle.records.specs.Words.{QueueWords}
 use Rattle.entries.specs.declared.Step.{Step}
 use Rattle.entries.specs.declared.Ending.{Ending}
 use Rattle.entries.specs.declared.Ending.the-variants as E
-use Rattle.entries.specs.declared.Next.the-variants as X
+use Rattle.entries.specs.declared.NextStep.the-variants as X
 use Rattle.entries.specs.Entries.{Fit}
 use Rattle.entries.specs.Reading as read
 use Rattle.entries.specs.Reading.{Bytes}

@@ -12,8 +12,8 @@ use Rattle.records.specs.Words.{QueueWords}
 use Rattle.entries.specs.declared.Step.{Step}
 use Rattle.entries.specs.declared.Ending.{Ending}
 use Rattle.entries.specs.declared.Ending.the-variants as E
-use Rattle.entries.specs.declared.Next.{Next}
-use Rattle.entries.specs.declared.Next.the-variants as X
+use Rattle.entries.specs.declared.NextStep.{NextStep}
+use Rattle.entries.specs.declared.NextStep.the-variants as X
 use Rattle.entries.specs.Reading as read
 use Rattle.entries.proofs.laws.Reading.{next-cut}
 use Rattle.entries.proofs.laws.Inverse.{next-size}
@@ -23,13 +23,13 @@ use Rattle.recover.specs.Replay.{Found, found, size, Replays, stops, get
 
 -- ---- one outcome
 
-pub same-step : {n : Next} {x y : Step} → n ≡ X.One x → n ≡ X.One y → x ≡ y
+pub same-step : {n : NextStep} {x y : Step} → n ≡ X.One x → n ≡ X.One y → x ≡ y
 same-step p q = let e = sym p ∙ q in cc
 
-pub same-end : {n : Next} {d e : Ending} → n ≡ X.Ends d → n ≡ X.Ends e → d ≡ e
+pub same-end : {n : NextStep} {d e : Ending} → n ≡ X.Ends d → n ≡ X.Ends e → d ≡ e
 same-end p q = let e = sym p ∙ q in cc
 
-pub not-both : {n : Next} {x : Step} {e : Ending} → n ≡ X.One x → n ≡ X.Ends e → ⊥
+pub not-both : {n : NextStep} {x : Step} {e : Ending} → n ≡ X.One x → n ≡ X.Ends e → ⊥
 not-both p q = let e = sym p ∙ q in let z : _≡_ {A = ℕ} 0 1 = cc in omega arith
 
 -- the same bytes ask the same step, and it does the same
@@ -39,7 +39,7 @@ record Same (x y : Step) (a b : Answer) (q r : Bool) (t u : QueueWords) : Type 0
   patch : r ≡ q
   store : u ≡ t
 
-same : {n : Next} {p q r : Bool} {s t u : QueueWords} {x y : Step} {a b : Answer} → n ≡ X.One x → n ≡ X.One y → Acts p s x a q t
+same : {n : NextStep} {p q r : Bool} {s t u : QueueWords} {x y : Step} {a b : Answer} → n ≡ X.One x → n ≡ X.One y → Acts p s x a q t
     → Acts p s y b r u → Same x y a b q r t u
 same {p = p} {r = r} {s} {u = u} {b = b} h k A B =
     let e = same-step k h in
@@ -101,7 +101,7 @@ met (suc k) l h at p s kept t = by (λ (m : List ℕ) g. met k m g) (read.next l
         let r = rec (drop (size x) l) (omega (arith, n .0, length-drop (size x) l)) (at + size x) false u (at + size x) u in
         (r .0, outside e A z (r .1))
 
-    by : ((m : List ℕ) → length m ≤ k → Met m) → (n : Next) → read.next l ≡ n → (f : Found) × Replays l at p s kept t f
+    by : ((m : List ℕ) → length m ≤ k → Met m) → (n : NextStep) → read.next l ≡ n → (f : Found) × Replays l at p s kept t f
     by rec (X.Ends e) q = (found kept at e t, stops q)
     by rec (X.One x) q = let m = acts-met x p s in with-step rec x q (m .0) (m .1) (m .2) (m .3) (unwritten (told (m .0))) refl
 

@@ -7,9 +7,9 @@ use native.Mathlib.Omega.{arith}
 use borrow.Author.Tests.{lt-ltb, le-ltb, not-true, not-false}
 use lib.ListN.{length, take}
 use Rattle.contracts.specs.Tells.{Tells}
-use Rattle.stack.specs.declared.Stacks.{Stacks}
+use Rattle.places.specs.declared.Tops.{Tops}
 use Rattle.wheel.specs.declared.Wheel.{Wheel}
-use Rattle.records.proofs.laws.Lent.{stacked, stacked-same}
+use Rattle.records.proofs.laws.Lent.{placeWordsOf, stacked-same}
 use Rattle.queue.specs.declared.Answer.{Answer}
 use Rattle.records.specs.Slices.{Slices, slicesOf, Room, Fits}
 use Rattle.records.specs.Words.{QueueWords, words, Sound}
@@ -91,11 +91,11 @@ fits-so {b = b} z h T e = enough (record { some = omega arith; few = h; room = T
 pub live-as : (b : Bool) {d : Bool} {x y : Step} → x ≡ y → d ≡ liveAfter b y → d ≡ liveAfter b x
 live-as b e h = h ∙ ap (λ (z : Step). liveAfter b z) (sym e)
 
-pub turn-many : (b : Bool) {n turn : ℕ} {x : Step} → x ≡ S.Asks (C.Format n turn) → 281474976710655 < turn → b ≡ liveAfter b x
-turn-many b {n} {turn} e h = live-as b e (simp (lt-ltb 0 turn (omega arith), le-ltb turn 281474976710656 (omega arith)))
+pub pass-many : (b : Bool) {n turn : ℕ} {x : Step} → x ≡ S.Asks (C.Format n turn) → 281474976710655 < turn → b ≡ liveAfter b x
+pass-many b {n} {turn} e h = live-as b e (simp (lt-ltb 0 turn (omega arith), le-ltb turn 281474976710656 (omega arith)))
 
-pub turn-so : (b : Bool) {n turn : ℕ} {x : Step} → x ≡ S.Asks (C.Format n turn) → (turn ≡ 0 → ⊥) → turn ≤ 281474976710655 → true ≡ liveAfter b x
-turn-so b {n} {turn} e f h = live-as b e (simp (lt-ltb 0 turn (omega arith), lt-ltb turn 281474976710656 (omega arith)))
+pub pass-so : (b : Bool) {n turn : ℕ} {x : Step} → x ≡ S.Asks (C.Format n turn) → (turn ≡ 0 → ⊥) → turn ≤ 281474976710655 → true ≡ liveAfter b x
+pass-so b {n} {turn} e f h = live-as b e (simp (lt-ltb 0 turn (omega arith), lt-ltb turn 281474976710656 (omega arith)))
 
 -- ---- one step asked
 
@@ -115,10 +115,10 @@ opened-makes {s} e = subst (λ (y : Step). Makes y s s) (sym e) opened
 pub closed-makes : {s : QueueWords} {x : Step} → x ≡ S.Close → Makes x s s
 closed-makes {s} e = subst (λ (y : Step). Makes y s s) (sym e) closed
 
--- the heads, handed on as their rows
-pub applies-rows : {l : List ℕ} {n : ℕ} {s′ : QueueWords} (w : Wheel) {st : Stacks} {hh hh′ : List (List ℕ)} (vs ds ns ps ts ms : List ℕ)
-    → st ≡ w .stacks → hh′ ≡ hh → Applies l (stacked st (words w hh′ vs ds ns ps ts ms)) n s′ → Applies l (words w hh vs ds ns ps ts ms) n s′
-applies-rows {l} {n} {s′} w vs ds ns ps ts ms q e A =
+-- the heads, handed on as an array
+pub applies-heads : {l : List ℕ} {n : ℕ} {s′ : QueueWords} (w : Wheel) {st : Tops} {hh hh′ : List (List ℕ)} (vs ds ns ps ts ms : List ℕ)
+    → st ≡ w .tops → hh′ ≡ hh → Applies l (placeWordsOf st (words w hh′ vs ds ns ps ts ms)) n s′ → Applies l (words w hh vs ds ns ps ts ms) n s′
+applies-heads {l} {n} {s′} w vs ds ns ps ts ms q e A =
     subst (λ (h : List (List ℕ)). Applies l (words w h vs ds ns ps ts ms) n s′) e (subst (λ s. Applies l s n s′) (stacked-same q) A)
 
 -- ---- no store

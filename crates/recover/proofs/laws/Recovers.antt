@@ -14,7 +14,7 @@ use Rattle.delay_queue.specs.declared.Call.{Call}
 use Rattle.entries.specs.declared.Step.{Step}
 use Rattle.entries.specs.declared.Step.the-variants as S
 use Rattle.entries.specs.declared.Ending.the-variants as E
-use Rattle.entries.specs.declared.Next.the-variants as X
+use Rattle.entries.specs.declared.NextStep.the-variants as X
 use Rattle.entries.specs.Entries.{stepBytes, Fit}
 use Rattle.entries.specs.Reading as read
 use Rattle.entries.specs.Reading.{Bytes}

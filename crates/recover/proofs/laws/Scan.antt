@@ -20,8 +20,8 @@ use Rattle.entries.specs.declared.Step.{Step}
 use Rattle.entries.specs.declared.Step.the-variants as S
 use Rattle.entries.specs.declared.Ending.{Ending}
 use Rattle.entries.specs.declared.Ending.the-variants as E
-use Rattle.entries.specs.declared.Next.{Next}
-use Rattle.entries.specs.declared.Next.the-variants as X
+use Rattle.entries.specs.declared.NextStep.{NextStep}
+use Rattle.entries.specs.declared.NextStep.the-variants as X
 use Rattle.entries.specs.Reading as read
 use Rattle.entries.proofs.laws.Reading.{next-cut}
 use Rattle.entries.proofs.laws.Inverse.{next-size}
@@ -64,7 +64,7 @@ number-once (closes-none h) (closes g) = absurd (false≢true (sym h ∙ g))
 number-once (closes-none h) (closes-none g) = refl
 
 -- of the same bytes the same step is read, with the same number
-same-number : {z : Slices} {b p : Bool} {n : Next} {x y : Step} {i j : ℕ} → n ≡ X.One x → n ≡ X.One y → NumberOf z b p x i → NumberOf z b p y j → i ≡ j
+same-number : {z : Slices} {b p : Bool} {n : NextStep} {x y : Step} {i j : ℕ} → n ≡ X.One x → n ≡ X.One y → NumberOf z b p x i → NumberOf z b p y j → i ≡ j
 same-number {z} {b} {p} {j = j} h k N M = number-once N (subst (λ (w : Step). NumberOf z b p w j) (same-step k h) M)
 
 scans-once : {z : Slices} {l : List ℕ} {s t u : Seen} → Scans z l s t → Scans z l s u → t ≡ u
@@ -128,7 +128,7 @@ scans-met : (z : Slices) (k : ℕ) (l : List ℕ) → length l ≤ k → (s : Se
 scans-met z zero l h s = (stoppedBy E.Cut s, stops (sym (next-cut l 0 (omega arith))))
 scans-met z (suc k) l h s = by (λ (m : List ℕ) g r. scans-met z k m g r) (read.next l) refl
   where
-    by : ((m : List ℕ) → length m ≤ k → (r : Seen) → (t : Seen) × Scans z m r t) → (n : Next) → read.next l ≡ n → (t : Seen) × Scans z l s t
+    by : ((m : List ℕ) → length m ≤ k → (r : Seen) → (t : Seen) × Scans z m r t) → (n : NextStep) → read.next l ≡ n → (t : Seen) × Scans z l s t
     by rec (X.Ends e) q = (stoppedBy e s, stops q)
     by rec (X.One x) q =
         let m = number-met z (s .live) (s .patch) x in

@@ -2,7 +2,7 @@
 use borrow.Author.Needs.{needs}
 use mathlib.Core.Path.{refl, ap, _∙_}
 use Rattle.entries.specs.declared.Step.the-variants as S
-use Rattle.recover.proofs.laws.Parts.{live-as, turn-many, turn-so}
+use Rattle.recover.proofs.laws.Parts.{live-as, pass-many, pass-so}
 use Rattle.recover.proofs.lives.Statement.{statement}
 use Rattle.recover.proofs.lives.Tie as tie
 
@@ -19,7 +19,7 @@ returns-2 : tie.Need-returns-2
 returns-2 c =
     let a = c .before .before .before in
     let b = a .before .before .before in
-    turn-many (b .before .before .args .live) (b .step .given .1 ∙ ap S.Asks (a .call .given .1)) (c .if2 .taken)
+    pass-many (b .before .before .args .live) (b .step .given .1 ∙ ap S.Asks (a .call .given .1)) (c .if2 .taken)
 
 enum-known-call-2 : tie.Need-enum-known-call-2
 enum-known-call-2 c = search needs
@@ -55,7 +55,7 @@ returns-3 : tie.Need-returns-3
 returns-3 c =
     let a = c .before .before .before in
     let b = a .before .before .before in
-    turn-so (b .before .before .args .live) (b .step .given .1 ∙ ap S.Asks (a .call .given .1)) (c .before .if1 .left) (c .if2 .left)
+    pass-so (b .before .before .args .live) (b .step .given .1 ∙ ap S.Asks (a .call .given .1)) (c .before .if1 .left) (c .if2 .left)
 
 returns-4 : tie.Need-returns-4
 returns-4 c =

@@ -36,7 +36,8 @@ to-lent c =
 
 -- what the scan found in all of the bytes
 scanned : (c : tie.After-scan) → let a = to-start (to-unread c) .args in
-    Scans (slicesOf (a .values .now) (a .deadlines .now) (a .nexts .now) (a .prevs .now) (a .turns .now) (a .marks .now)) (a .bytes .now) atStart (c .scan .result)
+    Scans (slicesOf (a .values .now) (a .deadlines .now) (a .nexts .now) (a .prevs .now) (a .turns .now) (a .marks .now)) (a .bytes .now) atStart
+        (c .scan .result)
 scanned c = all-scanned (to-unread c .unread .ensures) (omega (arith, to-start (to-unread c) .good)) (c .scan .ensures)
 
 unread-requires : tie.Need-unread-requires

@@ -1,4 +1,4 @@
--- `scan` meets its claim: a turn reads one step (`scan-inside`, `scan-outside`), and it stops where there is none or one gets 1, 2 or 13.
+-- `scan` meets its claim: one pass reads one step (`scan-inside`, `scan-outside`), and it stops where there is none or one gets 1, 2 or 13.
 use borrow.Author.Needs.{needs}
 use mathlib.Core.Path.{_≡_, refl, sym, _∙_}
 use mathlib.Core.Bool.{true≢false}

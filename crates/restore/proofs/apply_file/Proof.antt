@@ -17,8 +17,8 @@ use Rattle.restore.proofs.apply_file.Tie as tie
 
 abbrev Inv-loop : tie.InvT-loop
 Inv-loop fd kept values₀ deadlines₀ nexts₀ prevs₀ turns₀ marks₀ buf₀ at₀ state₀ heads₀ values deadlines nexts prevs turns marks buf at state heads =
-    Applying at (words state₀ (heads₀ .rows) values₀ deadlines₀ nexts₀ prevs₀ turns₀ marks₀)
-    (words state (heads .rows) values deadlines nexts prevs turns marks)
+    Applying at (words state₀ (heads₀ .heads) values₀ deadlines₀ nexts₀ prevs₀ turns₀ marks₀)
+    (words state (heads .heads) values deadlines nexts prevs turns marks)
     × (65536 ≡ length buf)
     × (at ≤ kept)
     × (length values ≡ length values₀)

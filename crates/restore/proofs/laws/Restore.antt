@@ -1,4 +1,4 @@
--- The turns of the two passes, and what they mean: if the second pass reads again what the first kept, the store is the one that replay finds.
+-- The steps of the two passes, and what they mean: if the second pass reads again what the first kept, the store is the one that replay finds.
 use mathlib.Core.Path.{_≡_, refl, sym, ap, _∙_, subst}
 use mathlib.Core.Logic.{by-cases}
 use mathlib.Core.Bool.{Bool, true, false, cond}

@@ -62,11 +62,11 @@ trailing-lowest (suc k) x p h = go (λ q. trailing-lowest k (x / 2) q (omega ari
         record {
           within = omega arith;
           marked = flag-suc x (trailingZeros k (x / 2)) ∙ l .marked;
-          before = before-suc x (trailingZeros k (x / 2)) e (l .before);
+          lower = before-suc x (trailingZeros k (x / 2)) e (l .lower);
         }
     go ih (suc d) e =
         record {
           within = omega arith;
           marked = flag-zero x ∙ eq-eqb (x % 2) 1 (omega arith);
-          before = λ j h. absurd (omega arith);
+          lower = λ j h. absurd (omega arith);
         }

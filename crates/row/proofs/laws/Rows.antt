@@ -122,7 +122,7 @@ row-change f s v (suc n) h =
 
 lowest-le : (f : ℕ → Bool) (n r r′ : ℕ) → Lowest f n r → Lowest f n r′ → r ≤ r′
 lowest-le f n r r′ p q =
-    let below : r′ < r → ⊥ = λ l. true≢false (sym (q .marked) ∙ p .before r′ l) in
+    let below : r′ < r → ⊥ = λ l. true≢false (sym (q .marked) ∙ p .lower r′ l) in
     omega arith
 
 pub lowest-one : (f : ℕ → Bool) (n r r′ : ℕ) → Lowest f n r → Lowest f n r′ → r ≡ r′

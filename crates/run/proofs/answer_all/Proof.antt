@@ -1,4 +1,4 @@
--- `answer_all` meets its claim: every turn answers one command more (`answered-more`), and it stops for one of three reasons (`stops-short` ..).
+-- `answer_all` meets its claim: every step answers one command more (`answered-more`), and it stops for one of three reasons (`stops-short` ..).
 use borrow.Author.Needs.{needs}
 use native.Mathlib.Omega.{arith}
 use mathlib.Core.Path.{_≡_, refl, _∙_}
@@ -6,18 +6,18 @@ use Prim.Native.Nat.{_-_}
 use lib.ListN.{length}
 use Rattle.contracts.specs.Tells.{Tells}
 use Rattle.records.specs.Words.{parts, holding, Sound}
-use Rattle.run.specs.Run.{Answered}
+use Rattle.run.specs.Run.{CommandsDone}
 use Rattle.run.proofs.laws.Run.{answered-none, answered-more, stops-short, stops-there, stops-full}
 use Rattle.run.proofs.answer_all.Statement.{statement}
 use Rattle.run.proofs.answer_all.Tie as tie
 
 abbrev Inv-loop : tie.InvT-loop
-Inv-loop sound elapsed rows₀ tops₀ heads₀ values₀ deadlines₀ nexts₀ prevs₀ turns₀ marks₀ hand until commands answers₀ e₀ h₀ u₀ fine₀ many room i₀
-    rows tops heads
+Inv-loop sound elapsed occupied₀ tops₀ heads₀ values₀ deadlines₀ nexts₀ prevs₀ turns₀ marks₀ hand until commands answers₀ e₀ h₀ u₀ fine₀ many room i₀
+    occupied tops heads
     values deadlines nexts prevs turns marks answers e h u fine i =
-    Answered (holding hand until (parts elapsed rows₀ tops₀ heads₀ values₀ deadlines₀ nexts₀ prevs₀ turns₀ marks₀)) commands answers₀ i
-    (holding h u (parts e rows tops heads values deadlines nexts prevs turns marks)) answers
-    × Tells (Sound (holding h u (parts e rows tops heads values deadlines nexts prevs turns marks))) fine
+    CommandsDone (holding hand until (parts elapsed occupied₀ tops₀ heads₀ values₀ deadlines₀ nexts₀ prevs₀ turns₀ marks₀)) commands answers₀ i
+    (holding h u (parts e occupied tops heads values deadlines nexts prevs turns marks)) answers
+    × Tells (Sound (holding h u (parts e occupied tops heads values deadlines nexts prevs turns marks))) fine
     × (length values ≡ length values₀)
     × (length deadlines ≡ length deadlines₀)
     × (length nexts ≡ length nexts₀)
@@ -27,8 +27,8 @@ Inv-loop sound elapsed rows₀ tops₀ heads₀ values₀ deadlines₀ nexts₀ 
     × (length answers ≡ length answers₀)
 
 abbrev μ-loop : tie.MeasureT-loop
-μ-loop sound elapsed rows₀ tops₀ heads₀ values₀ deadlines₀ nexts₀ prevs₀ turns₀ marks₀ hand until commands answers₀ e₀ h₀ u₀ fine₀ many room i₀ rows tops heads
-    values deadlines nexts prevs turns marks answers e h u fine i =
+μ-loop sound elapsed occupied₀ tops₀ heads₀ values₀ deadlines₀ nexts₀ prevs₀ turns₀ marks₀ hand until commands answers₀ e₀ h₀ u₀ fine₀ many room i₀ occupied
+    tops heads values deadlines nexts prevs turns marks answers e h u fine i =
     many - i
 
 abbrev to-start : tie.After-slice-known7 Inv-loop μ-loop → tie.Start Inv-loop μ-loop

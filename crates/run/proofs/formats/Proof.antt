@@ -1,4 +1,4 @@
--- `formats` meets its claim: that of `delay_queue::format`, with the heads that `rows_of` takes out of its reply.
+-- `formats` meets its claim: that of `delay_queue::format`, with the heads that `heads_in` takes out of its reply.
 use borrow.Author.Needs.{needs}
 use Rattle.records.proofs.laws.Lent.{lent-as}
 use Rattle.delay_queue.specs.Claims.{FormatClaim}
@@ -6,7 +6,7 @@ use Rattle.run.proofs.laws.Run.{format-made}
 use Rattle.run.proofs.formats.Statement.{statement}
 use Rattle.run.proofs.formats.Tie as tie
 
-abbrev to-format : tie.After-rows-of → tie.After-format
+abbrev to-format : tie.After-heads-in → tie.After-format
 to-format c =
     let a = c .before .before .before .before in
     let b = a .before .before .before .before in
@@ -14,7 +14,7 @@ to-format c =
     let e = d .before .before .before .before in
     e .before
 
-abbrev to-tops : tie.After-rows-of → tie.After-tops-of
+abbrev to-tops : tie.After-heads-in → tie.After-tops-in
 to-tops c = c .before
 
 abbrev to-wheel : tie.After-format → tie.After-wheel-of
@@ -28,11 +28,11 @@ wheel-of-requires c κs = search needs
 format-requires : tie.Need-format-requires
 format-requires c κs = search needs
 
-tops-of-requires : tie.Need-tops-of-requires
-tops-of-requires c κs = search needs
+tops-in-requires : tie.Need-tops-in-requires
+tops-in-requires c κs = search needs
 
-rows-of-requires : tie.Need-rows-of-requires
-rows-of-requires c κs = search needs
+heads-in-requires : tie.Need-heads-in-requires
+heads-in-requires c κs = search needs
 
 same-length : tie.Need-same-length
 same-length c = search needs
@@ -55,8 +55,8 @@ same-length-6 c = search needs
 returns : tie.Need-returns
 returns c =
     let at-format = to-format c in
-    rw (c .rows-of .ensures)
-    (lent-as (FormatClaim _ _ _ _) (to-tops c .tops-of .ensures) (format-made (to-wheel at-format .wheel-of .ensures) (at-format .format .ensures)))
+    rw (c .heads-in .ensures)
+    (lent-as (FormatClaim _ _ _ _) (to-tops c .tops-in .ensures) (format-made (to-wheel at-format .wheel-of .ensures) (at-format .format .ensures)))
 
 pub formats-spec : {M : Type 1} → statement M
 formats-spec =
@@ -64,8 +64,8 @@ formats-spec =
     (tie.spec
     wheel-of-requires
     format-requires
-    tops-of-requires
-    rows-of-requires
+    tops-in-requires
+    heads-in-requires
     same-length
     same-length-2
     same-length-3

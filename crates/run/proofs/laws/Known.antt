@@ -23,7 +23,7 @@ use Rattle.delay_queue.specs.Claims.{Judging, FormatClaim, CallClaim}
 use Rattle.delay_queue.proofs.laws.Back.{by-call}
 use Rattle.promises.specs.OneCall.{isNo, Ends, refused, accepted}
 use Rattle.promises.proofs.laws.OneCall.{call-ends, call-sound}
-use Rattle.run.specs.Run.{Waits, Knows}
+use Rattle.run.specs.Run.{MustWait, Knows}
 
 -- ---- `accepted`
 
@@ -43,14 +43,14 @@ is-accepted (A.No n) x = absurd (miss (0 ∷ 1 ∷ 2 ∷ 3 ∷ 4 ∷ 5 ∷ 6 ∷
 
 -- ---- `must_wait`
 
-pub none-waits : {h : ℕ} (c : Call) → h ≡ nobody → Tells ((h ≢ nobody) × Waits c) false
+pub none-waits : {h : ℕ} (c : Call) → h ≡ nobody → Tells ((h ≢ nobody) × MustWait c) false
 none-waits c e = record { yes = λ z. absurd (false≢true z); no = λ _ w. w .0 e }
 
 -- a call with a tag of those that do not wait
-pub goes-through : {h : ℕ} (c : Call) → OneOf (0 ∷ 4 ∷ 5 ∷ 7 ∷ 8 ∷ []) (tagOf call.the-type c) → Tells ((h ≢ nobody) × Waits c) false
+pub goes-through : {h : ℕ} (c : Call) → OneOf (0 ∷ 4 ∷ 5 ∷ 7 ∷ 8 ∷ []) (tagOf call.the-type c) → Tells ((h ≢ nobody) × MustWait c) false
 goes-through c x = record { yes = λ z. absurd (false≢true z); no = λ _ w. by c x (w .1) }
   where
-    by : (c : Call) → OneOf (0 ∷ 4 ∷ 5 ∷ 7 ∷ 8 ∷ []) (tagOf call.the-type c) → Waits c → ⊥
+    by : (c : Call) → OneOf (0 ∷ 4 ∷ 5 ∷ 7 ∷ 8 ∷ []) (tagOf call.the-type c) → MustWait c → ⊥
     by (C.Format n turn) x w = w
     by (C.Insert value when period) x w = miss (0 ∷ 4 ∷ 5 ∷ 7 ∷ 8 ∷ []) 1 tt x
     by (C.Reset key when) x w = miss (0 ∷ 4 ∷ 5 ∷ 7 ∷ 8 ∷ []) 2 tt x
@@ -61,7 +61,7 @@ goes-through c x = record { yes = λ z. absurd (false≢true z); no = λ _ w. by
     by C.Length x w = w
     by C.Clear x w = w
 
-pub waits-so : {c k : Call} {h : ℕ} → h ≢ nobody → c ≡ k → Waits k → Tells ((h ≢ nobody) × Waits c) true
+pub waits-so : {c k : Call} {h : ℕ} → h ≢ nobody → c ≡ k → MustWait k → Tells ((h ≢ nobody) × MustWait c) true
 waits-so d e w = record { yes = λ _. (d, rw e w); no = λ z. absurd (true≢false z) }
 
 -- ---- `on_sound`
@@ -74,7 +74,7 @@ module _ {s : QueueWords} where
         good = λ _. record { held = λ _. record { told = refl; same = refl }; free = λ z. absurd (d z) };
       }
 
-  pub held-up : (c : Call) → Sound s → MidPoll s × Waits c → CallClaim c s (A.No 12) s
+  pub held-up : (c : Call) → Sound s → MidPoll s × MustWait c → CallClaim c s (A.No 12) s
   held-up (C.Format n turn) S w = absurd (w .1)
   held-up (C.Insert value when period) S w = held S (w .0)
   held-up (C.Reset key when) S w = held S (w .0)
@@ -86,7 +86,7 @@ module _ {s : QueueWords} where
   held-up C.Clear S w = absurd (w .1)
 
 -- a call that waits is made with no poll in hand
-pub at-rest : {c k : Call} {h : ℕ} {b : Bool} → Tells ((h ≢ nobody) × Waits c) b → b ≡ false → c ≡ k → Waits k → h ≡ nobody
+pub at-rest : {c k : Call} {h : ℕ} {b : Bool} → Tells ((h ≢ nobody) × MustWait c) b → b ≡ false → c ≡ k → MustWait k → h ≡ nobody
 at-rest {h = h} T f e w = by-cases (ℕ-discrete h nobody) (λ z. z) (λ d. absurd (T .no f (d, rw e w)))
 
 -- ---- `known`

@@ -18,7 +18,7 @@ use Rattle.promises.proofs.laws.OneCall.{call-once, call-met}
 use Rattle.run.specs.declared.Why.{Why}
 use Rattle.run.specs.declared.Why.the-variants as W
 use Rattle.run.specs.Groups.{commandWords, answerWords, Written}
-use Rattle.run.specs.Run.{commandsOf, answersOf, Answered, nextFour, StopsAt, RunClaim}
+use Rattle.run.specs.Run.{commandsOf, answersOf, CommandsDone, nextFour, StopsAt, RunClaim}
 use Rattle.run.proofs.laws.Groups.{back, words-four, words-length, words-behind, words-one, words-is}
 use Rattle.run.proofs.laws.Run.{answered-none, answered-next, commands-length}
 use Rattle.run.proofs.laws.Ends.{goes-on, one-reason, run-all}
@@ -106,19 +106,19 @@ run-once {cs = cs} {out} {m = m} {n} {y} {z} A B =
 abbrev Outcome : QueueWords → List ℕ → List ℕ → Type 0
 Outcome s cs out = (n : ℕ) × (why : Why) × (t : QueueWords) × (o : List ℕ) × RunClaim s cs out n why t o
 
-module _ {s t : QueueWords} {cs out o : List ℕ} {i : ℕ} (A : Answered s cs out i t o) where
+module _ {s t : QueueWords} {cs out o : List ℕ} {i : ℕ} (A : CommandsDone s cs out i t o) where
   stopped : (why : Why) → StopsAt cs out i why → Outcome s cs out
   stopped why S = (i, why, t, o, record { answered = A; stops = S })
 
   -- one command more, with the answer that its claim has
-  one-more : (c : Call) → nextFour cs i ≡ commandWords c → 6 * i + 6 ≤ length out → (u : QueueWords) × (o′ : List ℕ) × Answered s cs out (i + 1) u o′
+  one-more : (c : Call) → nextFour cs i ≡ commandWords c → 6 * i + 6 ≤ length out → (u : QueueWords) × (o′ : List ℕ) × CommandsDone s cs out (i + 1) u o′
   unfolding Written
   one-more c e h =
       let m = call-met c t in
       (m .1, take (6 * i) o ++ answerWords (told (m .0)) ++ drop (6 * i + 6) o, answered-next A c (m .0) e (m .2) refl h)
 
   -- it stops here, or the next command is answered
-  step : (((u : QueueWords) × (o′ : List ℕ) × Answered s cs out (i + 1) u o′) → 6 * i + 6 ≤ length out → Outcome s cs out) → Outcome s cs out
+  step : (((u : QueueWords) × (o′ : List ℕ) × CommandsDone s cs out (i + 1) u o′) → 6 * i + 6 ≤ length out → Outcome s cs out) → Outcome s cs out
   step f =
       let g = nextFour cs i in
       by-cases (decLt (length cs) (4 * i + 4))
@@ -131,7 +131,7 @@ module _ {s t : QueueWords} {cs out o : List ℕ} {i : ℕ} (A : Answered s cs o
       (λ k. f (one-more (back g) e (omega arith)) (omega arith)))
       (λ d. stopped W.NoCommand (omega arith, λ c e. d (e ∙ ap commandWords (sym (words-is c e))))))
 
-from : (k : ℕ) {s t : QueueWords} {cs out o : List ℕ} {i : ℕ} → Answered s cs out i t o → length out ≤ 6 * (i + k) → Outcome s cs out
+from : (k : ℕ) {s t : QueueWords} {cs out o : List ℕ} {i : ℕ} → CommandsDone s cs out i t o → length out ≤ 6 * (i + k) → Outcome s cs out
 from zero A f = step A (λ r h. absurd (omega (arith, f, h)))
 from (suc k) A f = step A (λ r h. from k (r .2) (omega (arith, f)))
 

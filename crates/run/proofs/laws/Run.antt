@@ -6,12 +6,12 @@ use Prim.Native.Nat.{ℕ, suc, _+_, _*_, _/_, _≤_, _<_}
 use native.Mathlib.Omega.{arith}
 use lib.ListN.{length, getD, take, drop, length-append, length-take, length-drop, take-append-drop}
 use lib.Seq.{take-at, drop-append-add, drop-drop, drop-cons}
-use Rattle.stack.specs.declared.Stacks.{Stacks}
+use Rattle.places.specs.declared.Tops.{Tops}
 use Rattle.wheel.specs.declared.Wheel.{Wheel}
 use Rattle.queue.specs.declared.Answer.{Answer}
 use Rattle.queue.specs.Told.{told}
 use Rattle.records.specs.Words.{QueueWords, words}
-use Rattle.records.proofs.laws.Lent.{stacked, stacked-same}
+use Rattle.records.proofs.laws.Lent.{placeWordsOf, stacked-same}
 use Rattle.delay_queue.specs.declared.Call.{Call}
 use Rattle.delay_queue.specs.Claims.{FormatClaim, CallClaim}
 use Rattle.promises.specs.Runs.{Asked, Runs, rest, next}
@@ -20,7 +20,7 @@ use Rattle.run.specs.declared.Group.the-variants as G
 use Rattle.run.specs.declared.Why.{Why}
 use Rattle.run.specs.declared.Why.the-variants as W
 use Rattle.run.specs.Groups.{commandWords, answerWords, GroupIs, Written}
-use Rattle.run.specs.Run.{Knows, commandsOf, answersOf, Answered, RunClaim}
+use Rattle.run.specs.Run.{Knows, commandsOf, answersOf, CommandsDone, RunClaim}
 use Rattle.run.proofs.laws.Groups.{words-length, answer-length}
 
 -- ---- one call behind the others
@@ -71,7 +71,7 @@ four-words cs k h =
 
 -- ---- the loop
 
-pub answered-none : {s : QueueWords} {cs out : List ℕ} → Answered s cs out 0 s out
+pub answered-none : {s : QueueWords} {cs out : List ℕ} → CommandsDone s cs out 0 s out
 answered-none = record { calls = []; many = refl; runs = rest; read = refl; wrote = refl; room = omega arith }
 
 -- the words from 4 i on are those of c, and what is behind
@@ -81,7 +81,7 @@ read-more cs i c e =
     let n : 4 * i + 4 ≡ 4 * (i + 1) = omega arith in
     sym (take-append-drop 4 (drop (4 * i) cs)) ∙ ap₂ (λ (l m : List ℕ). l ++ m) e (drop-drop 4 (4 * i) cs ∙ ap (λ (j : ℕ). drop j cs) n)
 
-module _ {s t : QueueWords} {cs out out₁ : List ℕ} {i : ℕ} (A : Answered s cs out i t out₁) where
+module _ {s t : QueueWords} {cs out out₁ : List ℕ} {i : ℕ} (A : CommandsDone s cs out i t out₁) where
   written-length : length (answersOf (A .calls)) ≡ 6 * i
   written-length = answers-length (A .calls) ∙ ap (λ (n : ℕ). 6 * n) (A .many)
 
@@ -99,7 +99,7 @@ module _ {s t : QueueWords} {cs out out₁ : List ℕ} {i : ℕ} (A : Answered s
 
   -- the next command is done and answered
   pub answered-next : {u : QueueWords} {out₂ : List ℕ} (c : Call) (a : Answer) → take 4 (drop (4 * i) cs) ≡ commandWords c → CallClaim c t a u
-      → Written (6 * i) (answerWords (told a)) out₁ out₂ → 6 * i + 6 ≤ length out → Answered s cs out (i + 1) u out₂
+      → Written (6 * i) (answerWords (told a)) out₁ out₂ → 6 * i + 6 ≤ length out → CommandsDone s cs out (i + 1) u out₂
   unfolding Written
   answered-next c a e C W h =
       let x : Asked = record { call = c; answer = a } in
@@ -121,12 +121,12 @@ module _ {s t : QueueWords} {cs out out₁ : List ℕ} {i : ℕ} (A : Answered s
   -- as the loop knows it
   pub answered-more : {u : QueueWords} {out₂ : List ℕ} {c : Call} {a : Answer} {b : Bool} {r : Group} → 4 * i + 4 ≤ length cs
       → GroupIs (fourAt cs (4 * i)) r → r ≡ G.Asks c → Knows c t a u b → Written (6 * i) (answerWords (told a)) out₁ out₂ → 6 * i + 6 ≤ length out
-      → Answered s cs out (i + 1) u out₂
+      → CommandsDone s cs out (i + 1) u out₂
   answered-more {c = c} {a = a} four I g K W h = answered-next c a (sym (four-words cs (4 * i) four) ∙ I .asks c g) (K .does) W h
 
 -- ---- why it stops
 
-module _ {s t : QueueWords} {cs out out₁ : List ℕ} {i : ℕ} (A : Answered s cs out i t out₁) where
+module _ {s t : QueueWords} {cs out out₁ : List ℕ} {i : ℕ} (A : CommandsDone s cs out i t out₁) where
   -- no four words are left
   pub stops-short : {many : ℕ} → many ≡ length cs / 4 → many ≤ i → RunClaim s cs out i W.NoWords t out₁
   stops-short m h = record { answered = A; stops = omega (arith, m, h) }
@@ -142,8 +142,8 @@ module _ {s t : QueueWords} {cs out out₁ : List ℕ} {i : ℕ} (A : Answered s
 
 -- ---- stacks that are lent, and a state that is put together
 
-pub run-lent : {s s′ : QueueWords} {cs out out′ : List ℕ} {n : ℕ} {why : Why} {st : Stacks} → st ≡ s .wheel .stack .stacks
-    → RunClaim (stacked st s) cs out n why s′ out′ → RunClaim s cs out n why s′ out′
+pub run-lent : {s s′ : QueueWords} {cs out out′ : List ℕ} {n : ℕ} {why : Why} {st : Tops} → st ≡ s .wheel .places .tops
+    → RunClaim (placeWordsOf st s) cs out n why s′ out′ → RunClaim s cs out n why s′ out′
 run-lent {s′ = s′} {cs} {out} {out′} {n} {why} q R = subst (λ s. RunClaim s cs out n why s′ out′) (stacked-same q) R
 
 pub format-made : {w w′ : Wheel} {hh : List (List ℕ)} {vs ds ns ps ts ms : List ℕ} {n turn : ℕ} {a : Answer} {s′ : QueueWords} → w ≡ w′

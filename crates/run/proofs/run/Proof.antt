@@ -12,16 +12,16 @@ to-answer-all c =
     let d = b .before .before .before .before in
     d .before .before .before .before
 
-abbrev to-sound : tie.After-tops-of → tie.After-is-sound
+abbrev to-sound : tie.After-tops-in → tie.After-is-sound
 to-sound c = c .before .before
 
-abbrev to-lent : tie.After-answer-all-arg7 → tie.After-tops-of
+abbrev to-lent : tie.After-answer-all-arg7 → tie.After-tops-in
 to-lent c =
     let a = c .before .before .before .before in
     let b = a .before .before .before .before in
     b .before .before
 
-abbrev to-tops : tie.After-answer-all → tie.After-tops-of
+abbrev to-tops : tie.After-answer-all → tie.After-tops-in
 to-tops c =
     let a = c .before .before .before .before in
     let b = a .before .before .before .before in
@@ -30,13 +30,13 @@ to-tops c =
 is-sound-requires : tie.Need-is-sound-requires
 is-sound-requires c κs = search needs
 
-tops-of-requires : tie.Need-tops-of-requires
-tops-of-requires c κs = search needs
+tops-in-requires : tie.Need-tops-in-requires
+tops-in-requires c κs = search needs
 
 answer-all-requires : tie.Need-answer-all-requires
 answer-all-requires c κs =
     let at-tops = to-lent c in
-    tells-lent (at-tops .tops-of .ensures) (to-sound at-tops .is-sound .ensures)
+    tells-lent (at-tops .tops-in .ensures) (to-sound at-tops .is-sound .ensures)
 
 wheel-of-requires : tie.Need-wheel-of-requires
 wheel-of-requires c κs = search needs
@@ -68,14 +68,14 @@ same-length-7 c = search needs
 returns : tie.Need-returns
 returns c =
     let at-all = to-answer-all c in
-    rw (c .heads-of .ensures, c .before .wheel-of .ensures) (run-lent (to-tops at-all .tops-of .ensures) (at-all .answer-all .ensures .run))
+    rw (c .heads-of .ensures, c .before .wheel-of .ensures) (run-lent (to-tops at-all .tops-in .ensures) (at-all .answer-all .ensures .run))
 
 pub run-spec : {M : Type 1} → statement M
 run-spec =
     tie.close
     (tie.spec
     is-sound-requires
-    tops-of-requires
+    tops-in-requires
     answer-all-requires
     wheel-of-requires
     heads-of-requires

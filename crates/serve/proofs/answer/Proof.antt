@@ -7,8 +7,8 @@ use Prim.Native.Nat.{_-_, _≤_}
 use lib.ListN.{length, take, drop, length-append, length-take, length-drop}
 use Rattle.records.specs.Words.{words}
 use Rattle.lines.specs.Running.{Passes}
-use Rattle.feed.specs.Serving.{Answered}
-use Rattle.feed.proofs.laws.Turns.{feed-forth, feed-fits, feed-room}
+use Rattle.feed.specs.Serving.{LineAnswered}
+use Rattle.feed.proofs.laws.NextLines.{feed-forth, feed-fits, feed-room}
 use Rattle.feed.proofs.laws.Serving.{calls-more, calls-used}
 use Rattle.lines.proofs.laws.Running.{passes-none}
 use Rattle.serve.proofs.answer.Statement.{statement}
@@ -18,9 +18,10 @@ abbrev Inv-loop : tie.InvT-loop
 Inv-loop limits got line₀ values₀ deadlines₀ nexts₀ prevs₀ turns₀ marks₀ out₀ lists most n₀ state₀ heads₀ fine₀ i₀ line values deadlines nexts prevs turns
     marks out n state heads fine i =
     (n ≤ 81)
-    × Passes (Answered limits) (length line₀) (take n₀ line₀) got (words state₀ (heads₀ .rows) values₀ deadlines₀ nexts₀ prevs₀ turns₀ marks₀) (take n line)
+    × Passes (LineAnswered limits) (length line₀) (take n₀ line₀) got (words state₀ (heads₀ .heads) values₀ deadlines₀ nexts₀ prevs₀ turns₀ marks₀)
+        (take n line)
     (drop i got)
-    (words state (heads .rows) values deadlines nexts prevs turns marks)
+    (words state (heads .heads) values deadlines nexts prevs turns marks)
     × (length line ≡ length line₀)
     × (length values ≡ length values₀)
     × (length deadlines ≡ length deadlines₀)

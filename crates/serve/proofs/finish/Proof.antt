@@ -5,7 +5,7 @@ use mathlib.Core.Path.{sym, _∙_}
 use native.Mathlib.Omega.{arith}
 use lib.ListN.{take, length-take}
 use Rattle.lines.proofs.laws.Running.{breaks-off}
-use Rattle.feed.proofs.laws.Turns.{last-room}
+use Rattle.feed.proofs.laws.NextLines.{last-room}
 use Rattle.feed.proofs.laws.Serving.{closes-last}
 use Rattle.serve.proofs.finish.Statement.{statement}
 use Rattle.serve.proofs.finish.Tie as tie

@@ -7,7 +7,7 @@ use lib.ListN.{length, take, length-take}
 use Rattle.records.specs.Words.{words}
 use Rattle.lines.specs.Running.{Reads}
 use Rattle.lines.proofs.laws.Running.{reads-none, reads-more, ran, breaks-off}
-use Rattle.feed.specs.Serving.{Answered}
+use Rattle.feed.specs.Serving.{LineAnswered}
 use Rattle.serve.proofs.serve.Statement.{statement}
 use Rattle.serve.proofs.serve.Tie as tie
 
@@ -23,11 +23,11 @@ Inv-loop limits line₀ values₀ deadlines₀ nexts₀ prevs₀ turns₀ marks�
     × (length turns ≡ length turns₀)
     × (length marks ≡ length marks₀)
     × (length out ≡ length out₀)
-    × Reads (Answered limits) (length line₀) (take (run₀ .kept) line₀)
-    (words (run₀ .state) (run₀ .heads .rows) values₀ deadlines₀ nexts₀ prevs₀ turns₀ marks₀)
+    × Reads (LineAnswered limits) (length line₀) (take (run₀ .kept) line₀)
+    (words (run₀ .state) (run₀ .heads .heads) values₀ deadlines₀ nexts₀ prevs₀ turns₀ marks₀)
     bytes
     (take (run .kept) line)
-    (words (run .state) (run .heads .rows) values deadlines nexts prevs turns marks)
+    (words (run .state) (run .heads .heads) values deadlines nexts prevs turns marks)
 
 abbrev μ-loop : tie.MeasureT-loop
 μ-loop limits line₀ values₀ deadlines₀ nexts₀ prevs₀ turns₀ marks₀ out₀ buf₀ run₀ bytes₀ line values deadlines nexts prevs turns marks out buf run

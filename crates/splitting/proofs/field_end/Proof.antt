@@ -1,4 +1,4 @@
--- `field_end` stops at the first space: the invariant says that no byte passed is one, and `below-more` adds the byte of a turn.
+-- `field_end` stops at the first space: the invariant says that no byte passed is one, and `below-more` adds the byte of a step.
 use borrow.Author.Count.{below-more}
 use borrow.Author.Needs.{needs}
 use mathlib.Core.Path.{_≡_}
@@ -21,7 +21,7 @@ shared-slice-read-if1 : tie.Need-shared-slice-read-if1 Inv-loop μ-loop
 shared-slice-read-if1 c = search needs
 
 returns : tie.Need-returns Inv-loop μ-loop
-returns c = record { within = omega arith; before = c .before .before .before .loop .inv .1; space = λ h. c .if1 .taken }
+returns c = record { within = omega arith; inside = c .before .before .before .loop .inv .1; space = λ h. c .if1 .taken }
 
 add-i : tie.Need-add-i Inv-loop μ-loop
 add-i c = search needs
@@ -33,7 +33,7 @@ loop-again : tie.Need-loop-again Inv-loop μ-loop
 loop-again c = (search needs, below-more _ _ (c .before .before .before .loop .inv .1) (c .if1 .left))
 
 returns-2 : tie.Need-returns-2 Inv-loop μ-loop
-returns-2 c = record { within = omega arith; before = c .before .loop .inv .1; space = λ h. absurd (omega arith) }
+returns-2 c = record { within = omega arith; inside = c .before .loop .inv .1; space = λ h. absurd (omega arith) }
 
 pub field-end-spec : {M : Type 1} → statement M
 field-end-spec =

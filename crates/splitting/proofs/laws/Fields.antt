@@ -53,7 +53,7 @@ module _ (s : List ℕ) (e : ℕ) (h : EndsAt s e) where
   unbroken : Whole (take e s)
   unbroken i l z =
       let k : i < e = omega (arith, simp length-take at l) in
-      h .before i k (sym (getD-take e s i 0 k) ∙ z)
+      h .inside i k (sym (getD-take e s i 0 k) ∙ z)
 
   stops : Ends (drop e s)
   stops =

@@ -47,18 +47,18 @@ number-met l =
     (λ some. (N.Bad, λ n x. some (x .some)))
 
 ends-met : (s : List ℕ) → (e : ℕ) × EndsAt s e
-ends-met [] = (0, record { within = omega arith; before = λ k h. absurd (omega arith); space = λ h. absurd (omega arith) })
+ends-met [] = (0, record { within = omega arith; inside = λ k h. absurd (omega arith); space = λ h. absurd (omega arith) })
 ends-met (b ∷ s) =
     by-cases (ℕ-discrete b 32)
-    (λ (h : b ≡ 32). (0, record { within = omega arith; before = λ k l. absurd (omega arith); space = λ _. h }))
+    (λ (h : b ≡ 32). (0, record { within = omega arith; inside = λ k l. absurd (omega arith); space = λ _. h }))
     (λ n. let r = ends-met s in (suc (r .0), later n (r .0) (r .1)))
   where
     later : (b ≡ 32 → ⊥) → (e : ℕ) → EndsAt s e → EndsAt (b ∷ s) (suc e)
-    later n e h = record { within = omega (arith, h .within); before = early; space = λ l. h .space (omega arith) }
+    later n e h = record { within = omega (arith, h .within); inside = early; space = λ l. h .space (omega arith) }
       where
         early : (k : ℕ) → k < suc e → getD (b ∷ s) k 0 ≡ 32 → ⊥
         early zero l q = n q
-        early (suc k) l q = h .before k (omega arith) q
+        early (suc k) l q = h .inside k (omega arith) q
 
 pub begins-met : (s : List ℕ) → (r : First) × Begins s r
 begins-met s = let x = ends-met s in by (x .0) (x .1) (number-met (take (x .0) s) .0) (number-met (take (x .0) s) .1)

@@ -17,7 +17,7 @@ use Rattle.wheel.specs.declared.Wheel.{Wheel}
 use Rattle.links.specs.Lists.{nobody}
 use Rattle.records.specs.Words.{QueueWords, words}
 use Rattle.delay_queue.specs.Claims.{PollClaim, PollSomeClaim}
-use Rattle.delay_queue.proofs.laws.Back.{Goes}
+use Rattle.delay_queue.proofs.laws.Back.{GivesBack}
 use Rattle.promises.proofs.laws.Once.{told-one}
 use Rattle.tick.specs.Claims.{differenceOf, sum, Passes, ReadClaim, TickPollClaim, nowOf, TickSomeClaim}
 
@@ -78,7 +78,7 @@ polled-some {time} {tick} {time′} {s = s} R e n P =
 module _ (vs ds ns ps ts ms : List ℕ) where
   pub some-asks-nothing : {time tick limit time′ : ℕ} {a b : Answer} {w w′ : Wheel} {hh hh′ : List (List ℕ)} → ReadClaim time tick a time′
       → (told a ≡ ok → ⊥)
-      → Goes b w′ hh′ a w hh → TickSomeClaim time (words w hh vs ds ns ps ts ms) tick limit b time (words w′ hh′ vs ds ns ps ts ms)
+      → GivesBack b w′ hh′ a w hh → TickSomeClaim time (words w hh vs ds ns ps ts ms) tick limit b time (words w′ hh′ vs ds ns ps ts ms)
   some-asks-nothing R f G =
       let r = R .past (was-past R f) in
       record {
@@ -87,7 +87,7 @@ module _ (vs ds ns ps ts ms : List ℕ) where
       }
 
   pub asks-nothing : {time tick time′ : ℕ} {a b : Answer} {w w′ : Wheel} {hh hh′ : List (List ℕ)} → ReadClaim time tick a time′ → (told a ≡ ok → ⊥)
-      → Goes b w′ hh′ a w hh → TickPollClaim time (words w hh vs ds ns ps ts ms) tick b time (words w′ hh′ vs ds ns ps ts ms)
+      → GivesBack b w′ hh′ a w hh → TickPollClaim time (words w hh vs ds ns ps ts ms) tick b time (words w′ hh′ vs ds ns ps ts ms)
   asks-nothing R f G =
       let r = R .past (was-past R f) in
       record {

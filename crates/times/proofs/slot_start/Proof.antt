@@ -1,18 +1,18 @@
--- `times::slot_start` meets its contract: the turns, the slot and the width make the start (`start-turns`), within a u64 (`start-lt`).
+-- `times::slot_start` meets its contract: the laps, the slot and the width make the start (`start-laps`), within a u64 (`start-lt`).
 use native.Mathlib.Omega.{arith}
 use borrow.Author.Needs.{needs}
-use Rattle.times.proofs.laws.Starts.{start-turns, start-lt, slots-lt}
+use Rattle.times.proofs.laws.Starts.{start-laps, start-lt, slots-lt}
 use Rattle.times.proofs.slot_start.Statement.{statement}
 use Rattle.times.proofs.slot_start.Tie as tie
 
-mul-turns : tie.Need-mul-turns
-mul-turns c = search needs
+mul-laps : tie.Need-mul-laps
+mul-laps c = search needs
 
-add-turns : tie.Need-add-turns
-add-turns c = search needs
+add-laps : tie.Need-add-laps
+add-laps c = search needs
 
-shr-turns : tie.Need-shr-turns
-shr-turns c = search needs
+shr-laps : tie.Need-shr-laps
+shr-laps c = search needs
 
 mul-result : tie.Need-mul-result
 mul-result c = omega (arith, slots-lt _ _ _ (c .pre .0) (c .pre .1) (c .fits .elapsed .fits))
@@ -28,15 +28,15 @@ mul-result-2 c =
     rw (c .slot-range .ensures) record { fits = start-lt _ _ _ (c .before .pre .0) (c .before .pre .1) (c .before .fits .elapsed .fits) }
 
 returns : tie.Need-returns
-returns c = rw (c .slot-range .ensures) (start-turns _ _ _)
+returns c = rw (c .slot-range .ensures) (start-laps _ _ _)
 
 pub slot-start-spec : {M : Type 1} → statement M
 slot-start-spec =
     tie.close
     (tie.spec
-    mul-turns
-    add-turns
-    shr-turns
+    mul-laps
+    add-laps
+    shr-laps
     mul-result
     add-result
     slot-range-requires

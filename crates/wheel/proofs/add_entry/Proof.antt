@@ -30,11 +30,11 @@ element-copy-out-set c = search needs
 set-requires : tie.Need-set-requires
 set-requires c κs = let s = slotted (pushed c .before) in add-slot (start s .pre) _ _ (s .slot-for .ensures) .1
 
-mul-rows : tie.Need-mul-rows
-mul-rows c = search needs
+mul-occupied : tie.Need-mul-occupied
+mul-occupied c = search needs
 
-element-write-rows : tie.Need-element-write-rows
-element-write-rows c = search needs
+element-write-occupied : tie.Need-element-write-occupied
+element-write-occupied c = search needs
 
 same-length : tie.Need-same-length
 same-length c = search needs
@@ -60,8 +60,8 @@ add-entry-spec =
     mul-set
     element-copy-out-set
     set-requires
-    mul-rows
-    element-write-rows
+    mul-occupied
+    element-write-occupied
     same-length
     same-length-2
     same-length-3

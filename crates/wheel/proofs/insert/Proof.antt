@@ -1,6 +1,6 @@
 -- `insert` meets its contract: the level is that of the deadline.
 use borrow.Author.Needs.{needs}
-use Rattle.wheel.proofs.laws.Turns.{insert-adds, inserted}
+use Rattle.wheel.proofs.laws.Moves.{insert-adds, inserted}
 use Rattle.wheel.proofs.insert.Statement.{statement}
 use Rattle.wheel.proofs.insert.Tie as tie
 

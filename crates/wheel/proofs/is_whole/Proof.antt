@@ -8,11 +8,11 @@ use Rattle.wheel.proofs.is_whole.Statement.{statement}
 use Rattle.wheel.proofs.is_whole.Tie as tie
 
 abbrev Inv-loop : tie.InvT-loop
-Inv-loop elapsed rows tops heads nexts prevs marks left₀ level₀ left level =
-    JudgedSo (words elapsed rows tops heads nexts prevs marks) level left
+Inv-loop elapsed occupied tops heads nexts prevs marks left₀ level₀ left level =
+    JudgedSo (words elapsed occupied tops heads nexts prevs marks) level left
 
 abbrev μ-loop : tie.MeasureT-loop
-μ-loop elapsed rows tops heads nexts prevs marks left₀ level₀ left level = 6 - level
+μ-loop elapsed occupied tops heads nexts prevs marks left₀ level₀ left level = 6 - level
 
 abbrev start : tie.At-loop Inv-loop μ-loop → tie.Start Inv-loop μ-loop
 start c =

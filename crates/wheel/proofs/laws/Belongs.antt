@@ -10,7 +10,7 @@ use Rattle.times.specs.Times.{width, slotOf, levelOf, floor, Lies, block, NextB
 use Rattle.times.proofs.laws.Quotients.{slot-lt, floor-quotient, agree-above, lies-late, lies-agree, lies-block, lies-down}
 use Rattle.times.proofs.laws.Levels.{level-is, block-six}
 use Rattle.links.specs.Lists.{Mem}
-use Rattle.stack.specs.Places.{slotPlace, slots, parking, expired}
+use Rattle.places.specs.Places.{slotPlace, slots, parking, expired}
 use Rattle.wheel.specs.Wheel.{Lists, placeFor, OnWheel}
 use Rattle.wheel.specs.Between.{Spot, Draining}
 use Rattle.wheel.proofs.laws.Between.{place-level, place-slot, on-spot, spot-on}
@@ -194,7 +194,7 @@ pub record HandTests (d : ℕ → ℕ) (until p e : ℕ) (L : Lists) : Type 0 wh
   pub high : 0 < p / 64
   pub below : p < expired
   pub filled : (x : ℕ) × (l : List ℕ) × (L p ≡ x ∷ l)
-  pub stack : L expired ≡ []
+  pub expired : L expired ≡ []
   pub late : e ≤ start e p
   pub due : start e p ≤ until
   pub each : (q y : ℕ) → q < slots → Mem y (L q) → Belongs (p / 64 - 1) p (start e p) q (d y)
@@ -211,7 +211,7 @@ hand-tests d until p e L = (
     high = H .high;
     below = H .below;
     filled = H .filled;
-    stack = H .stack;
+    expired = H .expired;
     late = H .late;
     due = H .due;
     each = λ r y hr m. fits-belongs (p / 64 - 1) p (start e p) r (d y) q (H .below) (whole q (H .below)) (slot q) hr (F .0 r y hr m);
@@ -222,7 +222,7 @@ hand-tests d until p e L = (
     high = T .high;
     below = T .below;
     filled = T .filled;
-    stack = T .stack;
+    expired = T .expired;
     late = T .late;
     due = T .due;
     rule = draining-fits (T .below) .1 (

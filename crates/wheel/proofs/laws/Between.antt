@@ -7,7 +7,7 @@ use Rattle.times.specs.Times.{slotOf, levelOf, floor}
 use Rattle.times.proofs.laws.Quotients.{slot-lt, lies-late, lies-agree}
 use Rattle.times.proofs.laws.Levels.{level-is, is-level, block-six, level-lies, lies-level}
 use Rattle.links.specs.Lists.{Mem}
-use Rattle.stack.specs.Places.{slotPlace, slots, parking, expired, levelAt, slotAt}
+use Rattle.places.specs.Places.{slotPlace, slots, parking, expired, levelAt, slotAt}
 use Rattle.wheel.specs.Wheel.{Lists, placeFor, OnWheel, Rule}
 use Rattle.wheel.specs.Between.{Spot, Between}
 
@@ -54,7 +54,7 @@ rule-between {d} {e} {L} R =
 pub between-rule : {d : ℕ → ℕ} {e : ℕ} {L : Lists} → Between d e L
     → ((p x : ℕ) → p < slots → Mem x (L p) → Ahead p e (d x)) → ((x : ℕ) → Mem x (L expired) → d x ≡ e) → Rule d e L
 between-rule {d} {e} {L} B a s =
-    record { wheel = λ p x hp m. spot-on p e (d x) hp (B .spot p x hp m) (a p x hp m); parked = B .parked; stack = s }
+    record { wheel = λ p x hp m. spot-on p e (d x) hp (B .spot p x hp m) (a p x hp m); parked = B .parked; expired = s }
 
 -- whatever leaves, the rule stays
 pub rule-less : {d : ℕ → ℕ} {e : ℕ} {L M : Lists} → Rule d e L → ((p x : ℕ) → Mem x (M p) → Mem x (L p)) → Rule d e M
@@ -62,5 +62,5 @@ rule-less R h =
     record {
       wheel = λ p x hp m. R .wheel p x hp (h p x m);
       parked = λ x m. R .parked x (h parking x m);
-      stack = λ x m. R .stack x (h expired x m);
+      expired = λ x m. R .expired x (h expired x m);
     }

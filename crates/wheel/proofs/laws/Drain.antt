@@ -12,7 +12,7 @@ use Rattle.times.proofs.laws.Quotients.{slot-lt, floor-le, floor-64, lies-raise
 use Rattle.times.proofs.laws.Blocks.{end-block}
 use Rattle.links.specs.Lists.{Mem, change}
 use Rattle.links.proofs.laws.Lists.{change-same, change-other}
-use Rattle.stack.specs.Places.{slotPlace, slots, parking, expired, put, levelAt}
+use Rattle.places.specs.Places.{slotPlace, slots, parking, expired, put, levelAt}
 use Rattle.wheel.specs.Wheel.{Lists, NextList, in-slot, in-parking, arrive, Drains, drained, moved}
 use Rattle.wheel.specs.Sums.{total}
 use Rattle.wheel.proofs.laws.Sums.{mem-joined, mem-left, total-less, total-more}

@@ -13,13 +13,13 @@ use Rattle.row.specs.Row.{flagAt, Lowest}
 use Rattle.row.proofs.laws.Rows.{flag-none}
 use Rattle.links.specs.Lists.{nobody}
 use Rattle.links.specs.Links.{at}
-use Rattle.stack.specs.Places.{slotPlace, slots, levelAt, slotAt}
+use Rattle.places.specs.Places.{slotPlace, slots, levelAt, slotAt}
 use Rattle.wheel.specs.declared.Expiration.{Expiration}
 use Rattle.wheel.specs.declared.Next.the-variants.{At, Nothing}
 use Rattle.wheel.specs.declared.Wake.the-variants.{At as Wake·At}
 use Rattle.wheel.specs.Wheel.{Lists, FirstSlot, EmptyWheel, in-slot, in-parking}
-use Rattle.wheel.specs.Rows.{filled, Rows}
-use Rattle.wheel.proofs.laws.Rows.{flag-is, unfilled, filled-some}
+use Rattle.wheel.specs.Occupied.{filled, Occupied}
+use Rattle.wheel.proofs.laws.Occupied.{flag-is, unfilled, filled-some}
 use Rattle.wheel.specs.Between.{Between}
 use Rattle.wheel.proofs.laws.Between.{place-level, place-slot}
 use Rattle.wheel.proofs.laws.Next.{not-passed}
@@ -29,7 +29,7 @@ pub wake-at : {e : ℕ} {L : Lists} (x : Expiration) → NextIs e L (At x) → W
 wake-at x N = (x .level, slotPlace (x .level) (x .slot), N .1)
 
 -- the rule inside a poll has it that no slot was passed
-pub between-passed : {d : ℕ → ℕ} {e : ℕ} {L : Lists} {occ : List ℕ} → Between d e L → Rows occ L → NotPassed e occ
+pub between-passed : {d : ℕ → ℕ} {e : ℕ} {L : Lists} {occ : List ℕ} → Between d e L → Occupied occ L → NotPassed e occ
 between-passed {d} {e} {L} {occ} B R = record {
   passed = λ k s hk h. flag-is R k s hk (omega (arith, slot-lt e k))
       ∙ by k s hk h (L (slotPlace k s)) refl;
@@ -45,7 +45,7 @@ between-passed {d} {e} {L} {occ} B R = record {
         let n : slotOf e k ≤ slotOf (d x) k = rw a at (not-passed (slotPlace k s / 64) e (d x) (p .lies)) in
         absurd (omega (arith, n, h, sym b ∙ p .slot ∙ ap (slotOf (d x)) a))
 
-module _ {occ : List ℕ} {L : Lists} (R : Rows occ L) where
+module _ {occ : List ℕ} {L : Lists} (R : Occupied occ L) where
   -- a row of 0 is an empty level
   none-at : (q : ℕ) → q < slots → at occ (levelAt q) ≡ 0 → L q ≡ []
   none-at q h z =
@@ -73,9 +73,9 @@ module _ {occ : List ℕ} {L : Lists} (R : Rows occ L) where
         steps = s - slotOf e k;
         near = omega (arith, F .within);
         is = omega (arith, late, F .within);
-        before = λ j h.
+        passed = λ j h.
             let t : ℕ = (slotOf e k + j) % 64 in
-            unfilled (L (slotPlace k t)) (sym (flag-is R k t hk (omega arith)) ∙ F .before t (omega (arith, late, F .within, h)));
+            unfilled (L (slotPlace k t)) (sym (flag-is R k t hk (omega arith)) ∙ F .lower t (omega (arith, late, F .within, h)));
         head = c .0;
         rest = c .1;
         filled = c .2;
@@ -89,7 +89,7 @@ module _ {occ : List ℕ} {L : Lists} (R : Rows occ L) where
 -- no row has a flag: nothing, or the parking list
 module _ {d : ℕ → ℕ} {e : ℕ} {occ : List ℕ} {head : ℕ} {L : Lists} (S : Sees d e occ head L) (z : (j : ℕ) → j < 6 → at occ j ≡ 0) where
   pub none-found : head ≡ nobody → NextIs e L Nothing
-  none-found h = (no-slot (S .rows) z, S .none h)
+  none-found h = (no-slot (S .occupied) z, S .none h)
 
   pub parking-found : head ≢ nobody → (t : ℕ) → t ≡ floor 6 (d head) → NextIs e L (At (record { level = 6; slot = 0; deadline = t }))
-  parking-found h t et = (omega arith, rw (et, next-floor e (d head) (S .block h)) (in-parking (no-slot (S .rows) z) (S .some h .1)))
+  parking-found h t et = (omega arith, rw (et, next-floor e (d head) (S .block h)) (in-parking (no-slot (S .occupied) z) (S .some h .1)))

@@ -10,7 +10,7 @@ use native.Mathlib.Omega.{arith}
 use Rattle.times.specs.Times.{floor}
 use Rattle.times.proofs.laws.Quotients.{floor-le, floor-64}
 use Rattle.links.specs.Lists.{Mem}
-use Rattle.stack.specs.Places.{slots, parking, expired}
+use Rattle.places.specs.Places.{slots, parking, expired}
 use Rattle.wheel.specs.Wheel.{Lists, Drains, drained, moved}
 use Rattle.wheel.proofs.laws.Drain.{Drained, drain-ends, drains-law}
 use Rattle.wheel.proofs.laws.Poll.{Promise, end-drain, poll-law}
@@ -58,5 +58,5 @@ module _ {d : ℕ → ℕ} {now p e : ℕ} {L : Lists} (H : InHand d now p e L) 
   hand-ends {b} {m} {n} {e′} {g} {N} r =
       let Q : Finishes d now p e L g m n e′ N = limited-polls r in
       let D = rest-drained (Q .rest) in
-      let P = end-drain D (poll-law (D .rule) (D .aside expired (omega arith) ∙ H .stack) (H .due) (Q .polls)) in
+      let P = end-drain D (poll-law (D .rule) (D .aside expired (omega arith) ∙ H .expired) (H .due) (Q .polls)) in
       subst (λ (i : ℕ). Promise d now e L g m i e′ N) (sym (Q .one)) (subst (λ (i : ℕ). Promise d now e L g i (suc (Q .drains)) e′ N) (sym (Q .all)) P)

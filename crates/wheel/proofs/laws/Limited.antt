@@ -7,7 +7,7 @@ use native.Mathlib.Omega.{arith}
 use native.Mathlib.Nat.{zero-add, add-assoc}
 use borrow.Author.Tests.{ne-eqb}
 use Rattle.times.specs.Times.{startAt, blockEnd}
-use Rattle.stack.specs.Places.{slotPlace, parking}
+use Rattle.places.specs.Places.{slotPlace, parking}
 use Rattle.wheel.specs.Wheel.{Lists, NextList, in-slot, in-parking, Drains, drained, moved, Polls, idle, early, out, drain}
 use Rattle.wheel.proofs.laws.Between.{place-level, place-slot}
 use Rattle.wheel.proofs.laws.Next.{list-height}

@@ -14,8 +14,8 @@ use Rattle.times.proofs.laws.Levels.{block-six}
 use Rattle.times.proofs.laws.Blocks.{end-later}
 use Rattle.links.specs.Lists.{Mem, change}
 use Rattle.links.proofs.laws.Lists.{change-same, change-other, mem-left as mem-before, mem-right as mem-after}
-use Rattle.stack.specs.Places.{slotPlace, slots, parking, expired, put}
-use Rattle.stack.proofs.laws.Places.{put-tail}
+use Rattle.places.specs.Places.{slotPlace, slots, parking, expired, put}
+use Rattle.places.proofs.laws.Places.{put-tail}
 use Rattle.wheel.specs.Wheel.{Lists, Rule, FirstSlot, NextList, in-slot, in-parking, arrive}
 use Rattle.wheel.proofs.laws.Sums.{total-le, mem-change}
 use Rattle.wheel.specs.Between.{Spot, Between, Draining}
@@ -28,7 +28,7 @@ use Rattle.wheel.specs.Midway.{Own, InHand, Comes}
 use Rattle.wheel.proofs.laws.Limited.{start-slot-at, start-parking, list-begins}
 
 -- M is L after m moves of a poll whose elapsed went from e to e′: the same timers wait, and nothing else changed
-pub record Kept (e : ℕ) (L : Lists) (m e′ : ℕ) (M : Lists) : Type 0 where
+pub record PollKept (e : ℕ) (L : Lists) (m e′ : ℕ) (M : Lists) : Type 0 where
   pub rises : e ≤ e′
   pub fallen : heights M + m ≡ heights L
   pub kept : (v : ℕ → ℕ) → amount v M ≡ amount v L
@@ -122,7 +122,7 @@ module _ (d : ℕ → ℕ) (now : ℕ) where
   -- between drains: what lies in a slot that starts at elapsed came there by the last drain
   pub record Looking (e : ℕ) (L : Lists) : Type 0 where
     pub rule : Between d e L
-    pub stack : L expired ≡ []
+    pub expired : L expired ≡ []
     pub due : e ≤ now
     pub own : (p x : ℕ) → p < slots → Mem x (L p) → 0 < p / 64 → floor (p / 64) (d x) ≡ e → Own (suc (p / 64)) e L
 
@@ -130,7 +130,7 @@ module _ (d : ℕ → ℕ) (now : ℕ) where
   pub record Inside (k p e : ℕ) (L : Lists) : Type 0 where
     pub level : p / 64 ≡ suc k
     pub below : p < expired
-    pub stack : L expired ≡ []
+    pub expired : L expired ≡ []
     pub late : e ≤ start e p
     pub due : start e p ≤ now
     pub rule : Draining d k p (start e p) L
@@ -143,7 +143,7 @@ module _ (d : ℕ → ℕ) (now : ℕ) where
         high = omega (arith, D .level);
         below = D .below;
         filled = (x, l, is);
-        stack = D .stack;
+        expired = D .expired;
         late = D .late;
         due = D .due;
         rule = subst (λ (n : ℕ). Draining d n p (start e p) L) z (D .rule);
@@ -156,7 +156,7 @@ module _ (d : ℕ → ℕ) (now : ℕ) where
       record {
         level = q;
         below = H .below;
-        stack = H .stack;
+        expired = H .expired;
         late = H .late;
         due = H .due;
         rule = H .rule;
@@ -169,7 +169,7 @@ module _ (d : ℕ → ℕ) (now : ℕ) where
   begun {e} {L} R s l =
       record {
         rule = rule-between R;
-        stack = s;
+        expired = s;
         due = l;
         own = λ p x hp m u k. absurd (omega (arith, on-spot p e (d x) (R .wheel p x hp m) .1 u, k));
       }
@@ -182,7 +182,7 @@ module _ (d : ℕ → ℕ) (now : ℕ) where
       record {
         level = lv;
         below = list-height X .1;
-        stack = P .stack;
+        expired = P .expired;
         late = omega (arith, a, list-late B X);
         due = omega (arith, a, due);
         rule = subst (λ (n : ℕ). Draining d k p n L) a (drain-begins B X);
@@ -224,7 +224,7 @@ module _ (d : ℕ → ℕ) (now : ℕ) where
       record {
         level = D .level;
         below = D .below;
-        stack = M .aside expired (omega arith) ∙ D .stack;
+        expired = M .aside expired (omega arith) ∙ D .expired;
         late = D .late;
         due = D .due;
         rule = M .rule (start e p) (D .rule);
@@ -240,7 +240,7 @@ module _ (d : ℕ → ℕ) (now : ℕ) where
   emptied {k} {p} {e} {L} D is =
       record {
         rule = drain-ends (D .rule) is;
-        stack = D .stack;
+        expired = D .expired;
         due = D .due;
         own = λ q x hq m u z. by q x hq m z (decLe (suc k) (q / 64));
       }
@@ -283,7 +283,7 @@ module _ (d : ℕ → ℕ) (now : ℕ) where
   as-level : {k p e : ℕ} {L : Lists} → Inside k p e L → Inside (p / 64 - 1) p e L
   as-level {k} {p} {e} {L} D = let z : k ≡ p / 64 - 1 = omega (arith, D .level) in subst (λ (j : ℕ). Inside j p e L) z D
 
-  pub limited-kept : {h : Option ℕ} {b e p m n e′ : ℕ} {L M : Lists} → Passes h e L → Limited d now h b e L (yet p) m n e′ M → Kept e L m e′ M
+  pub limited-kept : {h : Option ℕ} {b e p m n e′ : ℕ} {L M : Lists} → Passes h e L → Limited d now h b e L (yet p) m n e′ M → PollKept e L m e′ M
   limited-kept P (finds F due r) = limited-kept (_, found P F due) r
   limited-kept P (stops is) = record { rises = omega arith; fallen = omega arith; kept = λ v. refl; aside = λ q a. refl }
   limited-kept {L = L} P (moves {p = p} {x = x} {l = l} is r) =
@@ -296,11 +296,11 @@ module _ (d : ℕ → ℕ) (now : ℕ) where
       record { rises = omega (arith, K .rises, P .1 .late); fallen = K .fallen; kept = K .kept; aside = K .aside }
 
   -- a store that a poll comes from holds the same timers, no lower, and its elapsed is no later
-  pub comes-kept : {p e : ℕ} {L : Lists} (C : Comes d now (yet p) e L) → Kept (C .from) (C .lists) (C .moves) e L
-  comes-kept C = limited-kept (begun (C .rule) (C .stack) (C .due)) (C .polls)
+  pub comes-kept : {p e : ℕ} {L : Lists} (C : Comes d now (yet p) e L) → PollKept (C .from) (C .lists) (C .moves) e L
+  comes-kept C = limited-kept (begun (C .rule) (C .expired) (C .due)) (C .polls)
 
   pub comes-hand : {p e : ℕ} {L : Lists} → Comes d now (yet p) e L → InHand d now p e L
-  comes-hand C = limited-hand (begun (C .rule) (C .stack) (C .due)) (C .polls)
+  comes-hand C = limited-hand (begun (C .rule) (C .expired) (C .due)) (C .polls)
 
   -- ---- and back: moves are undone until a drain has just been found, and drains until the poll has just begun
 
@@ -348,7 +348,7 @@ module _ (d : ℕ → ℕ) (now : ℕ) where
                 omega (arith, D .late, D .rule .later q x hq (λ z. omega (arith, h, g, ap (λ (n : ℕ). n / 64) z, D .level)) mx (omega (arith, h, g)));
             parked = was-parked;
           };
-          stack = D .stack;
+          expired = D .expired;
           due = le-trans (D .late) (D .due);
           own = λ q x hq m u z.
               by-cases (ℕ-discrete q p)
@@ -395,7 +395,7 @@ module _ (d : ℕ → ℕ) (now : ℕ) where
             steps = p % 64 - slotOf e (suc k);
             near = omega arith;
             is = omega (arith, slot-on);
-            before = λ j h. empty-where (L (slotPlace (suc k) ((slotOf e (suc k) + j) % 64)))
+            passed = λ j h. empty-where (L (slotPlace (suc k) ((slotOf e (suc k) + j) % 64)))
                 (λ y m. earlier ((slotOf e (suc k) + j) % 64) y (omega (arith, h)) m);
             head = x;
             rest = l;
@@ -467,7 +467,7 @@ module _ (d : ℕ → ℕ) (now : ℕ) where
         record {
           level = D .level;
           below = D .below;
-          stack = change-other K p (y ∷ L p) expired (omega (arith, D .below)) ∙ change-other L r l expired (omega (arith, hr)) ∙ D .stack;
+          expired = change-other K p (y ∷ L p) expired (omega (arith, D .below)) ∙ change-other L r l expired (omega (arith, hr)) ∙ D .expired;
           late = D .late;
           due = D .due;
           rule = record {
@@ -553,7 +553,7 @@ module _ (d : ℕ → ℕ) (now : ℕ) where
         by-cases (ℕ-discrete (floor (p / 64) (d x)) e)
         (λ z. absurd (empty (p / 64) u (omega arith) x (subst (λ (q : ℕ). Mem x (L q)) (own-place p x hp m z) m)))
         (λ z. omega (arith, z, P .rule .spot p x hp m .lies .start)))
-        (λ x m. absurd (none-in x (P .stack) m))
+        (λ x m. absurd (none-in x (P .expired) m))
 
     -- and nothing lies lower than what lies in one
     above-own : (k x : ℕ) → k < 6 → Mem x (L (ownPlace e k)) → (r y : ℕ) → r < slots → Mem y (L r) → k ≤ r / 64
@@ -589,7 +589,7 @@ module _ (d : ℕ → ℕ) (now : ℕ) where
           record {
             level = own-level e (suc k);
             below = omega (arith, hp);
-            stack = P .stack;
+            expired = P .expired;
             late = omega (arith, st, l);
             due = omega (arith, st, P .due);
             rule = subst (λ (n : ℕ). Draining d k p n L) (sym st) R;
@@ -610,7 +610,7 @@ module _ (d : ℕ → ℕ) (now : ℕ) where
         record {
           level = omega arith;
           below = omega arith;
-          stack = P .stack;
+          expired = P .expired;
           late = omega (arith, st);
           due = omega (arith, st, P .due);
           rule = subst (λ (n : ℕ). Draining d 5 parking n L) (sym st) R;
@@ -655,24 +655,24 @@ module _ (d : ℕ → ℕ) (now : ℕ) where
 
   -- ---- the way back, by how far the entries can still rise
 
-  abbrev Room : ℕ → Lists → Type 0
-  Room n L = amount (λ x. 6) L < n + heights L
+  abbrev CanRise : ℕ → Lists → Type 0
+  CanRise n L = amount (λ x. 6) L < n + heights L
 
-  room-some : (L : Lists) → Room 0 L → ⊥
+  room-some : (L : Lists) → CanRise 0 L → ⊥
   unfolding heights amount
   room-some L h = omega (arith, h, total-le (λ p x. p / 64) (λ p x. 6) expired L (λ p x l. omega (arith, l)))
 
-  room-all : (L : Lists) → Room (suc (amount (λ x. 6) L)) L
+  room-all : (L : Lists) → CanRise (suc (amount (λ x. 6) L)) L
   room-all L = omega arith
 
   record Back (n : ℕ) : Type 0 where
-    look : {e : ℕ} {L : Lists} → Looking e L → Room n L
+    look : {e : ℕ} {L : Lists} → Looking e L → CanRise n L
         → {o : Outcome} {b m i e′ : ℕ} {N : Lists} → Limited d now none b e L o m i e′ N → Comes d now o e′ N
-    inside : {k p e : ℕ} {L : Lists} → Inside k p e L → (x : ℕ) (l : List ℕ) → L p ≡ x ∷ l → Room n L
+    inside : {k p e : ℕ} {L : Lists} → Inside k p e L → (x : ℕ) (l : List ℕ) → L p ≡ x ∷ l → CanRise n L
         → {o : Outcome} {b m i e′ : ℕ} {N : Lists} → Limited d now (some p) b e L o m i e′ N → Comes d now o e′ N
 
   -- one move back
-  back-move : {n : ℕ} → Back n → {k p e : ℕ} {L : Lists} → Inside k p e L → (r x : ℕ) → r < slots → r / 64 ≡ k → Mem x (L r) → Room (suc n) L
+  back-move : {n : ℕ} → Back n → {k p e : ℕ} {L : Lists} → Inside k p e L → (r x : ℕ) → r < slots → r / 64 ≡ k → Mem x (L r) → CanRise (suc n) L
       → {o : Outcome} {b m i e′ : ℕ} {N : Lists} → Limited d now (some p) b e L o m i e′ N → Comes d now o e′ N
   back-move {n} ih {k} {p} {e} {L} D r x hr lower mx room {o} {b} {m} {i} {e′} {N} q =
       let c = mem-last-of x (L r) mx in
@@ -690,12 +690,12 @@ module _ (d : ℕ → ℕ) (now : ℕ) where
       (moves (back-is D r y l hr is lower) (subst (λ (Q : Lists). Limited d now (some p) b e Q o m i e′ N) (sym E′) q))
 
   -- one drain back
-  back-look : {n : ℕ} → Back n → {e : ℕ} {L : Lists} → Looking e L → Room (suc n) L
+  back-look : {n : ℕ} → Back n → {e : ℕ} {L : Lists} → Looking e L → CanRise (suc n) L
       → {o : Outcome} {b m i e′ : ℕ} {N : Lists} → Limited d now none b e L o m i e′ N → Comes d now o e′ N
   back-look {n} ih {e} {L} P room {o} {b} {m} {i} {e′} {N} q = ⊎-elim (λ c. undo (c .0) (c .1) (c .2) (c .3) (c .4)) begin (own-some e L 5)
     where
       begin : ((k : ℕ) → 0 < k → k ≤ 5 → (x : ℕ) → Mem x (L (ownPlace e k)) → ⊥) → Comes d now o e′ N
-      begin h = record { from = e; lists = L; rule = just-begun P h; stack = P .stack; due = P .due; limit = b; moves = m; drains = i; polls = q }
+      begin h = record { from = e; lists = L; rule = just-begun P h; expired = P .expired; due = P .due; limit = b; moves = m; drains = i; polls = q }
 
       undo : (k x : ℕ) → 0 < k → k ≤ 5 → Mem x (L (ownPlace e k)) → Comes d now o e′ N
       undo k x pos le mx = by-cases (ℕ-discrete k 5) unpark (λ z. by (omega (arith, le, z)) (ℕ-discrete (floor (suc (suc k)) e) e))
@@ -733,7 +733,7 @@ module _ (d : ℕ → ℕ) (now : ℕ) where
           by small (yes w) = go small e (omega arith) refl (λ z. (w, O .1))
           by small (no w) = go small (e - 1) (omega arith) (pred-quotient (suc (suc k)) e w) (λ z. absurd (omega (arith, z, some-time w)))
 
-  back-inside : {n : ℕ} → Back n → {k p e : ℕ} {L : Lists} → Inside k p e L → (x : ℕ) (l : List ℕ) → L p ≡ x ∷ l → Room (suc n) L
+  back-inside : {n : ℕ} → Back n → {k p e : ℕ} {L : Lists} → Inside k p e L → (x : ℕ) (l : List ℕ) → L p ≡ x ∷ l → CanRise (suc n) L
       → {o : Outcome} {b m i e′ : ℕ} {N : Lists} → Limited d now (some p) b e L o m i e′ N → Comes d now o e′ N
   back-inside {n} ih {k} {p} {e} {L} D x l is room {o} {b} {m} {i} {e′} {N} q =
       ⊎-elim (λ c. back-move ih D (c .0) (c .1) (c .2) (c .3) (c .4) room q) find (level-some L k slots)
@@ -754,7 +754,7 @@ module _ (d : ℕ → ℕ) (now : ℕ) where
 
   -- a call that goes on with it and stops again leaves the rule too
   pub hand-goes : {b p e q m n e′ : ℕ} {L M : Lists} → InHand d now p e L → Limited d now (some p) b e L (yet q) m n e′ M
-      → InHand d now q e′ M × Kept e L m e′ M
+      → InHand d now q e′ M × PollKept e L m e′ M
   hand-goes H r = (limited-hand (_, hand-inside H) r, limited-kept (_, hand-inside H) r)
 
 -- the rule holds exactly of what a poll at `until` that stopped at p leaves

@@ -11,7 +11,7 @@ use Rattle.times.specs.Times.{width, slotOf, startAt, floor, Lies, NextBlock, b
 use Rattle.times.proofs.laws.Quotients.{quotient-le, slot-lt, lt-floor, floor-le, lies-late, lies-block, lies-start, lies-before}
 use Rattle.times.proofs.laws.Blocks.{end-later, next-floor, lies-ends}
 use Rattle.links.specs.Lists.{Mem}
-use Rattle.stack.specs.Places.{slotPlace, slots, parking, expired, levelAt, slotAt}
+use Rattle.places.specs.Places.{slotPlace, slots, parking, expired, levelAt, slotAt}
 use Rattle.wheel.specs.Wheel.{Lists, FirstSlot, NextList, in-slot, in-parking, NoneWaits}
 use Rattle.wheel.specs.Between.{Between}
 use Rattle.wheel.proofs.laws.Between.{place-level, place-slot}
@@ -92,7 +92,7 @@ module _ {d : ℕ → ℕ} {e : ℕ} {L : Lists} (B : Between d e L) where
           let t : slotAt q ≡ slotOf (d y) k = p .slot ∙ ap (slotOf (d y)) h in
           let w : q ≡ slotPlace k ((slotOf e k + ahead k e (d y)) % 64) = omega (arith, h, t, ahead-slot k e (d y) l) in
           by-cases (decLe (F .steps) (ahead k e (d y))) (λ g. g)
-          (λ g. absurd (none-in y (ap L w ∙ F .before (ahead k e (d y)) (lt-of-not-le g)) my))
+          (λ g. absurd (none-in y (ap L w ∙ F .passed (ahead k e (d y)) (lt-of-not-le g)) my))
 
       -- all that lies in another slot is later than all that lies here, and so is that slot's start
       pub next-before : (x : ℕ) → Mem x (L here) → q ≢ here → d x < floor (levelAt q) (d y)
@@ -188,7 +188,7 @@ module _ {e : ℕ} {L : Lists} where
   first-steps {k} {s} {t} F G =
       by-cases (decLe (F .steps) (G .steps)) (λ h. h)
       (λ h.
-      let z : _≡_ {A = List ℕ} [] (G .head ∷ G .rest) = sym (F .before (G .steps) (lt-of-not-le h)) ∙ ap
+      let z : _≡_ {A = List ℕ} [] (G .head ∷ G .rest) = sym (F .passed (G .steps) (lt-of-not-le h)) ∙ ap
       (λ (v : ℕ). L (slotPlace k v)) (sym (G .is)) ∙ G .filled in
       let w : _≡_ {A = ℕ} 0 1 = cc in
       absurd (omega arith))

@@ -5,7 +5,7 @@ use mathlib.Core.Option.{Option, some}
 use Prim.Native.Nat.{ℕ, suc, _≤_, _<_}
 use native.Mathlib.Omega.{arith}
 use Rattle.links.specs.Lists.{change}
-use Rattle.stack.specs.Places.{slotPlace}
+use Rattle.places.specs.Places.{slotPlace}
 use Rattle.wheel.specs.Wheel.{Lists, NextList, in-slot, arrive, Drains, drained, moved, Polls, idle, early, out, drain}
 use Rattle.wheel.proofs.laws.Next.{first-one, list-one, list-not-none}
 

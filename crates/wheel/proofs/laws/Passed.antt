@@ -10,22 +10,22 @@ use native.Mathlib.Decide.{ℕ-discrete}
 use borrow.Author.Tests.{ne-eqb}
 use Rattle.links.specs.Lists.{nobody}
 use Rattle.links.specs.Links.{at}
-use Rattle.stack.specs.Places.{expired, mostHeights}
+use Rattle.places.specs.Places.{expired, mostHeights}
 use Rattle.wheel.specs.Wheel.{Lists, Rule}
 use Rattle.wheel.specs.Drain.{heights}
 use Rattle.wheel.specs.Poll.{Waits}
 use Rattle.wheel.specs.Limited.{Outcome, ended, yet, Limited}
 use Rattle.wheel.specs.Midway.{InHand, Obeys}
 use Rattle.wheel.specs.Words.{WheelWords, lists}
-use Rattle.wheel.specs.Turns.{CanPoll, PollsTo, gotten, outcome}
+use Rattle.wheel.specs.Moves.{CanPoll, PollsTo, gotten, outcome}
 use Rattle.wheel.proofs.laws.Between.{rule-between}
 use Rattle.wheel.proofs.laws.Sums.{hits, lies-times, times-lies}
 use Rattle.wheel.proofs.laws.Drain.{amount}
 use Rattle.wheel.proofs.laws.Poll.{given, Promise, poll-law}
 use Rattle.wheel.proofs.laws.Limited.{yet-all, limited-polls}
-use Rattle.wheel.proofs.laws.Midway.{Kept, begun, limited-kept, hand-goes}
+use Rattle.wheel.proofs.laws.Midway.{PollKept, begun, limited-kept, hand-goes}
 use Rattle.wheel.proofs.laws.Going.{hand-ends}
-use Rattle.wheel.proofs.laws.Turns.{got-none, got-some, heights-small}
+use Rattle.wheel.proofs.laws.Moves.{got-none, got-some, heights-small}
 
 -- the weight of what was handed out
 abbrev pub givenBy : (ℕ → ℕ) → Outcome → ℕ
@@ -40,7 +40,7 @@ pub record Passed (L : Lists) (o : Outcome) (m : ℕ) (N : Lists) : Type 0 where
 promise-passed : {d : ℕ → ℕ} {now e m n c : ℕ} {L N : Lists} {got : Option ℕ} → Promise d now e L got m n c N → Passed L (ended got) m N
 promise-passed P = record { kept = P .kept; counted = P .counted; aside = P .aside }
 
-kept-passed : {e m c p : ℕ} {L N : Lists} → Kept e L m c N → Passed L (yet p) m N
+kept-passed : {e m c p : ℕ} {L N : Lists} → PollKept e L m c N → Passed L (yet p) m N
 kept-passed K = record { kept = λ v. omega (arith, K .kept v); counted = omega (arith, K .fallen); aside = K .aside }
 
 module _ {d : ℕ → ℕ} {now b e m n c : ℕ} {L N : Lists} where
@@ -70,7 +70,7 @@ passed-on {L} {N} P y z k = times-lies expired N y (omega (arith, P .kept (hits 
 module _ {t t′ : WheelWords} {ds : List ℕ} {hand now limit item to m n : ℕ} (C : CanPoll t ds hand now)
     (P : PollsTo (at ds) now limit hand t item to m n t′) where
   pub polled-passed : Passed (lists t) (outcome item to) m (lists t′)
-  polled-passed = limited-passed (C .rule) (C .stack) (C .not-back) (outcome item to) (P .polls)
+  polled-passed = limited-passed (C .rule) (C .expired) (C .not-back) (outcome item to) (P .polls)
 
   -- with a limit past all heights it ends
   pub poll-ends : mostHeights < limit → to ≡ nobody

@@ -13,7 +13,7 @@ use Rattle.times.proofs.laws.Quotients.{quotient-zero, floor-le, floor-zero, li
 use Rattle.times.proofs.laws.Blocks.{next-floor, end-block}
 use Rattle.links.specs.Lists.{Mem, change}
 use Rattle.links.proofs.laws.Lists.{change-other}
-use Rattle.stack.specs.Places.{slotPlace, slots, parking, expired, levelAt}
+use Rattle.places.specs.Places.{slotPlace, slots, parking, expired, levelAt}
 use Rattle.wheel.specs.Wheel.{Lists, Rule, FirstSlot, in-slot, NoneWaits, Polls, idle, early, out, drain}
 use Rattle.wheel.proofs.laws.Sums.{mem-left, total-less, hits, lies-times, times-lies}
 use Rattle.wheel.specs.Between.{Between}
@@ -57,7 +57,7 @@ none-waits {L} N q y hq m =
 
 -- ---- the ways it ends
 
-module _ {d : ℕ → ℕ} {now e : ℕ} {L : Lists} (B : Between d e L) (stack : L expired ≡ []) (later : e ≤ now) where
+module _ {d : ℕ → ℕ} {now e : ℕ} {L : Lists} (B : Between d e L) (none-expired : L expired ≡ []) (later : e ≤ now) where
   -- nothing is due, and every slot starts after now
   end-rest : ((q y : ℕ) → q < expired → Mem y (L q) → now < floor (levelAt q) (d y)) → Promise d now e L none 0 0 now L
   end-rest far =
@@ -76,7 +76,7 @@ module _ {d : ℕ → ℕ} {now e : ℕ} {L : Lists} (B : Between d e L) (stack 
           parked = λ y m.
               let b : NextBlock e (d y) = B .parked y m in
               omega (arith, b, end-block e now later (omega (arith, far parking y (omega arith) m, next-floor e (d y) b)));
-          stack = λ x m. absurd (subst (Mem x) stack m);
+          expired = λ x m. absurd (subst (Mem x) none-expired m);
         };
         counted = omega arith;
         few = omega arith;
@@ -110,7 +110,7 @@ module _ {d : ℕ → ℕ} {now e : ℕ} {L : Lists} (B : Between d e L) (stack 
           parked = λ y k. B .parked y (mem-left L p x l is parking y k);
         })
             (λ q y hq k u. B .later q y p x hq hp (mem-left L p x l is q y k) m (omega (arith, low)))
-            (λ y k. absurd (subst (Mem y) stack (mem-left L p x l is expired y k)));
+            (λ y k. absurd (subst (Mem y) none-expired (mem-left L p x l is expired y k)));
         counted = omega (arith, total-less (λ q y. levelAt q) expired L p x l (omega (arith, hp)) is, low);
         few = omega arith;
         none = λ z. refl;

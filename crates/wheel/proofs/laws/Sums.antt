@@ -12,8 +12,8 @@ use Rattle.links.proofs.laws.Judge.{cat}
 use Rattle.links.specs.Count.{bit}
 use lib.Dec.{eqb}
 use borrow.Author.Tests.{eq-eqb, ne-eqb}
-use Rattle.stack.specs.Places.{put}
-use Rattle.stack.proofs.laws.Places.{put-either}
+use Rattle.places.specs.Places.{put}
+use Rattle.places.proofs.laws.Places.{put-either}
 use Rattle.wheel.specs.Wheel.{Lists}
 use Rattle.wheel.specs.Sums.{sumOf, total}
 

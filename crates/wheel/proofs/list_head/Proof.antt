@@ -2,8 +2,8 @@
 use borrow.Author.Needs.{needs}
 use mathlib.Core.Path.{_≡_}
 use native.Mathlib.Omega.{arith}
-use Rattle.stack.specs.Places.{slotPlace, parking}
-use Rattle.stack.proofs.laws.Heads.{slot-head, head-parking}
+use Rattle.places.specs.Places.{slotPlace, parking}
+use Rattle.places.proofs.laws.Heads.{slot-head, head-parking}
 use Rattle.wheel.proofs.list_head.Statement.{statement}
 use Rattle.wheel.proofs.list_head.Tie as tie
 

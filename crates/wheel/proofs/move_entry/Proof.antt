@@ -1,7 +1,7 @@
 -- `move_entry` meets its contract: nobody was there (`moved-none`), or the head was popped and added one level down (`moved-some`).
 use borrow.Author.Needs.{needs}
 use mathlib.Core.Path.{refl}
-use Rattle.wheel.proofs.laws.Turns.{moved-none, move-deadline, move-adds, moved-some}
+use Rattle.wheel.proofs.laws.Moves.{moved-none, move-deadline, move-adds, moved-some}
 use Rattle.wheel.proofs.move_entry.Statement.{statement}
 use Rattle.wheel.proofs.move_entry.Tie as tie
 

@@ -11,13 +11,13 @@ use Rattle.wheel.proofs.next_expiration.Statement.{statement}
 use Rattle.wheel.proofs.next_expiration.Tie as tie
 
 abbrev Inv-loop : tie.InvT-loop
-Inv-loop elapsed rows deadlines parking level₀ level = (level ≤ 6) × ((j : ℕ) → j < level → at rows j ≡ 0)
+Inv-loop elapsed occupied deadlines parking level₀ level = (level ≤ 6) × ((j : ℕ) → j < level → at occupied j ≡ 0)
 
 abbrev μ-loop : tie.MeasureT-loop
-μ-loop elapsed rows deadlines parking level₀ level = 6 - level
+μ-loop elapsed occupied deadlines parking level₀ level = 6 - level
 
-abbrev turn : tie.After-row Inv-loop μ-loop → tie.At-loop Inv-loop μ-loop
-turn c = c .before .before
+abbrev step : tie.After-row Inv-loop μ-loop → tie.At-loop Inv-loop μ-loop
+step c = c .before .before
 
 abbrev start : tie.At-loop Inv-loop μ-loop → tie.Start Inv-loop μ-loop
 start c = c .before .before
@@ -45,8 +45,8 @@ slot-start-requires c κs = (omega arith, c .first-slot .ensures .within)
 
 returns : tie.Need-returns Inv-loop μ-loop
 returns c =
-    let at-loop = turn (row-of c) in
-    λ L S. next-found (S .rows) _ _ _ _ (omega arith) (at-loop .loop .inv .1) (start at-loop .pre .rows) (c .before .first-slot .ensures)
+    let at-loop = step (row-of c) in
+    λ L S. next-found (S .occupied) _ _ _ _ (omega arith) (at-loop .loop .inv .1) (start at-loop .pre .occupied) (c .before .first-slot .ensures)
     (c .slot-start .ensures)
 
 add-level : tie.Need-add-level Inv-loop μ-loop
@@ -56,7 +56,7 @@ loop-less : tie.Need-loop-less Inv-loop μ-loop
 loop-less c = search needs
 
 loop-again : tie.Need-loop-again Inv-loop μ-loop
-loop-again c = (omega arith, below-more _ _ (turn (c .before) .loop .inv .1) (c .if1 .left))
+loop-again c = (omega arith, below-more _ _ (step (c .before) .loop .inv .1) (c .if1 .left))
 
 returns-2 : tie.Need-returns-2 Inv-loop μ-loop
 returns-2 c = λ L S. none-found S (λ j h. c .before .before .loop .inv .1 j (omega arith)) (c .if2 .taken)

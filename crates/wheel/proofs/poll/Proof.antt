@@ -4,34 +4,34 @@ use borrow.Author.Needs.{needs}
 use native.Mathlib.Omega.{arith}
 use mathlib.Core.Path.{refl, sym, ap, _∙_}
 use Prim.Native.Nat.{_<_}
-use Rattle.stack.specs.Places.{slotPlace, expired}
-use Rattle.stack.specs.Heads.{headOf}
+use Rattle.places.specs.Places.{slotPlace, expired}
+use Rattle.places.specs.Heads.{headOf}
 use Rattle.links.specs.Links.{at}
 use Rattle.wheel.specs.Words.{words, lists}
 use Rattle.wheel.specs.Drain.{heights}
-use Rattle.wheel.proofs.laws.Turns.{PolledSo, poll-start, counts-small}
-use Rattle.wheel.proofs.laws.Turns.{next-asks, next-idle, next-early, next-pops, next-out, next-parts, next-can, next-yet, next-drained}
+use Rattle.wheel.proofs.laws.Moves.{PolledSo, poll-start, counts-small}
+use Rattle.wheel.proofs.laws.Moves.{next-asks, next-idle, next-early, next-pops, next-out, next-parts, next-can, next-yet, next-drained}
 use Rattle.wheel.proofs.poll.Statement.{statement}
 use Rattle.wheel.proofs.poll.Tie as tie
 
 abbrev Inv-loop : tie.InvT-loop
-Inv-loop elapsed rows₀ tops₀ heads₀ nexts₀ prevs₀ marks₀ deadlines hand time limit e₀ place₀ left₀ moves₀ drains₀
-    rows tops heads nexts prevs marks e place left moves drains =
-    PolledSo (at deadlines) time limit hand (words elapsed rows₀ tops₀ heads₀ nexts₀ prevs₀ marks₀)
-    place left moves drains (words e rows tops heads nexts prevs marks)
+Inv-loop elapsed occupied₀ tops₀ heads₀ nexts₀ prevs₀ marks₀ deadlines hand time limit e₀ place₀ left₀ moves₀ drains₀
+    occupied tops heads nexts prevs marks e place left moves drains =
+    PolledSo (at deadlines) time limit hand (words elapsed occupied₀ tops₀ heads₀ nexts₀ prevs₀ marks₀)
+    place left moves drains (words e occupied tops heads nexts prevs marks)
 
 abbrev μ-loop : tie.MeasureT-loop
-μ-loop elapsed rows₀ tops₀ heads₀ nexts₀ prevs₀ marks₀ deadlines hand time limit e₀ place₀ left₀ moves₀ drains₀
-    rows tops heads nexts prevs marks e place left moves drains =
-    heights (lists (words e rows tops heads nexts prevs marks))
+μ-loop elapsed occupied₀ tops₀ heads₀ nexts₀ prevs₀ marks₀ deadlines hand time limit e₀ place₀ left₀ moves₀ drains₀
+    occupied tops heads nexts prevs marks e place left moves drains =
+    heights (lists (words e occupied tops heads nexts prevs marks))
 
 abbrev start : tie.At-loop Inv-loop μ-loop → tie.Start Inv-loop μ-loop
 start c =
     let a = c .before .before .before .before in
     a .before
 
-abbrev turn : tie.After-next-list Inv-loop μ-loop → tie.At-loop Inv-loop μ-loop
-turn c = c .before .before .before .before
+abbrev step : tie.After-next-list Inv-loop μ-loop → tie.At-loop Inv-loop μ-loop
+step c = c .before .before .before .before
 
 abbrev found : tie.After-known-told Inv-loop μ-loop → tie.After-next-list Inv-loop μ-loop
 found c = c .before .before .before
@@ -81,7 +81,7 @@ pop-entry-requires c κs =
     let o = popping c in
     let k = o .before .before in
     let n = found k in
-    let t = turn n in
+    let t = step n in
     next-pops (start t .pre) _ (t .loop .inv) (n .before .first-parked .ensures) (n .next-list .ensures) _ (k .before .next .given .1) (o .if2 .taken)
 
 poll-expiration-requires : tie.Need-poll-expiration-requires Inv-loop μ-loop
@@ -89,14 +89,14 @@ poll-expiration-requires c κs =
     let d = draining c in
     let k = d .before .before in
     let n = found k in
-    let t = turn n in
+    let t = step n in
     next-can (start t .pre) _ (t .loop .inv) (n .before .first-parked .ensures) (n .next-list .ensures)
     _ (k .before .next .given .1) (d .if2 .left) (d .before .if1 .left)
 
 sub-moves : tie.Need-sub-moves Inv-loop μ-loop
 sub-moves c =
     let p = drained c in
-    let t = turn (found (draining (p .before) .before .before)) in
+    let t = step (found (draining (p .before) .before .before)) in
     omega (arith, p .poll-expiration .ensures .within, t .loop .inv .within)
 
 parts : (c : tie.After-slice-known9 Inv-loop μ-loop) → let x = draining (drained c .before) .before .before .before .next .given .0 .0 in
@@ -105,7 +105,7 @@ parts c =
     let d = draining (drained c .before) in
     let k = d .before .before in
     let n = found k in
-    let t = turn n in
+    let t = step n in
     next-parts (start t .pre) _ (t .loop .inv) (n .before .first-parked .ensures) (n .next-list .ensures)
     _ (k .before .next .given .1) (d .if2 .left) (d .before .if1 .left)
 
@@ -117,7 +117,7 @@ list-place-requires c κs = parts (headed (c .before))
 
 add-drains : tie.Need-add-drains Inv-loop μ-loop
 add-drains c =
-    let t = turn (found (draining (drained (headed (c .before)) .before) .before .before)) in
+    let t = step (found (draining (drained (headed (c .before)) .before) .before .before)) in
     omega (arith, counts-small (start t .pre) _ (t .loop .inv))
 
 loop-less : tie.Need-loop-less Inv-loop μ-loop
@@ -127,7 +127,7 @@ loop-less c =
     let d = draining (p .before) in
     let k = d .before .before in
     let n = found k in
-    let t = turn n in
+    let t = step n in
     next-drained (start t .pre) _ (t .loop .inv) (n .before .first-parked .ensures) (n .next-list .ensures)
     _ (k .before .next .given .1) (d .if2 .left) (d .before .if1 .left)
     _ (p .poll-expiration .ensures) _ refl _ refl (sym (h .list-head .ensures) ∙ c .if3 .left) .1
@@ -139,7 +139,7 @@ loop-again c =
     let d = draining (p .before) in
     let k = d .before .before in
     let n = found k in
-    let t = turn n in
+    let t = step n in
     next-drained (start t .pre) _ (t .loop .inv) (n .before .first-parked .ensures) (n .next-list .ensures)
     _ (k .before .next .given .1) (d .if2 .left) (d .before .if1 .left)
     _ (p .poll-expiration .ensures) _ refl _ refl (sym (h .list-head .ensures) ∙ c .if3 .left) .0
@@ -147,7 +147,7 @@ loop-again c =
 returns : tie.Need-returns Inv-loop μ-loop
 returns c =
     let n = c .before .before in
-    let t = turn n in
+    let t = step n in
     next-idle (start t .pre) _ (t .loop .inv) (n .before .first-parked .ensures) (n .next-list .ensures) (c .enum-told .given .1)
 
 same-length : tie.Need-same-length Inv-loop μ-loop
@@ -163,7 +163,7 @@ returns-2 : tie.Need-returns-2 Inv-loop μ-loop
 returns-2 c =
     let k = c .before in
     let n = found k in
-    let t = turn n in
+    let t = step n in
     next-early (start t .pre) _ (t .loop .inv) (n .before .first-parked .ensures) (n .next-list .ensures) _ (k .before .next .given .1) (c .if1 .taken)
 
 same-length-4 : tie.Need-same-length-4 Inv-loop μ-loop
@@ -181,7 +181,7 @@ returns-3 c =
     let o = popping (p .before) in
     let k = o .before .before in
     let n = found k in
-    let t = turn n in
+    let t = step n in
     next-out (start t .pre) _ (t .loop .inv) (n .before .first-parked .ensures) (n .next-list .ensures)
     _ (k .before .next .given .1) (o .if2 .taken) (o .before .if1 .left)
     _ (p .pop-entry .ensures)
@@ -203,7 +203,7 @@ returns-4 c =
     let d = draining (p .before) in
     let k = d .before .before in
     let n = found k in
-    let t = turn n in
+    let t = step n in
     next-yet (start t .pre) _ (t .loop .inv) (n .before .first-parked .ensures) (n .next-list .ensures)
     _ (k .before .next .given .1) (d .if2 .left) (d .before .if1 .left)
     _ (p .poll-expiration .ensures) _ refl _ (c .list-place .ensures)

@@ -1,6 +1,6 @@
 -- `pop` meets its contract: one list changes that has no flag (`pops-aside`).
 use borrow.Author.Needs.{needs}
-use Rattle.stack.proofs.laws.Whole.{can-pop}
+use Rattle.places.proofs.laws.Whole.{can-pop}
 use Rattle.wheel.proofs.laws.Words.{pops-aside}
 use Rattle.wheel.proofs.pop.Statement.{statement}
 use Rattle.wheel.proofs.pop.Tie as tie
@@ -16,7 +16,7 @@ popped c =
     a .before .before
 
 pop-requires : tie.Need-pop-requires
-pop-requires c κs = can-pop (start c .pre .0 .stack) _ (start c .pre .2)
+pop-requires c κs = can-pop (start c .pre .0 .places) _ (start c .pre .2)
 
 same-length : tie.Need-same-length
 same-length c = search needs

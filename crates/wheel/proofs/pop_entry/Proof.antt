@@ -74,11 +74,11 @@ clear-requires c κs =
     let pre = start (p .before) .pre in
     (pre .slot, slot-flag pre (p .pop-slot .ensures .0) (p .pop-slot .ensures .1 _) (e .if1 .left))
 
-mul-rows : tie.Need-mul-rows
-mul-rows c = search needs
+mul-occupied : tie.Need-mul-occupied
+mul-occupied c = search needs
 
-element-write-rows : tie.Need-element-write-rows
-element-write-rows c = search needs
+element-write-occupied : tie.Need-element-write-occupied
+element-write-occupied c = search needs
 
 same-length-7 : tie.Need-same-length-7
 same-length-7 c = search needs
@@ -116,8 +116,8 @@ pop-entry-spec =
     mul-clear
     element-copy-out-clear
     clear-requires
-    mul-rows
-    element-write-rows
+    mul-occupied
+    element-write-occupied
     same-length-7
     same-length-8
     same-length-9

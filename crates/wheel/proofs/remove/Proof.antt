@@ -1,7 +1,7 @@
 -- `remove` meets its contract: the list is no slot (`leaves-aside`), more are left (`leaves-more`), or it was the last (`leaves-last`).
 use borrow.Author.Needs.{needs}
 use native.Mathlib.Omega.{arith}
-use Rattle.stack.proofs.laws.Asked.{not-below, slot-parts}
+use Rattle.places.proofs.laws.Asked.{not-below, slot-parts}
 use Rattle.wheel.proofs.laws.Words.{leave-asks, leaves-aside, leaves-more, leaves-flag, leaves-last}
 use Rattle.wheel.proofs.remove.Statement.{statement}
 use Rattle.wheel.proofs.remove.Tie as tie
@@ -105,11 +105,11 @@ clear-requires c κs =
     let l = left (p .before) in
     (q .1, leaves-flag (start (l .before) .pre) (l .remove .ensures) _ _ (q .0) (q .1) (q .2))
 
-mul-rows : tie.Need-mul-rows
-mul-rows c = search needs
+mul-occupied : tie.Need-mul-occupied
+mul-occupied c = search needs
 
-element-write-rows : tie.Need-element-write-rows
-element-write-rows c =
+element-write-occupied : tie.Need-element-write-occupied
+element-write-occupied c =
     let s = looked (c .before .before .before) in
     let p = s .before .before in
     let q = slot-parts (p .before .is-slot .ensures) (p .if1 .left) (s .before .level-of .ensures) (s .slot-of .ensures) in
@@ -158,8 +158,8 @@ remove-spec =
     mul-clear
     element-copy-out-clear
     clear-requires
-    mul-rows
-    element-write-rows
+    mul-occupied
+    element-write-occupied
     same-length-7
     same-length-8
     same-length-9

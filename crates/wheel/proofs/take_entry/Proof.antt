@@ -1,6 +1,6 @@
 -- `take_entry` meets its contract: a slot's head is popped, and above the six levels only the parking list is left (`taken-parking`).
 use borrow.Author.Needs.{needs}
-use Rattle.wheel.proofs.laws.Turns.{take-slot, taken-parking}
+use Rattle.wheel.proofs.laws.Moves.{take-slot, taken-parking}
 use Rattle.wheel.proofs.take_entry.Statement.{statement}
 use Rattle.wheel.proofs.take_entry.Tie as tie
 

@@ -48,7 +48,7 @@ wrote-once {o} {at} {s} {m} {n} {p} {q} v w =
           ∙ take-append-drop n q,
     )
 
--- ---- the turns of `push`
+-- ---- the steps of `push`
 
 pub push-start : {o : List ℕ} {at : ℕ} → Wrote o at [] (at + 0) o
 push-start {o} {at} =
@@ -56,9 +56,9 @@ push-start {o} {at} =
     record { text = ap (λ (k : ℕ). take k o) e ∙ sym (append-nil (take at o)); end = omega arith; rest = refl; size = refl }
 
 module _ {o : List ℕ} {at : ℕ} (src : List ℕ) (i : ℕ) where
-  pub push-turn : {p q : List ℕ} → Wrote o at (take i src) (at + i) p → i < length src → at + i < length p → q ≡ set p (at + i) (getD src i 0)
+  pub push-step : {p q : List ℕ} → Wrote o at (take i src) (at + i) p → i < length src → at + i < length p → q ≡ set p (at + i) (getD src i 0)
       → Wrote o at (take (i + 1) src) (at + (i + 1)) q
-  push-turn {p} {q} w h r e =
+  push-step {p} {q} w h r e =
       let x = wrote-byte (getD src i 0) w r e in
       let f : at + i + 1 ≡ at + (i + 1) = omega arith in
       let g : take i src ++ getD src i 0 ∷ [] ≡ take (i + 1) src = sym (ap (λ (k : ℕ). take k src) (add-one i) ∙ take-suc src i 0 h) in
@@ -67,7 +67,7 @@ module _ {o : List ℕ} {at : ℕ} (src : List ℕ) (i : ℕ) where
   pub push-end : {p : List ℕ} → Wrote o at (take i src) (at + i) p → length src ≤ i → Wrote o at src (at + i) p
   push-end {p} w h = subst (λ (y : List ℕ). Wrote o at y (at + i) p) (take-all i src h) w
 
--- ---- the turns of a writer of digits: the first are written, and the last i of m are to come, the first of them p times what it shows
+-- ---- the steps of a writer of digits: the first are written, and the last i of m are to come, the first of them p times what it shows
 
 power-down : (b k : ℕ) → 1 < b → power b (suc k) / b ≡ power b k
 power-down b zero h =
@@ -98,11 +98,11 @@ module _ {g : ℕ → ℕ} {b : ℕ} {o : List ℕ} {at m n : ℕ} where
   pub digits-start : {p : ℕ} → p ≡ power b m → Digits g b o at m n o at m p
   digits-start e = record { text = refl; place = refl; weight = e; rest = refl; size = refl }
 
-  pub digits-turn : (i : ℕ) {p a d : ℕ} {x : List ℕ} → Digits g b o at m n x a i p → 1 < b → 0 < i → at + m ≤ length o → d ≡ g (n / p % b)
+  pub digits-step : (i : ℕ) {p a d : ℕ} {x : List ℕ} → Digits g b o at m n x a i p → 1 < b → 0 < i → at + m ≤ length o → d ≡ g (n / p % b)
       → Digits g b o at m n (set x a d) (a + 1) (i - 1) (p / b)
   unfolding digitsOf
-  digits-turn zero w l h r e = absurd (omega arith)
-  digits-turn (suc k) {p} {a} {d} {x} w l h r e =
+  digits-step zero w l h r e = absurd (omega arith)
+  digits-step (suc k) {p} {a} {d} {x} w l h r e =
       record {
         text = rw (add-one) (ap (λ (j : ℕ). take (suc a) (set x a d) ++ digitsOf g b j n) one-less ∙ down ∙ w .text);
         place = omega (arith, w .place);

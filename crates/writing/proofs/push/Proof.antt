@@ -1,11 +1,11 @@
--- `push` writes byte after byte (`push-turn`).
+-- `push` writes byte after byte (`push-step`).
 use borrow.Author.Needs.{needs}
 use mathlib.Core.Path.{_≡_, refl, _∙_}
 use Prim.Native.Nat.{ℕ, _+_, _-_, _≤_}
 use native.Mathlib.Omega.{arith}
 use lib.ListN.{length, take, length-set}
 use Rattle.writing.specs.Writing.{Wrote}
-use Rattle.writing.proofs.laws.Writing.{push-start, push-turn, push-end}
+use Rattle.writing.proofs.laws.Writing.{push-start, push-step, push-end}
 use Rattle.writing.proofs.push.Statement.{statement}
 use Rattle.writing.proofs.push.Tie as tie
 
@@ -37,7 +37,7 @@ loop-again : tie.Need-loop-again Inv-loop μ-loop
 loop-again c =
     let I = c .before .before .loop .inv in
     let h = c .before .loop-test .taken in (
-      push-turn _ _ (I .0) h (omega (arith, h, I .2, c .before .before .before .pre)) refl,
+      push-step _ _ (I .0) h (omega (arith, h, I .2, c .before .before .before .pre)) refl,
       omega (arith, h),
       length-set {A = ℕ} (c .before .before .loop .out) _ _ ∙ I .2,
     )

@@ -1,4 +1,4 @@
--- `after` ends: every turn makes one call of the table.
+-- `after` ends: every step makes one call of the table.
 use borrow.Author.Needs.{needs}
 use Prim.Native.Nat.{_-_}
 use lib.ListN.{length}

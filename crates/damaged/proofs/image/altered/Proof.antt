@@ -1,4 +1,4 @@
--- `altered` ends: every turn changes one word of the table.
+-- `altered` ends: every step changes one word of the table.
 use borrow.Author.Needs.{needs}
 use Prim.Native.Nat.{_-_}
 use lib.ListN.{length}

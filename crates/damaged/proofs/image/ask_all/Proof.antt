@@ -1,4 +1,4 @@
--- `ask_all` meets its contract: every turn counts at most one call.
+-- `ask_all` meets its contract: every step counts at most one call.
 use borrow.Author.Needs.{needs}
 use Prim.Native.Nat.{_≤_, _-_}
 use Rattle.damaged.proofs.image.ask_all.Statement.{statement}

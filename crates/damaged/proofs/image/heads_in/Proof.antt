@@ -1,7 +1,7 @@
--- `heads_in` meets its contract: every turn takes one head.
+-- `heads_in` meets its contract: every step takes one head.
 use borrow.Author.Needs.{needs}
 use Prim.Native.Nat.{_≤_, _-_}
-use Rattle.stack.specs.Places.{slots}
+use Rattle.places.specs.Places.{slots}
 use Rattle.damaged.proofs.image.heads_in.Statement.{statement}
 use Rattle.damaged.proofs.image.heads_in.Tie as tie
 

@@ -1,7 +1,7 @@
--- `note_heads` meets its contract: every turn notes one head.
+-- `note_heads` meets its contract: every step notes one head.
 use borrow.Author.Needs.{needs}
 use Prim.Native.Nat.{_≤_, _-_}
-use Rattle.stack.specs.Places.{slots}
+use Rattle.places.specs.Places.{slots}
 use Rattle.damaged.proofs.image.note_heads.Statement.{statement}
 use Rattle.damaged.proofs.image.note_heads.Tie as tie
 

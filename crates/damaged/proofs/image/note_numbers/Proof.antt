@@ -1,4 +1,4 @@
--- `note_numbers` meets its contract: every turn notes one number.
+-- `note_numbers` meets its contract: every step notes one number.
 use borrow.Author.Needs.{needs}
 use Prim.Native.Nat.{_≤_, _-_}
 use Rattle.damaged.proofs.image.note_numbers.Statement.{statement}

@@ -1,4 +1,4 @@
--- `note_words` meets its contract: every turn notes one word.
+-- `note_words` meets its contract: every step notes one word.
 use borrow.Author.Needs.{needs}
 use Prim.Native.Nat.{_≤_, _-_}
 use Rattle.damaged.proofs.image.note_words.Statement.{statement}

@@ -1,4 +1,4 @@
--- `numbers_rest` meets its contract: every turn looks at one number.
+-- `numbers_rest` meets its contract: every step looks at one number.
 use borrow.Author.Needs.{needs}
 use Prim.Native.Nat.{_≤_, _-_}
 use Rattle.damaged.proofs.image.numbers_rest.Statement.{statement}

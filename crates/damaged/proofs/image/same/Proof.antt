@@ -1,4 +1,4 @@
--- `same` meets its contract: every turn compares one word.
+-- `same` meets its contract: every step compares one word.
 use borrow.Author.Needs.{needs}
 use Prim.Native.Nat.{_≤_, _-_}
 use Rattle.damaged.proofs.image.same.Statement.{statement}

@@ -1,4 +1,4 @@
--- `show_all` ends: every turn takes one row of the table.
+-- `show_all` ends: every step takes one row of the table.
 use borrow.Author.Needs.{needs}
 use Prim.Native.Nat.{_-_}
 use lib.ListN.{length}

@@ -1,4 +1,4 @@
--- `show_each` meets its contract: every turn counts at most eight calls.
+-- `show_each` meets its contract: every step counts at most eight calls.
 use borrow.Author.Needs.{needs}
 use Prim.Native.Nat.{_*_, _≤_, _-_}
 use Rattle.damaged.proofs.image.show_each.Statement.{statement}

@@ -1,4 +1,4 @@
--- `take_numbers` meets its contract: every turn takes one number.
+-- `take_numbers` meets its contract: every step takes one number.
 use borrow.Author.Needs.{needs}
 use mathlib.Core.Path.{_≡_}
 use Prim.Native.Nat.{_≤_, _-_}

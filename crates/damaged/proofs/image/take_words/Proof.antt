@@ -1,4 +1,4 @@
--- `take_words` meets its contract: every turn takes one word.
+-- `take_words` meets its contract: every step takes one word.
 use borrow.Author.Needs.{needs}
 use mathlib.Core.Path.{_≡_}
 use Prim.Native.Nat.{_≤_, _-_}

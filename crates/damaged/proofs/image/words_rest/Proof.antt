@@ -1,4 +1,4 @@
--- `words_rest` meets its contract: every turn looks at one word.
+-- `words_rest` meets its contract: every step looks at one word.
 use borrow.Author.Needs.{needs}
 use Prim.Native.Nat.{_-_}
 use Rattle.damaged.proofs.image.words_rest.Statement.{statement}

@@ -1,0 +1,62 @@
+-- `remove` meets its contract, store by store (`remove-is`).
+use borrow.Author.Needs.{needs}
+use Rattle.places.proofs.laws.Words.{remove-is}
+use Rattle.places.proofs.remove.Statement.{statement}
+use Rattle.places.proofs.remove.Tie as tie
+
+abbrev start : tie.After-head-of → tie.Start
+start c =
+    let a = c .before .before .before .before in
+    a .before .before .before
+
+abbrev looked : tie.After-cut-arg3 → tie.After-head-of
+looked c = c .before .before .before
+
+abbrev cut : tie.After-set-head → tie.After-cut
+cut c =
+    let a = c .before .before .before .before in
+    let b = a .before .before .before .before in
+    b .before
+
+mul-place : tie.Need-mul-place
+mul-place c = search needs
+
+slice-read-place : tie.Need-slice-read-place
+slice-read-place c = search needs
+
+head-of-requires : tie.Need-head-of-requires
+head-of-requires c κs = search needs
+
+cut-requires : tie.Need-cut-requires
+cut-requires c κs = rw (looked c .head-of .ensures) (start (looked c) .pre .1)
+
+set-head-requires : tie.Need-set-head-requires
+set-head-requires c κs = search needs
+
+same-length : tie.Need-same-length
+same-length c = search needs
+
+same-length-2 : tie.Need-same-length-2
+same-length-2 c = search needs
+
+same-length-3 : tie.Need-same-length-3
+same-length-3 c = search needs
+
+returns : tie.Need-returns
+returns c =
+    let k = cut c in
+    remove-is _ _ _ _ (looked (k .before) .head-of .ensures) (k .cut .ensures .0) (c .set-head .ensures .0) (c .set-head .ensures .1) (k .cut .ensures .1)
+
+pub remove-spec : {M : Type 1} → statement M
+remove-spec =
+    tie.close
+    (tie.spec
+    mul-place
+    slice-read-place
+    head-of-requires
+    cut-requires
+    set-head-requires
+    same-length
+    same-length-2
+    same-length-3
+    returns)
