@@ -56,16 +56,5 @@ loop-again c =
 
 pub decimal-before-spec : {M : Type 1} → statement M
 decimal-before-spec =
-    tie.close
-    (tie.spec
-    Inv-loop
-    μ-loop
-    loop-holds
-    sub-i
-    cast-buf
-    add-buf
-    slice-write-buf
-    same-length
-    returns
-    loop-less
+    tie.close (tie.spec Inv-loop μ-loop loop-holds sub-i cast-buf add-buf slice-write-buf same-length returns loop-less
     loop-again)

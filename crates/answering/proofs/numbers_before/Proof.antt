@@ -38,26 +38,11 @@ loop-holds c =
     let a = c .before .before .args in
     (omega arith, c .before .before .pre .0, none-yet (a .buf .now) (a .numbers .now) (a .end), refl)
 
-sub-i : tie.Need-sub-i Inv-loop μ-loop
-sub-i c = search needs
-
-mul-decimal-before : tie.Need-mul-decimal-before Inv-loop μ-loop
-mul-decimal-before c = search needs
-
-shared-slice-read-decimal-before : tie.Need-shared-slice-read-decimal-before Inv-loop μ-loop
-shared-slice-read-decimal-before c = search needs
-
-decimal-before-requires : tie.Need-decimal-before-requires Inv-loop μ-loop
-decimal-before-requires c κs = search needs
-
 sub-e : tie.Need-sub-e Inv-loop μ-loop
 sub-e c = room (c .before .before) .2
 
 slice-write-buf : tie.Need-slice-write-buf Inv-loop μ-loop
 slice-write-buf c = let r = room (c .before .before) in omega arith
-
-loop-less : tie.Need-loop-less Inv-loop μ-loop
-loop-less c = search needs
 
 loop-again : tie.Need-loop-again Inv-loop μ-loop
 loop-again c =
@@ -81,18 +66,5 @@ returns c =
 
 pub numbers-before-spec : {M : Type 1} → statement M
 numbers-before-spec =
-    tie.close
-    (tie.spec
-    Inv-loop
-    μ-loop
-    loop-holds
-    sub-i
-    mul-decimal-before
-    shared-slice-read-decimal-before
-    decimal-before-requires
-    sub-e
-    slice-write-buf
-    loop-less
-    loop-again
-    same-length
-    returns)
+    tie.close (tie.spec Inv-loop μ-loop loop-holds (λ c. search needs) (λ c. search needs) (λ c. search needs)
+    (λ c κs. search needs) sub-e slice-write-buf (λ c. search needs) loop-again same-length returns)

@@ -47,62 +47,14 @@ line c =
     made (word c) (numbers c) (ending c) (blanked z .blank .result) (blanked z .blank .ensures) (start n .pre .2) (z .copy .ensures) (z .copy .kept .0)
     (n .numbers-before .ensures) (n .numbers-before .kept .0) (short n) (c .copy2 .ensures) (c .copy2 .kept .0)
 
-blank-requires : tie.Need-blank-requires
-blank-requires c κs = search needs
-
-sub-stop : tie.Need-sub-stop
-sub-stop c = search needs
-
-slice-aggregate-copy : tie.Need-slice-aggregate-copy
-slice-aggregate-copy c = search needs
-
-copy-requires : tie.Need-copy-requires
-copy-requires c κs = search needs
-
-slice-aggregate-numbers-before : tie.Need-slice-aggregate-numbers-before
-slice-aggregate-numbers-before c = search needs
-
-numbers-before-requires : tie.Need-numbers-before-requires
-numbers-before-requires c κs = search needs
-
 sub-start : tie.Need-sub-start
 sub-start c = short (c .before)
-
-slice-aggregate-copy-2 : tie.Need-slice-aggregate-copy-2
-slice-aggregate-copy-2 c = search needs
-
-copy-requires-2 : tie.Need-copy-requires-2
-copy-requires-2 c κs = search needs
 
 returns : tie.Need-returns
 returns c = no-room (line (c .before .before)) (omega arith)
 
-sub-size : tie.Need-sub-size
-sub-size c = search needs
-
-sub-if2 : tie.Need-sub-if2
-sub-if2 c = search needs
-
 returns-2 : tie.Need-returns-2
 returns-2 c = no-room (line (c .before .before .before)) (omega arith)
-
-sub-copy : tie.Need-sub-copy
-sub-copy c = search needs
-
-part-copy-start : tie.Need-part-copy-start
-part-copy-start c = search needs
-
-part-copy-end : tie.Need-part-copy-end
-part-copy-end c = search needs
-
-copy-requires-3 : tie.Need-copy-requires-3
-copy-requires-3 c κs = search needs
-
-add-result : tie.Need-add-result
-add-result c = search needs
-
-same-length : tie.Need-same-length
-same-length c = search needs
 
 returns-3 : tie.Need-returns-3
 returns-3 c =
@@ -112,25 +64,7 @@ returns-3 c =
 
 pub write-ended-spec : {M : Type 1} → statement M
 write-ended-spec =
-    tie.close
-    (tie.spec
-    blank-requires
-    sub-stop
-    slice-aggregate-copy
-    copy-requires
-    slice-aggregate-numbers-before
-    numbers-before-requires
-    sub-start
-    slice-aggregate-copy-2
-    copy-requires-2
-    returns
-    sub-size
-    sub-if2
-    returns-2
-    sub-copy
-    part-copy-start
-    part-copy-end
-    copy-requires-3
-    add-result
-    same-length
-    returns-3)
+    tie.close (tie.spec (λ c κs. search needs) (λ c. search needs) (λ c. search needs) (λ c κs. search needs)
+    (λ c. search needs) (λ c κs. search needs) sub-start (λ c. search needs) (λ c κs. search needs) returns
+    (λ c. search needs) (λ c. search needs) returns-2 (λ c. search needs) (λ c. search needs) (λ c. search needs)
+    (λ c κs. search needs) (λ c. search needs) (λ c. search needs) returns-3)

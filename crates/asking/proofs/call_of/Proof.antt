@@ -5,21 +5,6 @@ use Rattle.asking.proofs.laws.Finding.{here, nowhere}
 use Rattle.asking.proofs.call_of.Statement.{statement}
 use Rattle.asking.proofs.call_of.Tie as tie
 
-enum-told : tie.Need-enum-told
-enum-told c = search needs
-
-enum-known-numbers : tie.Need-enum-known-numbers
-enum-known-numbers c = search needs
-
-enum-known-numbers-2 : tie.Need-enum-known-numbers-2
-enum-known-numbers-2 c = search needs
-
-enum-known-numbers-3 : tie.Need-enum-known-numbers-3
-enum-known-numbers-3 c = search needs
-
-enum-told-2 : tie.Need-enum-told-2
-enum-told-2 c = search needs
-
 returns : tie.Need-returns
 returns c = here C.Wake (c .match2 .keys1) (c .before .enum-told .given .1)
 
@@ -64,24 +49,6 @@ returns-14 c = nowhere _ (c .enum-told2 .given .1) tt
 
 pub call-of-spec : {M : Type 1} → statement M
 call-of-spec =
-    tie.close
-    (tie.spec
-    enum-told
-    enum-known-numbers
-    enum-known-numbers-2
-    enum-known-numbers-3
-    enum-told-2
-    returns
-    returns-2
-    returns-3
-    returns-4
-    returns-5
-    returns-6
-    returns-7
-    returns-8
-    returns-9
-    returns-10
-    returns-11
-    returns-12
-    returns-13
-    returns-14)
+    tie.close (tie.spec (λ c. search needs) (λ c. search needs) (λ c. search needs) (λ c. search needs)
+    (λ c. search needs) returns returns-2 returns-3 returns-4 returns-5 returns-6 returns-7 returns-8 returns-9
+    returns-10 returns-11 returns-12 returns-13 returns-14)

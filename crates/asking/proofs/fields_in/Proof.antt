@@ -8,23 +8,8 @@ use Rattle.asking.proofs.fields_in.Tie as tie
 returns : tie.Need-returns
 returns c = no-numbers _ (c .if1 .taken)
 
-shared-slice-read-if2 : tie.Need-shared-slice-read-if2
-shared-slice-read-if2 c = search needs
-
 returns-2 : tie.Need-returns-2
 returns-2 c = no-space _ (omega arith) (c .if2 .taken)
-
-sub-one-to-three : tie.Need-sub-one-to-three
-sub-one-to-three c = search needs
-
-part-one-to-three-start : tie.Need-part-one-to-three-start
-part-one-to-three-start c = search needs
-
-part-one-to-three-end : tie.Need-part-one-to-three-end
-part-one-to-three-end c = search needs
-
-one-to-three-requires : tie.Need-one-to-three-requires
-one-to-three-requires c κs = search needs
 
 returns-3 : tie.Need-returns-3
 returns-3 c =
@@ -34,13 +19,5 @@ returns-3 c =
 
 pub fields-in-spec : {M : Type 1} → statement M
 fields-in-spec =
-    tie.close
-    (tie.spec
-    returns
-    shared-slice-read-if2
-    returns-2
-    sub-one-to-three
-    part-one-to-three-start
-    part-one-to-three-end
-    one-to-three-requires
-    returns-3)
+    tie.close (tie.spec returns (λ c. search needs) returns-2 (λ c. search needs) (λ c. search needs)
+    (λ c. search needs) (λ c κs. search needs) returns-3)

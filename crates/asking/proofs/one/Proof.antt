@@ -5,15 +5,6 @@ use Rattle.splitting.proofs.laws.Fields.{the-one}
 use Rattle.asking.proofs.one.Statement.{statement}
 use Rattle.asking.proofs.one.Tie as tie
 
-number-requires : tie.Need-number-requires
-number-requires c κs = search needs
-
-enum-known-x : tie.Need-enum-known-x
-enum-known-x c = search needs
-
-enum-told : tie.Need-enum-told
-enum-told c = search needs
-
 returns : tie.Need-returns
 returns c = the-one (rw (c .before .x .given .1) at (c .before .before .before .number .ensures))
 
@@ -21,4 +12,4 @@ returns-2 : tie.Need-returns-2
 returns-2 c = not-one (rw (c .enum-told .given .1) at (c .before .before .number .ensures))
 
 pub one-spec : {M : Type 1} → statement M
-one-spec = tie.close (tie.spec number-requires enum-known-x enum-told returns returns-2)
+one-spec = tie.close (tie.spec (λ c κs. search needs) (λ c. search needs) (λ c. search needs) returns returns-2)

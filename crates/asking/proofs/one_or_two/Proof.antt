@@ -12,32 +12,11 @@ use Rattle.asking.proofs.one_or_two.Tie as tie
 first : (c : tie.After-x2) → Begins (c .before .before .before .before .args .s .now) (S.Then (c .x2 .given .0 .0) (c .x2 .given .0 .1 .0))
 first c = rw (c .x2 .given .1) at (c .before .before .first-of .ensures)
 
-first-of-requires : tie.Need-first-of-requires
-first-of-requires c κs = search needs
-
-enum-known-x : tie.Need-enum-known-x
-enum-known-x c = search needs
-
-enum-known-x-2 : tie.Need-enum-known-x-2
-enum-known-x-2 c = search needs
-
 sub-one : tie.Need-sub-one
 sub-one c = first (c .before) .0
 
 part-one-start : tie.Need-part-one-start
 part-one-start c = let w = first (c .before) .0 in omega arith
-
-part-one-end : tie.Need-part-one-end
-part-one-end c = search needs
-
-one-requires : tie.Need-one-requires
-one-requires c κs = search needs
-
-in-front-requires : tie.Need-in-front-requires
-in-front-requires c κs = search needs
-
-enum-told : tie.Need-enum-told
-enum-told c = search needs
 
 returns : tie.Need-returns
 returns c = the-one (rw (c .before .x .given .1) at (c .before .before .before .first-of .ensures))
@@ -53,17 +32,5 @@ returns-3 c = none-at-all 2 _ (rw (c .enum-told .given .1) at (c .before .before
 
 pub one-or-two-spec : {M : Type 1} → statement M
 one-or-two-spec =
-    tie.close
-    (tie.spec
-    first-of-requires
-    enum-known-x
-    enum-known-x-2
-    sub-one
-    part-one-start
-    part-one-end
-    one-requires
-    in-front-requires
-    enum-told
-    returns
-    returns-2
-    returns-3)
+    tie.close (tie.spec (λ c κs. search needs) (λ c. search needs) (λ c. search needs) sub-one part-one-start
+    (λ c. search needs) (λ c κs. search needs) (λ c κs. search needs) (λ c. search needs) returns returns-2 returns-3)

@@ -12,32 +12,11 @@ use Rattle.asking.proofs.one_to_three.Tie as tie
 first : (c : tie.After-x2) → Begins (c .before .before .before .before .args .s .now) (S.Then (c .x2 .given .0 .0) (c .x2 .given .0 .1 .0))
 first c = rw (c .x2 .given .1) at (c .before .before .first-of .ensures)
 
-first-of-requires : tie.Need-first-of-requires
-first-of-requires c κs = search needs
-
-enum-known-x : tie.Need-enum-known-x
-enum-known-x c = search needs
-
-enum-known-x-2 : tie.Need-enum-known-x-2
-enum-known-x-2 c = search needs
-
 sub-one-or-two : tie.Need-sub-one-or-two
 sub-one-or-two c = first (c .before) .0
 
 part-one-or-two-start : tie.Need-part-one-or-two-start
 part-one-or-two-start c = let w = first (c .before) .0 in omega arith
-
-part-one-or-two-end : tie.Need-part-one-or-two-end
-part-one-or-two-end c = search needs
-
-one-or-two-requires : tie.Need-one-or-two-requires
-one-or-two-requires c κs = search needs
-
-in-front-requires : tie.Need-in-front-requires
-in-front-requires c κs = search needs
-
-enum-told : tie.Need-enum-told
-enum-told c = search needs
 
 returns : tie.Need-returns
 returns c = the-one (rw (c .before .x .given .1) at (c .before .before .before .first-of .ensures))
@@ -53,17 +32,6 @@ returns-3 c = none-at-all 3 _ (rw (c .enum-told .given .1) at (c .before .before
 
 pub one-to-three-spec : {M : Type 1} → statement M
 one-to-three-spec =
-    tie.close
-    (tie.spec
-    first-of-requires
-    enum-known-x
-    enum-known-x-2
-    sub-one-or-two
-    part-one-or-two-start
-    part-one-or-two-end
-    one-or-two-requires
-    in-front-requires
-    enum-told
-    returns
-    returns-2
-    returns-3)
+    tie.close (tie.spec (λ c κs. search needs) (λ c. search needs) (λ c. search needs) sub-one-or-two
+    part-one-or-two-start (λ c. search needs) (λ c κs. search needs) (λ c κs. search needs) (λ c. search needs) returns
+    returns-2 returns-3)

@@ -28,15 +28,6 @@ to-in-loop c =
 loop-holds : tie.Need-loop-holds Inv-loop μ-loop
 loop-holds c = (omega arith, omega arith)
 
-ask-requires : tie.Need-ask-requires Inv-loop μ-loop
-ask-requires c κs = search needs
-
-enum-known-wake : tie.Need-enum-known-wake Inv-loop μ-loop
-enum-known-wake c = search needs
-
-look-requires : tie.Need-look-requires Inv-loop μ-loop
-look-requires c κs = search needs
-
 add-polls : tie.Need-add-polls Inv-loop μ-loop
 add-polls c = let t = to-in-loop c in omega (arith, t .before .loop .inv .1, t .loop-test .taken)
 
@@ -46,24 +37,7 @@ loop-less c = omega (arith, to-in-loop c .loop-test .taken)
 loop-again : tie.Need-loop-again Inv-loop μ-loop
 loop-again c = let t = to-in-loop c in (omega (arith, t .loop-test .taken), t .before .loop .inv .1)
 
-returns : tie.Need-returns Inv-loop μ-loop
-returns c = search needs
-
-returns-2 : tie.Need-returns-2 Inv-loop μ-loop
-returns-2 c = search needs
-
 pub sleep-spec : {M : Type 1} → statement M
 sleep-spec =
-    tie.close
-    (tie.spec
-    Inv-loop
-    μ-loop
-    loop-holds
-    ask-requires
-    enum-known-wake
-    look-requires
-    add-polls
-    loop-less
-    loop-again
-    returns
-    returns-2)
+    tie.close (tie.spec Inv-loop μ-loop loop-holds (λ c κs. search needs) (λ c. search needs) (λ c κs. search needs)
+    add-polls loop-less loop-again (λ c. search needs) (λ c. search needs))

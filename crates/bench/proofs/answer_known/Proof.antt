@@ -26,45 +26,6 @@ to-start c =
     let b = a .before .before .before .before in
     b .before
 
-hear-requires : tie.Need-hear-requires
-hear-requires c κs = search needs
-
-enum-known-asked : tie.Need-enum-known-asked
-enum-known-asked c = search needs
-
-known-requires : tie.Need-known-requires
-known-requires c κs = search needs
-
-write-answer-requires : tie.Need-write-answer-requires
-write-answer-requires c κs = search needs
-
-enum-told : tie.Need-enum-told
-enum-told c = search needs
-
-write-bad-requires : tie.Need-write-bad-requires
-write-bad-requires c κs = search needs
-
-same-length : tie.Need-same-length
-same-length c = search needs
-
-same-length-2 : tie.Need-same-length-2
-same-length-2 c = search needs
-
-same-length-3 : tie.Need-same-length-3
-same-length-3 c = search needs
-
-same-length-4 : tie.Need-same-length-4
-same-length-4 c = search needs
-
-same-length-5 : tie.Need-same-length-5
-same-length-5 c = search needs
-
-same-length-6 : tie.Need-same-length-6
-same-length-6 c = search needs
-
-same-length-7 : tie.Need-same-length-7
-same-length-7 c = search needs
-
 returns : tie.Need-returns
 returns c =
     let at-known = to-known c in
@@ -74,9 +35,6 @@ returns c =
       line = line-asks _ (at-asked .before .before .hear .ensures) (at-asked .asked .given .1) _ (K .does) (c .before .before .write-answer .ensures);
       tells = K .tells;
     }
-
-same-length-8 : tie.Need-same-length-8
-same-length-8 c = search needs
 
 returns-2 : tie.Need-returns-2
 returns-2 c =
@@ -89,21 +47,7 @@ returns-2 c =
 
 pub answer-known-spec : {M : Type 1} → statement M
 answer-known-spec =
-    tie.close
-    (tie.spec
-    hear-requires
-    enum-known-asked
-    known-requires
-    write-answer-requires
-    enum-told
-    write-bad-requires
-    same-length
-    same-length-2
-    same-length-3
-    same-length-4
-    same-length-5
-    same-length-6
-    same-length-7
-    returns
-    same-length-8
+    tie.close (tie.spec (λ c κs. search needs) (λ c. search needs) (λ c κs. search needs) (λ c κs. search needs)
+    (λ c. search needs) (λ c κs. search needs) (λ c. search needs) (λ c. search needs) (λ c. search needs)
+    (λ c. search needs) (λ c. search needs) (λ c. search needs) (λ c. search needs) returns (λ c. search needs)
     returns-2)

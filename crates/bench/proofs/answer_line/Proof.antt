@@ -26,48 +26,6 @@ to-bad c = c .before .before
 abbrev to-enum-told : tie.After-write-bad → tie.After-enum-told
 to-enum-told c = c .before .before
 
-hear-requires : tie.Need-hear-requires
-hear-requires c κs = search needs
-
-enum-known-asked : tie.Need-enum-known-asked
-enum-known-asked c = search needs
-
-heads-in-requires : tie.Need-heads-in-requires
-heads-in-requires c κs = search needs
-
-ask-requires : tie.Need-ask-requires
-ask-requires c κs = search needs
-
-write-answer-requires : tie.Need-write-answer-requires
-write-answer-requires c κs = search needs
-
-enum-told : tie.Need-enum-told
-enum-told c = search needs
-
-write-bad-requires : tie.Need-write-bad-requires
-write-bad-requires c κs = search needs
-
-same-length : tie.Need-same-length
-same-length c = search needs
-
-same-length-2 : tie.Need-same-length-2
-same-length-2 c = search needs
-
-same-length-3 : tie.Need-same-length-3
-same-length-3 c = search needs
-
-same-length-4 : tie.Need-same-length-4
-same-length-4 c = search needs
-
-same-length-5 : tie.Need-same-length-5
-same-length-5 c = search needs
-
-same-length-6 : tie.Need-same-length-6
-same-length-6 c = search needs
-
-same-length-7 : tie.Need-same-length-7
-same-length-7 c = search needs
-
 returns : tie.Need-returns
 returns c =
     let at-ask = to-ask c in
@@ -75,9 +33,6 @@ returns c =
     let at-asked = to-asked at-occupied in
     line-heads _ _ _ _ _ _ _ (at-occupied .heads-in .ensures)
     (line-asks _ (at-asked .before .before .hear .ensures) (at-asked .asked .given .1) _ (at-ask .ask .ensures) (c .before .before .write-answer .ensures))
-
-same-length-8 : tie.Need-same-length-8
-same-length-8 c = search needs
 
 returns-2 : tie.Need-returns-2
 returns-2 c =
@@ -87,22 +42,7 @@ returns-2 c =
 
 pub answer-line-spec : {M : Type 1} → statement M
 answer-line-spec =
-    tie.close
-    (tie.spec
-    hear-requires
-    enum-known-asked
-    heads-in-requires
-    ask-requires
-    write-answer-requires
-    enum-told
-    write-bad-requires
-    same-length
-    same-length-2
-    same-length-3
-    same-length-4
-    same-length-5
-    same-length-6
-    same-length-7
-    returns
-    same-length-8
-    returns-2)
+    tie.close (tie.spec (λ c κs. search needs) (λ c. search needs) (λ c κs. search needs) (λ c κs. search needs)
+    (λ c κs. search needs) (λ c. search needs) (λ c κs. search needs) (λ c. search needs) (λ c. search needs)
+    (λ c. search needs) (λ c. search needs) (λ c. search needs) (λ c. search needs) (λ c. search needs) returns
+    (λ c. search needs) returns-2)

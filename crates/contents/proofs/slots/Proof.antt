@@ -13,53 +13,8 @@ Inv-loop out₀ heads nexts n tops p₀ place₀ out p place = (place ≤ expire
 abbrev μ-loop : tie.MeasureT-loop
 μ-loop out₀ heads nexts n tops p₀ place₀ out p place = expired - place
 
-tops-in-requires : tie.Need-tops-in-requires Inv-loop μ-loop
-tops-in-requires c κs = search needs
-
-loop-holds : tie.Need-loop-holds Inv-loop μ-loop
-loop-holds c = search needs
-
-head-of-requires : tie.Need-head-of-requires Inv-loop μ-loop
-head-of-requires c κs = search needs
-
-level-of-requires : tie.Need-level-of-requires Inv-loop μ-loop
-level-of-requires c κs = search needs
-
-slot-of-requires : tie.Need-slot-of-requires Inv-loop μ-loop
-slot-of-requires c κs = search needs
-
-slot-requires : tie.Need-slot-requires Inv-loop μ-loop
-slot-requires c κs = search needs
-
-add-place : tie.Need-add-place Inv-loop μ-loop
-add-place c = search needs
-
-loop-less : tie.Need-loop-less Inv-loop μ-loop
-loop-less c = search needs
-
-loop-again : tie.Need-loop-again Inv-loop μ-loop
-loop-again c = search needs
-
-same-length : tie.Need-same-length Inv-loop μ-loop
-same-length c = search needs
-
-returns : tie.Need-returns Inv-loop μ-loop
-returns c = search needs
-
 pub slots-spec : {M : Type 1} → statement M
 slots-spec =
-    tie.close
-    (tie.spec
-    Inv-loop
-    μ-loop
-    tops-in-requires
-    loop-holds
-    head-of-requires
-    level-of-requires
-    slot-of-requires
-    slot-requires
-    add-place
-    loop-less
-    loop-again
-    same-length
-    returns)
+    tie.close (tie.spec Inv-loop μ-loop (λ c κs. search needs) (λ c. search needs) (λ c κs. search needs)
+    (λ c κs. search needs) (λ c κs. search needs) (λ c κs. search needs) (λ c. search needs) (λ c. search needs)
+    (λ c. search needs) (λ c. search needs) (λ c. search needs))

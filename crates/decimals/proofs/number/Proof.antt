@@ -72,23 +72,5 @@ returns-6 c = front-end (c .before .loop .inv) (c .loop-test .left)
 
 pub number-spec : {M : Type 1} → statement M
 number-spec =
-    tie.close
-    (tie.spec
-    Inv-loop
-    μ-loop
-    returns
-    shared-slice-read-if3
-    returns-2
-    loop-holds
-    shared-slice-read-b
-    returns-3
-    returns-4
-    cast-d
-    sub-if6
-    returns-5
-    mul-acc
-    add-acc
-    add-i
-    loop-less
-    loop-again
-    returns-6)
+    tie.close (tie.spec Inv-loop μ-loop returns shared-slice-read-if3 returns-2 loop-holds shared-slice-read-b returns-3
+    returns-4 cast-d sub-if6 returns-5 mul-acc add-acc add-i loop-less loop-again returns-6)

@@ -23,30 +23,9 @@ to-clear c =
     let b = a .before .before .before .before in
     b .before
 
-is-sound-requires : tie.Need-is-sound-requires
-is-sound-requires c κs = search needs
-
-refused-requires : tie.Need-refused-requires
-refused-requires c κs = search needs
-
-same-length : tie.Need-same-length
-same-length c = search needs
-
-same-length-2 : tie.Need-same-length-2
-same-length-2 c = search needs
-
-same-length-3 : tie.Need-same-length-3
-same-length-3 c = search needs
-
-same-length-4 : tie.Need-same-length-4
-same-length-4 c = search needs
-
 returns : tie.Need-returns
 returns c =
     sent-back _ _ _ _ _ _ (c .before .before .is-sound .ensures) (c .before .if1 .taken) (c .refused .ensures)
-
-tops-in-requires : tie.Need-tops-in-requires
-tops-in-requires c κs = search needs
 
 clear-requires : tie.Need-clear-requires
 clear-requires c κs =
@@ -54,21 +33,6 @@ clear-requires c κs =
     let else1 = to-else1 at-tops in
     lent-as Standing (at-tops .tops-in .ensures)
     (standing-hold (is-sound (else1 .before .is-sound .ensures) (else1 .if1 .left) .standing) nobody 0)
-
-packed-requires : tie.Need-packed-requires
-packed-requires c κs = search needs
-
-same-length-5 : tie.Need-same-length-5
-same-length-5 c = search needs
-
-same-length-6 : tie.Need-same-length-6
-same-length-6 c = search needs
-
-same-length-7 : tie.Need-same-length-7
-same-length-7 c = search needs
-
-same-length-8 : tie.Need-same-length-8
-same-length-8 c = search needs
 
 returns-2 : tie.Need-returns-2
 returns-2 c =
@@ -80,20 +44,6 @@ returns-2 c =
 
 pub clear-spec : {M : Type 1} → statement M
 clear-spec =
-    tie.close
-    (tie.spec
-    is-sound-requires
-    refused-requires
-    same-length
-    same-length-2
-    same-length-3
-    same-length-4
-    returns
-    tops-in-requires
-    clear-requires
-    packed-requires
-    same-length-5
-    same-length-6
-    same-length-7
-    same-length-8
-    returns-2)
+    tie.close (tie.spec (λ c κs. search needs) (λ c κs. search needs) (λ c. search needs) (λ c. search needs)
+    (λ c. search needs) (λ c. search needs) returns (λ c κs. search needs) clear-requires (λ c κs. search needs)
+    (λ c. search needs) (λ c. search needs) (λ c. search needs) (λ c. search needs) returns-2)

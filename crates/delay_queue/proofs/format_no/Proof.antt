@@ -9,17 +9,8 @@ use Rattle.delay_queue.proofs.format_no.Tie as tie
 returns : tie.Need-returns
 returns c = no-one (λ F. omega (arith, F .some))
 
-cast-if2 : tie.Need-cast-if2
-cast-if2 c = search needs
-
 returns-2 : tie.Need-returns-2
 returns-2 c = no-one (λ F. omega (arith, F .few))
-
-cast-has-room : tie.Need-cast-has-room
-cast-has-room c = search needs
-
-has-room-requires : tie.Need-has-room-requires
-has-room-requires c κs = search needs
 
 returns-3 : tie.Need-returns-3
 returns-3 c = no-one (λ F. c .before .has-room .ensures .no (not-true _ (c .if3 .taken)) (F .room))
@@ -49,14 +40,5 @@ returns-6 c =
 
 pub format-no-spec : {M : Type 1} → statement M
 format-no-spec =
-    tie.close
-    (tie.spec
-    returns
-    cast-if2
-    returns-2
-    cast-has-room
-    has-room-requires
-    returns-3
-    returns-4
-    returns-5
-    returns-6)
+    tie.close (tie.spec returns (λ c. search needs) returns-2 (λ c. search needs) (λ c κs. search needs) returns-3
+    returns-4 returns-5 returns-6)

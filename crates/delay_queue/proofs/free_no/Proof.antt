@@ -4,9 +4,6 @@ use Rattle.delay_queue.proofs.laws.Back.{free-bad, free-held, free-none
 use Rattle.delay_queue.proofs.free_no.Statement.{statement}
 use Rattle.delay_queue.proofs.free_no.Tie as tie
 
-is-sound-requires : tie.Need-is-sound-requires
-is-sound-requires c κs = search needs
-
 returns : tie.Need-returns
 returns c = free-bad (c .before .is-sound .ensures) (c .if1 .taken)
 
@@ -17,4 +14,4 @@ returns-3 : tie.Need-returns-3
 returns-3 c = free-none (c .before .before .before .is-sound .ensures) (c .before .before .if1 .left) (c .if2 .left)
 
 pub free-no-spec : {M : Type 1} → statement M
-free-no-spec = tie.close (tie.spec is-sound-requires returns returns-2 returns-3)
+free-no-spec = tie.close (tie.spec (λ c κs. search needs) returns returns-2 returns-3)

@@ -4,9 +4,6 @@ use Rattle.delay_queue.proofs.laws.Back.{no-answer, is-sound, taken-up,
 use Rattle.delay_queue.proofs.length.Statement.{statement}
 use Rattle.delay_queue.proofs.length.Tie as tie
 
-is-sound-requires : tie.Need-is-sound-requires
-is-sound-requires c κs = search needs
-
 returns : tie.Need-returns
 returns c = no-answer (c .before .is-sound .ensures) (c .if1 .taken)
 
@@ -17,4 +14,4 @@ returns-2 : tie.Need-returns-2
 returns-2 c = let S = is-sound (c .before .before .before .is-sound .ensures) (c .before .before .if1 .left) in taken-up S (length-done S (c .length .ensures))
 
 pub length-spec : {M : Type 1} → statement M
-length-spec = tie.close (tie.spec is-sound-requires returns length-requires returns-2)
+length-spec = tie.close (tie.spec (λ c κs. search needs) returns length-requires returns-2)

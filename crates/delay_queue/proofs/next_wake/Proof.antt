@@ -8,9 +8,6 @@ use Rattle.delay_queue.proofs.next_wake.Tie as tie
 abbrev to-else1 : tie.After-occupied2 → tie.Else1
 to-else1 c = c .before .before .before
 
-free-no-requires : tie.Need-free-no-requires
-free-no-requires c κs = search needs
-
 returns : tie.Need-returns
 returns c = no-free (c .before .free-no .ensures) (c .if1 .taken)
 
@@ -26,4 +23,4 @@ returns-2 c =
     taken-alone F (wake-done refl refl F (c .next-wake .ensures))
 
 pub next-wake-spec : {M : Type 1} → statement M
-next-wake-spec = tie.close (tie.spec free-no-requires returns next-wake-requires returns-2)
+next-wake-spec = tie.close (tie.spec (λ c κs. search needs) returns next-wake-requires returns-2)

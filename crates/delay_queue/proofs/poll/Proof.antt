@@ -10,35 +10,10 @@ polled c =
     let b = a .before .before .before .before in
     b .before .before
 
-poll-some-requires : tie.Need-poll-some-requires
-poll-some-requires c κs = search needs
-
-same-length : tie.Need-same-length
-same-length c = search needs
-
-same-length-2 : tie.Need-same-length-2
-same-length-2 c = search needs
-
-same-length-3 : tie.Need-same-length-3
-same-length-3 c = search needs
-
-same-length-4 : tie.Need-same-length-4
-same-length-4 c = search needs
-
-same-length-5 : tie.Need-same-length-5
-same-length-5 c = search needs
-
 returns : tie.Need-returns
 returns c = whole-claim (polled c .poll-some .ensures)
 
 pub poll-spec : {M : Type 1} → statement M
 poll-spec =
-    tie.close
-    (tie.spec
-    poll-some-requires
-    same-length
-    same-length-2
-    same-length-3
-    same-length-4
-    same-length-5
-    returns)
+    tie.close (tie.spec (λ c κs. search needs) (λ c. search needs) (λ c. search needs) (λ c. search needs)
+    (λ c. search needs) (λ c. search needs) returns)

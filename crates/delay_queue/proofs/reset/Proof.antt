@@ -21,30 +21,9 @@ to-reset c =
     let b = a .before .before .before .before in
     b .before
 
-free-no-requires : tie.Need-free-no-requires
-free-no-requires c κs = search needs
-
-refused-requires : tie.Need-refused-requires
-refused-requires c κs = search needs
-
-same-length : tie.Need-same-length
-same-length c = search needs
-
-same-length-2 : tie.Need-same-length-2
-same-length-2 c = search needs
-
-same-length-3 : tie.Need-same-length-3
-same-length-3 c = search needs
-
-same-length-4 : tie.Need-same-length-4
-same-length-4 c = search needs
-
 returns : tie.Need-returns
 returns c =
     sent-away _ _ _ _ _ _ (c .before .before .free-no .ensures) (c .before .if1 .taken) (c .refused .ensures)
-
-tops-in-requires : tie.Need-tops-in-requires
-tops-in-requires c κs = search needs
 
 reset-requires : tie.Need-reset-requires
 reset-requires c κs =
@@ -52,21 +31,6 @@ reset-requires c κs =
     let else1 = to-else1 at-tops in
     lent-as Sound (at-tops .tops-in .ensures)
     (parted (else1 .before .free-no .ensures .taken (else1 .if1 .left)))
-
-packed-requires : tie.Need-packed-requires
-packed-requires c κs = search needs
-
-same-length-5 : tie.Need-same-length-5
-same-length-5 c = search needs
-
-same-length-6 : tie.Need-same-length-6
-same-length-6 c = search needs
-
-same-length-7 : tie.Need-same-length-7
-same-length-7 c = search needs
-
-same-length-8 : tie.Need-same-length-8
-same-length-8 c = search needs
 
 returns-2 : tie.Need-returns-2
 returns-2 c =
@@ -78,20 +42,6 @@ returns-2 c =
 
 pub reset-spec : {M : Type 1} → statement M
 reset-spec =
-    tie.close
-    (tie.spec
-    free-no-requires
-    refused-requires
-    same-length
-    same-length-2
-    same-length-3
-    same-length-4
-    returns
-    tops-in-requires
-    reset-requires
-    packed-requires
-    same-length-5
-    same-length-6
-    same-length-7
-    same-length-8
-    returns-2)
+    tie.close (tie.spec (λ c κs. search needs) (λ c κs. search needs) (λ c. search needs) (λ c. search needs)
+    (λ c. search needs) (λ c. search needs) returns (λ c κs. search needs) reset-requires (λ c κs. search needs)
+    (λ c. search needs) (λ c. search needs) (λ c. search needs) (λ c. search needs) returns-2)

@@ -4,18 +4,6 @@ use Rattle.entries.proofs.laws.Writing.{wrote-as}
 use Rattle.entries.proofs.bytes_of.Statement.{statement}
 use Rattle.entries.proofs.bytes_of.Tie as tie
 
-parts-of-requires : tie.Need-parts-of-requires
-parts-of-requires c κs = search needs
-
-room-requires : tie.Need-room-requires
-room-requires c κs = search needs
-
-slice-aggregate-push-parts : tie.Need-slice-aggregate-push-parts
-slice-aggregate-push-parts c = search needs
-
-push-parts-requires : tie.Need-push-parts-requires
-push-parts-requires c κs = search needs
-
 returns : tie.Need-returns
 returns c =
     let r = c .before .before .before in
@@ -23,4 +11,5 @@ returns c =
 
 pub bytes-of-spec : {M : Type 1} → statement M
 bytes-of-spec =
-    tie.close (tie.spec parts-of-requires room-requires slice-aggregate-push-parts push-parts-requires returns)
+    tie.close (tie.spec (λ c κs. search needs) (λ c κs. search needs) (λ c. search needs) (λ c κs. search needs)
+    returns)

@@ -13,9 +13,6 @@ returns c = kind-low _ _ (c .if1 .taken)
 returns-2 : tie.Need-returns-2
 returns-2 c = kind-high _ _ (omega (arith, c .if2 .taken))
 
-has-zeros-requires : tie.Need-has-zeros-requires
-has-zeros-requires c κs = search needs
-
 returns-3 : tie.Need-returns-3
 returns-3 c =
     let b = c .before .before in
@@ -27,4 +24,4 @@ returns-4 c =
     no-damage _ _ (b .before .before .if1 .left) (omega (arith, b .if2 .left)) (sym (c .before .has-zeros .ensures) ∙ not-false _ (c .if3 .left))
 
 pub check-spec : {M : Type 1} → statement M
-check-spec = tie.close (tie.spec returns returns-2 has-zeros-requires returns-3 returns-4)
+check-spec = tie.close (tie.spec returns returns-2 (λ c κs. search needs) returns-3 returns-4)

@@ -7,9 +7,6 @@ use Rattle.entries.proofs.laws.Reading.{by-kind, second-due, both-due, 
 use Rattle.entries.proofs.has_field_zeros.Statement.{statement}
 use Rattle.entries.proofs.has_field_zeros.Tie as tie
 
-is-bare-requires : tie.Need-is-bare-requires
-is-bare-requires c κs = search needs
-
 returns : tie.Need-returns
 returns c =
     let d = c .before .before in
@@ -31,4 +28,4 @@ returns-4 c =
     ⊎-elim (λ w. by-kind (a .a) (a .b) (w .keys1)) (λ w. second-due (a .kind) (a .a) (a .b) (w .1 .left) (w .2 .taken)) (c .match .came)
 
 pub has-field-zeros-spec : {M : Type 1} → statement M
-has-field-zeros-spec = tie.close (tie.spec is-bare-requires returns returns-2 returns-3 returns-4)
+has-field-zeros-spec = tie.close (tie.spec (λ c κs. search needs) returns returns-2 returns-3 returns-4)

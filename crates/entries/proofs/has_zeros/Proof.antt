@@ -5,9 +5,6 @@ use Rattle.entries.specs.Reading.{zeros}
 use Rattle.entries.proofs.has_zeros.Statement.{statement}
 use Rattle.entries.proofs.has_zeros.Tie as tie
 
-has-field-zeros-requires : tie.Need-has-field-zeros-requires
-has-field-zeros-requires c κs = search needs
-
 returns : tie.Need-returns
 unfolding zeros
 returns c = simp (eq-eqb (c .before .before .before .args .e .spare) 0 (c .before .if1 .taken)) (c .has-field-zeros .ensures)
@@ -17,4 +14,4 @@ unfolding zeros
 returns-2 c = simp (ne-eqb (c .before .before .args .e .spare) 0 (c .if1 .left))
 
 pub has-zeros-spec : {M : Type 1} → statement M
-has-zeros-spec = tie.close (tie.spec has-field-zeros-requires returns returns-2)
+has-zeros-spec = tie.close (tie.spec (λ c κs. search needs) returns returns-2)

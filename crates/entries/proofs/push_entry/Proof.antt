@@ -7,12 +7,6 @@ use Prim.Native.Nat.{_*_}
 use Rattle.entries.proofs.push_entry.Statement.{statement}
 use Rattle.entries.proofs.push_entry.Tie as tie
 
-mul-push-word : tie.Need-mul-push-word
-mul-push-word c = search needs
-
-push-word-requires : tie.Need-push-word-requires
-push-word-requires c κs = search needs
-
 push-word-requires-2 : tie.Need-push-word-requires-2
 push-word-requires-2 c κs =
     let b = c .before .before .before in
@@ -28,9 +22,6 @@ push-word-requires-3 c κs =
     let s = a .before .before .before in
     (omega (arith, p .end, p .size, w .end, w .size, bytes-length 2 (s .args .kind * 4096), bytes-length 8 (s .args .a)), refl)
 
-same-length : tie.Need-same-length
-same-length c = search needs
-
 returns : tie.Need-returns
 returns c =
     let d = c .before .before in
@@ -40,4 +31,5 @@ returns c =
 
 pub push-entry-spec : {M : Type 1} → statement M
 push-entry-spec =
-    tie.close (tie.spec mul-push-word push-word-requires push-word-requires-2 push-word-requires-3 same-length returns)
+    tie.close (tie.spec (λ c. search needs) (λ c κs. search needs) push-word-requires-2 push-word-requires-3
+    (λ c. search needs) returns)

@@ -28,9 +28,6 @@ slice-write-out c = let I = c .before .loop .inv in omega (arith, I .place, I .s
 add-a : tie.Need-add-a Inv-loop μ-loop
 add-a c = let I = c .before .loop .inv in omega (arith, I .place, c .loop-test .taken, c .before .before .pre .0)
 
-sub-i : tie.Need-sub-i Inv-loop μ-loop
-sub-i c = search needs
-
 loop-less : tie.Need-loop-less Inv-loop μ-loop
 loop-less c = omega (arith, c .loop-test .taken)
 
@@ -45,17 +42,5 @@ returns c = digits-end (c .before .loop .inv) (c .loop-test .left)
 
 pub push-word-spec : {M : Type 1} → statement M
 push-word-spec =
-    tie.close
-    (tie.spec
-    Inv-loop
-    μ-loop
-    loop-holds
-    div-out
-    cast-out
-    slice-write-out
-    add-a
-    sub-i
-    loop-less
-    loop-again
-    same-length
-    returns)
+    tie.close (tie.spec Inv-loop μ-loop loop-holds div-out cast-out slice-write-out add-a (λ c. search needs) loop-less
+    loop-again same-length returns)

@@ -8,23 +8,8 @@ use Rattle.entries.proofs.read_step.Tie as tie
 returns : tie.Need-returns
 returns c = let a = c .before .before .args in next-cut (a .bytes .now) (a .at) (omega arith)
 
-sub-if2 : tie.Need-sub-if2
-sub-if2 c = search needs
-
 returns-2 : tie.Need-returns-2
 returns-2 c = let a = c .before .before .before .args in next-cut (a .bytes .now) (a .at) (omega arith)
-
-entry-at-requires : tie.Need-entry-at-requires
-entry-at-requires c κs = search needs
-
-add-step-of : tie.Need-add-step-of
-add-step-of c = search needs
-
-step-of-requires : tie.Need-step-of-requires
-step-of-requires c κs = search needs
-
-check-requires : tie.Need-check-requires
-check-requires c κs = search needs
 
 returns-3 : tie.Need-returns-3
 returns-3 c =
@@ -34,13 +19,5 @@ returns-3 c =
 
 pub read-step-spec : {M : Type 1} → statement M
 read-step-spec =
-    tie.close
-    (tie.spec
-    returns
-    sub-if2
-    returns-2
-    entry-at-requires
-    add-step-of
-    step-of-requires
-    check-requires
-    returns-3)
+    tie.close (tie.spec returns (λ c. search needs) returns-2 (λ c κs. search needs) (λ c. search needs)
+    (λ c κs. search needs) (λ c κs. search needs) returns-3)

@@ -8,20 +8,8 @@ use Rattle.entries.proofs.laws.Reading.{pair-cut, pair-read}
 use Rattle.entries.proofs.repeats.Statement.{statement}
 use Rattle.entries.proofs.repeats.Tie as tie
 
-sub-if1 : tie.Need-sub-if1
-sub-if1 c = search needs
-
 returns : tie.Need-returns
 returns c = let a = c .before .before .args in pair-cut (a .e) (a .bytes .now) (a .at) (omega (arith, c .if1 .taken, c .before .before .pre))
-
-entry-at-requires : tie.Need-entry-at-requires
-entry-at-requires c κs = search needs
-
-pair-requires : tie.Need-pair-requires
-pair-requires c κs = search needs
-
-check-requires : tie.Need-check-requires
-check-requires c κs = search needs
 
 returns-2 : tie.Need-returns-2
 returns-2 c =
@@ -34,4 +22,5 @@ returns-2 c =
 
 pub repeats-spec : {M : Type 1} → statement M
 repeats-spec =
-    tie.close (tie.spec sub-if1 returns entry-at-requires pair-requires check-requires returns-2)
+    tie.close (tie.spec (λ c. search needs) returns (λ c κs. search needs) (λ c κs. search needs) (λ c κs. search needs)
+    returns-2)

@@ -6,9 +6,6 @@ use Rattle.entries.proofs.laws.Reading.{step-kind, step-nine, no-step}
 use Rattle.entries.proofs.step_of.Statement.{statement}
 use Rattle.entries.proofs.step_of.Tie as tie
 
-repeats-requires : tie.Need-repeats-requires
-repeats-requires c κs = search needs
-
 returns : tie.Need-returns
 unfolding stepOf
 returns c = step-kind _ _ 1 (c .match .keys1)
@@ -57,17 +54,5 @@ returns-11 c =
 
 pub step-of-spec : {M : Type 1} → statement M
 step-of-spec =
-    tie.close
-    (tie.spec
-    repeats-requires
-    returns
-    returns-2
-    returns-3
-    returns-4
-    returns-5
-    returns-6
-    returns-7
-    returns-8
-    returns-9
-    returns-10
-    returns-11)
+    tie.close (tie.spec (λ c κs. search needs) returns returns-2 returns-3 returns-4 returns-5 returns-6 returns-7
+    returns-8 returns-9 returns-10 returns-11)

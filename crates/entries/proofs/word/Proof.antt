@@ -58,17 +58,5 @@ returns c =
 
 pub word-spec : {M : Type 1} → statement M
 word-spec =
-    tie.close
-    (tie.spec
-    Inv-loop
-    μ-loop
-    loop-holds
-    mul-acc
-    add-acc
-    shared-slice-read-acc
-    cast-acc
-    add-acc-2
-    add-i
-    loop-less
-    loop-again
-    returns)
+    tie.close (tie.spec Inv-loop μ-loop loop-holds mul-acc add-acc shared-slice-read-acc cast-acc add-acc-2 add-i
+    loop-less loop-again returns)

@@ -20,30 +20,6 @@ to-else1 c =
 returns : tie.Need-returns
 returns c = last-none (omega (arith, c .if1 .taken))
 
-answer-line-requires : tie.Need-answer-line-requires
-answer-line-requires c κs = search needs
-
-same-length : tie.Need-same-length
-same-length c = search needs
-
-same-length-2 : tie.Need-same-length-2
-same-length-2 c = search needs
-
-same-length-3 : tie.Need-same-length-3
-same-length-3 c = search needs
-
-same-length-4 : tie.Need-same-length-4
-same-length-4 c = search needs
-
-same-length-5 : tie.Need-same-length-5
-same-length-5 c = search needs
-
-same-length-6 : tie.Need-same-length-6
-same-length-6 c = search needs
-
-same-length-7 : tie.Need-same-length-7
-same-length-7 c = search needs
-
 returns-2 : tie.Need-returns-2
 returns-2 c =
     let at-answer-line = to-answer-line c in
@@ -51,15 +27,5 @@ returns-2 c =
 
 pub answer-last-spec : {M : Type 1} → statement M
 answer-last-spec =
-    tie.close
-    (tie.spec
-    returns
-    answer-line-requires
-    same-length
-    same-length-2
-    same-length-3
-    same-length-4
-    same-length-5
-    same-length-6
-    same-length-7
-    returns-2)
+    tie.close (tie.spec returns (λ c κs. search needs) (λ c. search needs) (λ c. search needs) (λ c. search needs)
+    (λ c. search needs) (λ c. search needs) (λ c. search needs) (λ c. search needs) returns-2)

@@ -34,49 +34,10 @@ to-heads-in c =
     let b = a .before .before .before .before in
     b .before
 
-heads-in-requires : tie.Need-heads-in-requires
-heads-in-requires c κs = search needs
-
-is-sound-requires : tie.Need-is-sound-requires
-is-sound-requires c κs = search needs
-
-tops-in-requires : tie.Need-tops-in-requires
-tops-in-requires c κs = search needs
-
 answer-parts-requires : tie.Need-answer-parts-requires
 answer-parts-requires c κs =
     let at-tops = to-lent c in
     tells-lent (at-tops .tops-in .ensures) (to-sound at-tops .is-sound .ensures)
-
-wheel-of-requires : tie.Need-wheel-of-requires
-wheel-of-requires c κs = search needs
-
-heads-of-requires : tie.Need-heads-of-requires
-heads-of-requires c κs = search needs
-
-same-length : tie.Need-same-length
-same-length c = search needs
-
-same-length-2 : tie.Need-same-length-2
-same-length-2 c = search needs
-
-same-length-3 : tie.Need-same-length-3
-same-length-3 c = search needs
-
-same-length-4 : tie.Need-same-length-4
-same-length-4 c = search needs
-
-same-length-5 : tie.Need-same-length-5
-same-length-5 c = search needs
-
-same-length-6 : tie.Need-same-length-6
-same-length-6 c = search needs
-
-same-length-7 : tie.Need-same-length-7
-same-length-7 c = search needs
-
-same-length-8 : tie.Need-same-length-8
-same-length-8 c = search needs
 
 returns : tie.Need-returns
 returns c =
@@ -87,20 +48,6 @@ returns c =
 
 pub answer-lines-spec : {M : Type 1} → statement M
 answer-lines-spec =
-    tie.close
-    (tie.spec
-    heads-in-requires
-    is-sound-requires
-    tops-in-requires
-    answer-parts-requires
-    wheel-of-requires
-    heads-of-requires
-    same-length
-    same-length-2
-    same-length-3
-    same-length-4
-    same-length-5
-    same-length-6
-    same-length-7
-    same-length-8
-    returns)
+    tie.close (tie.spec (λ c κs. search needs) (λ c κs. search needs) (λ c κs. search needs) answer-parts-requires
+    (λ c κs. search needs) (λ c κs. search needs) (λ c. search needs) (λ c. search needs) (λ c. search needs)
+    (λ c. search needs) (λ c. search needs) (λ c. search needs) (λ c. search needs) (λ c. search needs) returns)

@@ -56,9 +56,6 @@ to-next-line c =
 loop-holds : tie.Need-loop-holds Inv-loop μ-loop
 loop-holds c = (reaches-none, to-start c .pre, refl, refl, refl, refl, refl, refl, refl, refl)
 
-goes-requires : tie.Need-goes-requires Inv-loop μ-loop
-goes-requires c κs = search needs
-
 next-line-requires : tie.Need-next-line-requires Inv-loop μ-loop
 next-line-requires c κs = to-then c .before .before .loop .inv .1
 
@@ -120,21 +117,6 @@ returns c =
 
 pub answer-parts-spec : {M : Type 1} → statement M
 answer-parts-spec =
-    tie.close
-    (tie.spec
-    Inv-loop
-    μ-loop
-    loop-holds
-    goes-requires
-    next-line-requires
-    loop-less
-    loop-again
-    same-length
-    same-length-2
-    same-length-3
-    same-length-4
-    same-length-5
-    same-length-6
-    same-length-7
-    same-length-8
+    tie.close (tie.spec Inv-loop μ-loop loop-holds (λ c κs. search needs) next-line-requires loop-less loop-again
+    same-length same-length-2 same-length-3 same-length-4 same-length-5 same-length-6 same-length-7 same-length-8
     returns)

@@ -28,12 +28,6 @@ to-answer c =
     let d = b .before .before .before .before in
     d .before .before
 
-take-line-requires : tie.Need-take-line-requires
-take-line-requires c κs = search needs
-
-slice-reshare-prefix-answer-known : tie.Need-slice-reshare-prefix-answer-known
-slice-reshare-prefix-answer-known c = search needs
-
 slice-aggregate-answer-known : tie.Need-slice-aggregate-answer-known
 slice-aggregate-answer-known c =
     let T = to-take-line (c .before) .take-line in
@@ -45,36 +39,12 @@ answer-known-requires c κs = to-start (to-take-line (to-then c)) .pre
 same-length : tie.Need-same-length
 same-length c = to-take-line (to-then (to-answer c .before)) .take-line .ensures .size
 
-same-length-2 : tie.Need-same-length-2
-same-length-2 c = search needs
-
-same-length-3 : tie.Need-same-length-3
-same-length-3 c = search needs
-
-same-length-4 : tie.Need-same-length-4
-same-length-4 c = search needs
-
-same-length-5 : tie.Need-same-length-5
-same-length-5 c = search needs
-
-same-length-6 : tie.Need-same-length-6
-same-length-6 c = search needs
-
-same-length-7 : tie.Need-same-length-7
-same-length-7 c = search needs
-
-same-length-8 : tie.Need-same-length-8
-same-length-8 c = search needs
-
 returns : tie.Need-returns
 returns c =
     let at-answer = to-answer c in
     let at-then = to-then (at-answer .before) in
     let K = at-answer .answer-known .ensures in
     record { does = next-ended (to-take-line at-then .take-line .ensures) (at-then .if1 .taken) (K .line); tells = K .tells }
-
-same-length-9 : tie.Need-same-length-9
-same-length-9 c = search needs
 
 returns-2 : tie.Need-returns-2
 returns-2 c =
@@ -83,20 +53,6 @@ returns-2 c =
 
 pub next-line-spec : {M : Type 1} → statement M
 next-line-spec =
-    tie.close
-    (tie.spec
-    take-line-requires
-    slice-reshare-prefix-answer-known
-    slice-aggregate-answer-known
-    answer-known-requires
-    same-length
-    same-length-2
-    same-length-3
-    same-length-4
-    same-length-5
-    same-length-6
-    same-length-7
-    same-length-8
-    returns
-    same-length-9
-    returns-2)
+    tie.close (tie.spec (λ c κs. search needs) (λ c. search needs) slice-aggregate-answer-known answer-known-requires
+    same-length (λ c. search needs) (λ c. search needs) (λ c. search needs) (λ c. search needs) (λ c. search needs)
+    (λ c. search needs) (λ c. search needs) returns (λ c. search needs) returns-2)

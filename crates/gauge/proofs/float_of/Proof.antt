@@ -10,9 +10,6 @@ use borrow.Author.Needs.{needs}
 use Rattle.gauge.proofs.float_of.Statement.{statement}
 use Rattle.gauge.proofs.float_of.Tie as tie
 
-capped-requires : tie.Need-capped-requires
-capped-requires c κs = search needs
-
 int-to-float-result : tie.Need-int-to-float-result
 unfolding inFloat
 int-to-float-result c = le→leb (c .before .capped .result) 9007199254740992 (omega (arith, c .before .capped .ensures))
@@ -22,4 +19,4 @@ unfolding floatOf
 returns c = ap (λ (n : ℕ). ofInt binary64 (pos n)) (c .before .capped .ensures)
 
 pub float-of-spec : {M : Type 1} → statement M
-float-of-spec = tie.close (tie.spec capped-requires int-to-float-result returns)
+float-of-spec = tie.close (tie.spec (λ c κs. search needs) int-to-float-result returns)

@@ -7,20 +7,11 @@ use borrow.Author.Needs.{needs}
 use Rattle.gauge.proofs.lateness_of.Statement.{statement}
 use Rattle.gauge.proofs.lateness_of.Tie as tie
 
-float-of-requires : tie.Need-float-of-requires
-float-of-requires c κs = search needs
-
 returns : tie.Need-returns
 returns c =
     let args = c .before .before .args in
     let ahead : 0 ≡ args .time - args .deadline = omega arith in
     c .float-of .ensures ∙ ap (λ (n : ℕ). floatOf n) ahead
 
-float-of-requires-2 : tie.Need-float-of-requires-2
-float-of-requires-2 c κs = search needs
-
-returns-2 : tie.Need-returns-2
-returns-2 c = search needs
-
 pub lateness-of-spec : {M : Type 1} → statement M
-lateness-of-spec = tie.close (tie.spec float-of-requires returns float-of-requires-2 returns-2)
+lateness-of-spec = tie.close (tie.spec (λ c κs. search needs) returns (λ c κs. search needs) (λ c. search needs))

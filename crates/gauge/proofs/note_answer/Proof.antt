@@ -30,24 +30,6 @@ other A.NoWake x = refl
 other (A.Length n) x = refl
 other (A.No n) x = refl
 
-enum-known-answer : tie.Need-enum-known-answer
-enum-known-answer c = search needs
-
-lateness-of-requires : tie.Need-lateness-of-requires
-lateness-of-requires c κs = search needs
-
-note-requires : tie.Need-note-requires
-note-requires c κs = search needs
-
-enum-known-answer-2 : tie.Need-enum-known-answer-2
-enum-known-answer-2 c = search needs
-
-lateness-of-requires-2 : tie.Need-lateness-of-requires-2
-lateness-of-requires-2 c κs = search needs
-
-note-requires-2 : tie.Need-note-requires-2
-note-requires-2 c κs = search needs
-
 returns : tie.Need-returns
 returns c =
     let at-answer = c .before .before .before in
@@ -67,14 +49,5 @@ returns-3 c = noted-none (other (c .before .args .answer) (c .match .keys3))
 
 pub note-answer-spec : {M : Type 1} → statement M
 note-answer-spec =
-    tie.close
-    (tie.spec
-    enum-known-answer
-    lateness-of-requires
-    note-requires
-    enum-known-answer-2
-    lateness-of-requires-2
-    note-requires-2
-    returns
-    returns-2
-    returns-3)
+    tie.close (tie.spec (λ c. search needs) (λ c κs. search needs) (λ c κs. search needs) (λ c. search needs)
+    (λ c κs. search needs) (λ c κs. search needs) returns returns-2 returns-3)

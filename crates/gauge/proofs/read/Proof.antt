@@ -6,26 +6,17 @@ use Rattle.gauge.proofs.laws.Reading.{slow-refused, late-refused, limit
 use Rattle.gauge.proofs.read.Statement.{statement}
 use Rattle.gauge.proofs.read.Tie as tie
 
-is-limit-requires : tie.Need-is-limit-requires
-is-limit-requires c κs = search needs
-
 returns : tie.Need-returns
 returns c =
     let first = c .before in
     let a = first .before .args in
     slow-refused (a .g) (a .slow) (a .late) (not-false _ (sym (first .is-limit .ensures) ∙ not-true _ (c .if1 .taken)))
 
-is-limit-requires-2 : tie.Need-is-limit-requires-2
-is-limit-requires-2 c κs = search needs
-
 returns-2 : tie.Need-returns-2
 returns-2 c =
     let second = c .before in
     let a = second .before .before .before .args in
     late-refused (a .g) (a .slow) (a .late) (not-false _ (sym (second .is-limit2 .ensures) ∙ not-true _ (c .if2 .taken)))
-
-light-at-requires : tie.Need-light-at-requires
-light-at-requires c κs = search needs
 
 returns-3 : tie.Need-returns-3
 returns-3 c =
@@ -40,5 +31,5 @@ returns-3 c =
 
 pub read-spec : {M : Type 1} → statement M
 read-spec =
-    tie.close
-    (tie.spec is-limit-requires returns is-limit-requires-2 returns-2 light-at-requires returns-3)
+    tie.close (tie.spec (λ c κs. search needs) returns (λ c κs. search needs) returns-2 (λ c κs. search needs)
+    returns-3)

@@ -8,11 +8,5 @@ use Rattle.input.proofs.told.Tie as tie
 returns : tie.Need-returns
 returns c = ((omega arith, refl), λ h. absurd (omega (arith, h)))
 
-count-requires : tie.Need-count-requires
-count-requires c κs = search needs
-
-returns-2 : tie.Need-returns-2
-returns-2 c = search needs
-
 pub told-spec : {M : Type 1} → statement M
-told-spec = tie.close (tie.spec returns count-requires returns-2)
+told-spec = tie.close (tie.spec returns (λ c κs. search needs) (λ c. search needs))

@@ -13,23 +13,11 @@ to-inspect c = let a = c .before .before in a .before .before
 abbrev to-else : tie.After-inspect-line → tie.Else2
 to-else c = c .before .before .before
 
-at-end-requires : tie.Need-at-end-requires
-at-end-requires c κs = search needs
-
 returns : tie.Need-returns
 returns c = let t = c .if1 .taken in breaks-off (sym (c .before .at-end .ensures) ∙ not-true _ t)
 
 returns-2 : tie.Need-returns-2
 returns-2 c = let t = c .if2 .taken in closes-none _ t
-
-inspect-line-requires : tie.Need-inspect-line-requires
-inspect-line-requires c κs = search needs
-
-same-length : tie.Need-same-length
-same-length c = search needs
-
-same-length-2 : tie.Need-same-length-2
-same-length-2 c = search needs
 
 returns-3 : tie.Need-returns-3
 returns-3 c =
@@ -40,4 +28,6 @@ returns-3 c =
     closes-line _ ended (omega (arith, at-else .if2 .left)) (at-inspect .inspect-line .ensures)
 
 pub finish-spec : {M : Type 1} → statement M
-finish-spec = tie.close (tie.spec at-end-requires returns returns-2 inspect-line-requires same-length same-length-2 returns-3)
+finish-spec =
+    tie.close (tie.spec (λ c κs. search needs) returns returns-2 (λ c κs. search needs) (λ c. search needs)
+    (λ c. search needs) returns-3)

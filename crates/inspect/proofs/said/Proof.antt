@@ -6,25 +6,10 @@ use Rattle.inspect.proofs.laws.Writing.{said-whole, said-nothing}
 use Rattle.inspect.proofs.said.Statement.{statement}
 use Rattle.inspect.proofs.said.Tie as tie
 
-at-end-requires : tie.Need-at-end-requires
-at-end-requires c κs = search needs
-
-slice-aggregate-write-all : tie.Need-slice-aggregate-write-all
-slice-aggregate-write-all c = search needs
-
-write-all-requires : tie.Need-write-all-requires
-write-all-requires c κs = search needs
-
 returns : tie.Need-returns
 returns c =
     let at-then = c .before .before in
     said-nothing (sym (at-then .before .at-end .ensures) ∙ not-true _ (at-then .if1 .taken))
-
-text-requires : tie.Need-text-requires
-text-requires c κs = search needs
-
-same-length : tie.Need-same-length
-same-length c = search needs
 
 returns-2 : tie.Need-returns-2
 returns-2 c =
@@ -34,12 +19,5 @@ returns-2 c =
 
 pub said-spec : {M : Type 1} → statement M
 said-spec =
-    tie.close
-    (tie.spec
-    at-end-requires
-    slice-aggregate-write-all
-    write-all-requires
-    returns
-    text-requires
-    same-length
-    returns-2)
+    tie.close (tie.spec (λ c κs. search needs) (λ c. search needs) (λ c κs. search needs) returns (λ c κs. search needs)
+    (λ c. search needs) returns-2)

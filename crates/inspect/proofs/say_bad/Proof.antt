@@ -34,38 +34,11 @@ is-decimal c =
 length-is : (c : tie.After-decimal) → length (take (c .decimal .result) (c .decimal .last .1 .0)) ≡ c .decimal .result
 length-is c = simp length-take (omega (arith, c .decimal .ensures .0))
 
-decimal-requires : tie.Need-decimal-requires
-decimal-requires c κs = search needs
-
 add-if1 : tie.Need-add-if1
 add-if1 c = omega (arith, length-is c, at-most-20 _ (is-decimal c))
 
 returns : tie.Need-returns
 returns c = let d = c .before in bad-full _ (is-decimal d) (omega (arith, c .if1 .taken, length-is d))
-
-slice-aggregate-push : tie.Need-slice-aggregate-push
-slice-aggregate-push c = search needs
-
-push-requires : tie.Need-push-requires
-push-requires c κs = search needs
-
-array-share-prefix-digits : tie.Need-array-share-prefix-digits
-array-share-prefix-digits c = search needs
-
-slice-aggregate-push-2 : tie.Need-slice-aggregate-push-2
-slice-aggregate-push-2 c = search needs
-
-push-requires-2 : tie.Need-push-requires-2
-push-requires-2 c κs = search needs
-
-slice-aggregate-push-3 : tie.Need-slice-aggregate-push-3
-slice-aggregate-push-3 c = search needs
-
-push-requires-3 : tie.Need-push-requires-3
-push-requires-3 c κs = search needs
-
-same-length : tie.Need-same-length
-same-length c = search needs
 
 returns-2 : tie.Need-returns-2
 returns-2 c =
@@ -78,17 +51,6 @@ returns-2 c =
 
 pub say-bad-spec : {M : Type 1} → statement M
 say-bad-spec =
-    tie.close
-    (tie.spec
-    decimal-requires
-    add-if1
-    returns
-    slice-aggregate-push
-    push-requires
-    array-share-prefix-digits
-    slice-aggregate-push-2
-    push-requires-2
-    slice-aggregate-push-3
-    push-requires-3
-    same-length
-    returns-2)
+    tie.close (tie.spec (λ c κs. search needs) add-if1 returns (λ c. search needs) (λ c κs. search needs)
+    (λ c. search needs) (λ c. search needs) (λ c κs. search needs) (λ c. search needs) (λ c κs. search needs)
+    (λ c. search needs) returns-2)

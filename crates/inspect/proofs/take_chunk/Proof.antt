@@ -38,17 +38,11 @@ else-take-line c = c .before .before .before
 abbrev to-loop : tie.After-take-line Inv-loop μ-loop → tie.In-loop Inv-loop μ-loop
 to-loop c = c .before .before
 
-take-line-requires : tie.Need-take-line-requires Inv-loop μ-loop
-take-line-requires c κs = search needs
-
 slice-reshare-prefix-inspect-line : tie.Need-slice-reshare-prefix-inspect-line Inv-loop μ-loop
 slice-reshare-prefix-inspect-line c = let T = to-take-line (c .before .before) .take-line .ensures in omega (arith, T .fits, T .size)
 
 slice-aggregate-inspect-line : tie.Need-slice-aggregate-inspect-line Inv-loop μ-loop
 slice-aggregate-inspect-line c = let T = to-take-line (c .before .before .before) .take-line .ensures in simp length-take (omega (arith, T .fits, T .size))
-
-inspect-line-requires : tie.Need-inspect-line-requires Inv-loop μ-loop
-inspect-line-requires c κs = search needs
 
 loop-less : tie.Need-loop-less Inv-loop μ-loop
 loop-less c =
@@ -95,20 +89,6 @@ returns c = c .before .loop .inv .0 .then _ _ _ (used (omega (arith, c .loop-tes
 
 pub take-chunk-spec : {M : Type 1} → statement M
 take-chunk-spec =
-    tie.close
-    (tie.spec
-    Inv-loop
-    μ-loop
-    loop-holds
-    take-line-requires
-    slice-reshare-prefix-inspect-line
-    slice-aggregate-inspect-line
-    inspect-line-requires
-    loop-less
-    loop-again
-    loop-less-2
-    loop-again-2
-    same-length
-    same-length-2
-    same-length-3
-    returns)
+    tie.close (tie.spec Inv-loop μ-loop loop-holds (λ c κs. search needs) slice-reshare-prefix-inspect-line
+    slice-aggregate-inspect-line (λ c κs. search needs) loop-less loop-again loop-less-2 loop-again-2 same-length
+    same-length-2 same-length-3 returns)

@@ -5,18 +5,6 @@ use Rattle.inspector.proofs.laws.Reading.{here, nowhere}
 use Rattle.inspector.proofs.entry_of.Statement.{statement}
 use Rattle.inspector.proofs.entry_of.Tie as tie
 
-enum-known-fields : tie.Need-enum-known-fields
-enum-known-fields c = search needs
-
-enum-known-fields-2 : tie.Need-enum-known-fields-2
-enum-known-fields-2 c = search needs
-
-enum-known-fields-3 : tie.Need-enum-known-fields-3
-enum-known-fields-3 c = search needs
-
-enum-told : tie.Need-enum-told
-enum-told c = search needs
-
 returns : tie.Need-returns
 returns c = here (E.Remove _) (c .match2 .keys1) (c .before .before .fields .given .1)
 
@@ -46,18 +34,5 @@ returns-9 c = nowhere _ (c .enum-told .given .1) tt
 
 pub entry-of-spec : {M : Type 1} → statement M
 entry-of-spec =
-    tie.close
-    (tie.spec
-    enum-known-fields
-    enum-known-fields-2
-    enum-known-fields-3
-    enum-told
-    returns
-    returns-2
-    returns-3
-    returns-4
-    returns-5
-    returns-6
-    returns-7
-    returns-8
-    returns-9)
+    tie.close (tie.spec (λ c. search needs) (λ c. search needs) (λ c. search needs) (λ c. search needs) returns
+    returns-2 returns-3 returns-4 returns-5 returns-6 returns-7 returns-8 returns-9)

@@ -12,29 +12,11 @@ use Rattle.inspector.proofs.fields_behind.Tie as tie
 first : (c : tie.After-x2) → Begins (c .before .before .before .before .args .s .now) (S.Then (c .x2 .given .0 .0) (c .x2 .given .0 .1 .0))
 first c = rw (c .x2 .given .1) at (c .before .before .first-of .ensures)
 
-first-of-requires : tie.Need-first-of-requires
-first-of-requires c κs = search needs
-
-enum-known-x : tie.Need-enum-known-x
-enum-known-x c = search needs
-
-enum-known-x-2 : tie.Need-enum-known-x-2
-enum-known-x-2 c = search needs
-
 sub-second : tie.Need-sub-second
 sub-second c = first (c .before) .0
 
 part-second-start : tie.Need-part-second-start
 part-second-start c = let w = first (c .before) .0 in omega arith
-
-part-second-end : tie.Need-part-second-end
-part-second-end c = search needs
-
-second-requires : tie.Need-second-requires
-second-requires c κs = search needs
-
-enum-told : tie.Need-enum-told
-enum-told c = search needs
 
 returns : tie.Need-returns
 returns c = the-one (rw (c .before .x .given .1) at (c .before .before .before .first-of .ensures))
@@ -49,16 +31,5 @@ returns-3 c = no-first (rw (c .enum-told .given .1) at (c .before .before .first
 
 pub fields-behind-spec : {M : Type 1} → statement M
 fields-behind-spec =
-    tie.close
-    (tie.spec
-    first-of-requires
-    enum-known-x
-    enum-known-x-2
-    sub-second
-    part-second-start
-    part-second-end
-    second-requires
-    enum-told
-    returns
-    returns-2
-    returns-3)
+    tie.close (tie.spec (λ c κs. search needs) (λ c. search needs) (λ c. search needs) sub-second part-second-start
+    (λ c. search needs) (λ c κs. search needs) (λ c. search needs) returns returns-2 returns-3)

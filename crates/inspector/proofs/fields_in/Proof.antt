@@ -8,23 +8,8 @@ use Rattle.inspector.proofs.fields_in.Tie as tie
 returns : tie.Need-returns
 returns c = no-fields _ (c .if1 .taken)
 
-shared-slice-read-if2 : tie.Need-shared-slice-read-if2
-shared-slice-read-if2 c = search needs
-
 returns-2 : tie.Need-returns-2
 returns-2 c = no-space _ (c .if2 .taken)
-
-sub-fields-behind : tie.Need-sub-fields-behind
-sub-fields-behind c = search needs
-
-part-fields-behind-start : tie.Need-part-fields-behind-start
-part-fields-behind-start c = search needs
-
-part-fields-behind-end : tie.Need-part-fields-behind-end
-part-fields-behind-end c = search needs
-
-fields-behind-requires : tie.Need-fields-behind-requires
-fields-behind-requires c κs = search needs
 
 returns-3 : tie.Need-returns-3
 returns-3 c =
@@ -33,13 +18,5 @@ returns-3 c =
 
 pub fields-in-spec : {M : Type 1} → statement M
 fields-in-spec =
-    tie.close
-    (tie.spec
-    returns
-    shared-slice-read-if2
-    returns-2
-    sub-fields-behind
-    part-fields-behind-start
-    part-fields-behind-end
-    fields-behind-requires
-    returns-3)
+    tie.close (tie.spec returns (λ c. search needs) returns-2 (λ c. search needs) (λ c. search needs)
+    (λ c. search needs) (λ c κs. search needs) returns-3)

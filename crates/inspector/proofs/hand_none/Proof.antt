@@ -14,13 +14,10 @@ returns c =
     let d = c .before in
     none-due _ _ _ _ (d .before .before .before .pre) _ _ (d .none-due .ensures .no (not-true _ (c .if1 .taken)))
 
-later-requires : tie.Need-later-requires
-later-requires c κs = search needs
-
 returns-2 : tie.Need-returns-2
 returns-2 c =
     let d = c .before .before in
     none-done _ _ _ _ (d .before .before .before .pre) _ _ (d .none-due .ensures .yes (not-false _ (c .before .if1 .left))) _ (c .later .ensures)
 
 pub hand-none-spec : {M : Type 1} → statement M
-hand-none-spec = tie.close (tie.spec none-due-requires returns later-requires returns-2)
+hand-none-spec = tie.close (tie.spec none-due-requires returns (λ c κs. search needs) returns-2)

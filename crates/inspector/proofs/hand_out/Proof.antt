@@ -15,20 +15,8 @@ closed c = let a = c .before .before in a .before .before
 place-requires : tie.Need-place-requires
 place-requires c κs = let s = c .before .before .before in omega (arith, s .pre .few, s .pre .keys)
 
-same-length : tie.Need-same-length
-same-length c = search needs
-
 returns : tie.Need-returns
 returns c = let a = c .before in out-free _ _ _ _ (placed a .pre) _ _ (a .place .ensures) _ (c .if1 .taken)
-
-mul-d : tie.Need-mul-d
-mul-d c = search needs
-
-slice-read-d : tie.Need-slice-read-d
-slice-read-d c = search needs
-
-same-length-2 : tie.Need-same-length-2
-same-length-2 c = search needs
 
 returns-2 : tie.Need-returns-2
 returns-2 c =
@@ -36,36 +24,12 @@ returns-2 c =
     let a = e .before in
     out-early _ _ _ _ (placed a .pre) _ _ (a .place .ensures) _ (e .if1 .left) (c .if2 .taken)
 
-none-before-requires : tie.Need-none-before-requires
-none-before-requires c κs = search needs
-
-same-length-3 : tie.Need-same-length-3
-same-length-3 c = search needs
-
-same-length-4 : tie.Need-same-length-4
-same-length-4 c = search needs
-
 returns-3 : tie.Need-returns-3
 returns-3 c =
     let b = c .before in
     let e = b .before .before .before .before in
     let a = e .before in
     out-other _ _ _ _ (placed a .pre) _ _ (a .place .ensures) _ (e .if1 .left) (b .none-before .ensures .no (not-true _ (c .if3 .taken)))
-
-close-requires : tie.Need-close-requires
-close-requires c κs = search needs
-
-close-requires-2 : tie.Need-close-requires-2
-close-requires-2 c κs = search needs
-
-sub-t13 : tie.Need-sub-t13
-sub-t13 c = search needs
-
-same-length-5 : tie.Need-same-length-5
-same-length-5 c = search needs
-
-same-length-6 : tie.Need-same-length-6
-same-length-6 c = search needs
 
 returns-4 : tie.Need-returns-4
 returns-4 c =
@@ -81,22 +45,6 @@ returns-4 c =
 
 pub hand-out-spec : {M : Type 1} → statement M
 hand-out-spec =
-    tie.close
-    (tie.spec
-    place-requires
-    same-length
-    returns
-    mul-d
-    slice-read-d
-    same-length-2
-    returns-2
-    none-before-requires
-    same-length-3
-    same-length-4
-    returns-3
-    close-requires
-    close-requires-2
-    sub-t13
-    same-length-5
-    same-length-6
-    returns-4)
+    tie.close (tie.spec place-requires (λ c. search needs) returns (λ c. search needs) (λ c. search needs)
+    (λ c. search needs) returns-2 (λ c κs. search needs) (λ c. search needs) (λ c. search needs) returns-3
+    (λ c κs. search needs) (λ c κs. search needs) (λ c. search needs) (λ c. search needs) (λ c. search needs) returns-4)

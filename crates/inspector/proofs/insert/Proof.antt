@@ -11,41 +11,11 @@ placed c = let a = c .before .before in a .before .before
 place-requires : tie.Need-place-requires
 place-requires c κs = let s = c .before .before .before in omega (arith, s .pre .few, s .pre .keys)
 
-same-length : tie.Need-same-length
-same-length c = search needs
-
 returns : tie.Need-returns
 returns c = let a = c .before in insert-pending _ _ _ _ (placed a .pre) _ _ (a .place .ensures) _ _ (c .if1 .taken)
 
-same-length-2 : tie.Need-same-length-2
-same-length-2 c = search needs
-
 returns-2 : tie.Need-returns-2
 returns-2 c = let a = c .before .before in insert-full _ _ _ _ (placed a .pre) _ _ (a .place .ensures) _ _ (c .before .if1 .left) (c .if2 .taken)
-
-mul-keys : tie.Need-mul-keys
-mul-keys c = search needs
-
-slice-write-keys : tie.Need-slice-write-keys
-slice-write-keys c = search needs
-
-later-requires : tie.Need-later-requires
-later-requires c κs = search needs
-
-mul-deadlines : tie.Need-mul-deadlines
-mul-deadlines c = search needs
-
-slice-write-deadlines : tie.Need-slice-write-deadlines
-slice-write-deadlines c = search needs
-
-add-t12 : tie.Need-add-t12
-add-t12 c = search needs
-
-same-length-3 : tie.Need-same-length-3
-same-length-3 c = search needs
-
-same-length-4 : tie.Need-same-length-4
-same-length-4 c = search needs
 
 returns-3 : tie.Need-returns-3
 returns-3 c =
@@ -55,19 +25,6 @@ returns-3 c =
 
 pub insert-spec : {M : Type 1} → statement M
 insert-spec =
-    tie.close
-    (tie.spec
-    place-requires
-    same-length
-    returns
-    same-length-2
-    returns-2
-    mul-keys
-    slice-write-keys
-    later-requires
-    mul-deadlines
-    slice-write-deadlines
-    add-t12
-    same-length-3
-    same-length-4
-    returns-3)
+    tie.close (tie.spec place-requires (λ c. search needs) returns (λ c. search needs) returns-2 (λ c. search needs)
+    (λ c. search needs) (λ c κs. search needs) (λ c. search needs) (λ c. search needs) (λ c. search needs)
+    (λ c. search needs) (λ c. search needs) returns-3)

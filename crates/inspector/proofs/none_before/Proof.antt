@@ -8,15 +8,9 @@ use Rattle.inspector.proofs.none_before.Tie as tie
 returns : tie.Need-returns
 returns c = tells-yes (λ i h. omega arith)
 
-sub-none-due : tie.Need-sub-none-due
-sub-none-due c = search needs
-
-none-due-requires : tie.Need-none-due-requires
-none-due-requires c κs = search needs
-
 returns-2 : tie.Need-returns-2
 returns-2 c =
     tells-by (c .none-due .ensures) (λ f i h. omega (arith, f i h, c .before .if1 .left)) (λ f i h. omega (arith, f i h, c .before .if1 .left))
 
 pub none-before-spec : {M : Type 1} → statement M
-none-before-spec = tie.close (tie.spec returns sub-none-due none-due-requires returns-2)
+none-before-spec = tie.close (tie.spec returns (λ c. search needs) (λ c κs. search needs) returns-2)

@@ -14,26 +14,8 @@ closed c = let a = c .before .before in a .before .before
 place-requires : tie.Need-place-requires
 place-requires c κs = let s = c .before .before .before in omega (arith, s .pre .few, s .pre .keys)
 
-same-length : tie.Need-same-length
-same-length c = search needs
-
 returns : tie.Need-returns
 returns c = let a = c .before in remove-free _ _ _ _ (placed a .pre) _ _ (a .place .ensures) (c .if1 .taken)
-
-close-requires : tie.Need-close-requires
-close-requires c κs = search needs
-
-close-requires-2 : tie.Need-close-requires-2
-close-requires-2 c κs = search needs
-
-sub-t16 : tie.Need-sub-t16
-sub-t16 c = search needs
-
-same-length-2 : tie.Need-same-length-2
-same-length-2 c = search needs
-
-same-length-3 : tie.Need-same-length-3
-same-length-3 c = search needs
 
 returns-2 : tie.Need-returns-2
 returns-2 c =
@@ -44,14 +26,5 @@ returns-2 c =
 
 pub remove-spec : {M : Type 1} → statement M
 remove-spec =
-    tie.close
-    (tie.spec
-    place-requires
-    same-length
-    returns
-    close-requires
-    close-requires-2
-    sub-t16
-    same-length-2
-    same-length-3
-    returns-2)
+    tie.close (tie.spec place-requires (λ c. search needs) returns (λ c κs. search needs) (λ c κs. search needs)
+    (λ c. search needs) (λ c. search needs) (λ c. search needs) returns-2)

@@ -14,18 +14,6 @@ place-requires c κs = let s = c .before .before in omega (arith, s .pre .few, s
 returns : tie.Need-returns
 returns c = let a = c .before in reset-free _ _ _ _ (placed a .pre) _ _ (a .place .ensures) _ _ (c .if1 .taken)
 
-later-requires : tie.Need-later-requires
-later-requires c κs = search needs
-
-mul-deadlines : tie.Need-mul-deadlines
-mul-deadlines c = search needs
-
-slice-write-deadlines : tie.Need-slice-write-deadlines
-slice-write-deadlines c = search needs
-
-same-length : tie.Need-same-length
-same-length c = search needs
-
 returns-2 : tie.Need-returns-2
 returns-2 c =
     let a = c .before .before in
@@ -33,12 +21,5 @@ returns-2 c =
 
 pub reset-spec : {M : Type 1} → statement M
 reset-spec =
-    tie.close
-    (tie.spec
-    place-requires
-    returns
-    later-requires
-    mul-deadlines
-    slice-write-deadlines
-    same-length
-    returns-2)
+    tie.close (tie.spec place-requires returns (λ c κs. search needs) (λ c. search needs) (λ c. search needs)
+    (λ c. search needs) returns-2)

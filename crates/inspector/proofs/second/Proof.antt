@@ -6,20 +6,8 @@ use Rattle.inspector.proofs.laws.Reading.{second-dash, second-bad}
 use Rattle.inspector.proofs.second.Statement.{statement}
 use Rattle.inspector.proofs.second.Tie as tie
 
-shared-slice-read-if2 : tie.Need-shared-slice-read-if2
-shared-slice-read-if2 c = search needs
-
 returns : tie.Need-returns
 returns c = second-dash _ _ (c .before .before .if1 .taken) (c .if2 .taken)
-
-number-requires : tie.Need-number-requires
-number-requires c κs = search needs
-
-enum-known-x : tie.Need-enum-known-x
-enum-known-x c = search needs
-
-enum-told : tie.Need-enum-told
-enum-told c = search needs
 
 returns-2 : tie.Need-returns-2
 returns-2 c = (refl, rw (c .before .x .given .1) at (c .before .before .before .number .ensures))
@@ -33,12 +21,5 @@ returns-3 c =
 
 pub second-spec : {M : Type 1} → statement M
 second-spec =
-    tie.close
-    (tie.spec
-    shared-slice-read-if2
-    returns
-    number-requires
-    enum-known-x
-    enum-told
-    returns-2
-    returns-3)
+    tie.close (tie.spec (λ c. search needs) returns (λ c κs. search needs) (λ c. search needs) (λ c. search needs)
+    returns-2 returns-3)

@@ -17,57 +17,6 @@ to-step c =
     let a = c .before .before .before .before in
     a .before .before .before .before
 
-enum-known-step : tie.Need-enum-known-step
-enum-known-step c = search needs
-
-ask-requires : tie.Need-ask-requires
-ask-requires c κs = search needs
-
-note-requires : tie.Need-note-requires
-note-requires c κs = search needs
-
-enum-told : tie.Need-enum-told
-enum-told c = search needs
-
-patched-requires : tie.Need-patched-requires
-patched-requires c κs = search needs
-
-note-requires-2 : tie.Need-note-requires-2
-note-requires-2 c κs = search needs
-
-heads-of-requires : tie.Need-heads-of-requires
-heads-of-requires c κs = search needs
-
-enum-told-2 : tie.Need-enum-told-2
-enum-told-2 c = search needs
-
-patched-requires-2 : tie.Need-patched-requires-2
-patched-requires-2 c κs = search needs
-
-note-requires-3 : tie.Need-note-requires-3
-note-requires-3 c κs = search needs
-
-heads-of-requires-2 : tie.Need-heads-of-requires-2
-heads-of-requires-2 c κs = search needs
-
-same-length : tie.Need-same-length
-same-length c = search needs
-
-same-length-2 : tie.Need-same-length-2
-same-length-2 c = search needs
-
-same-length-3 : tie.Need-same-length-3
-same-length-3 c = search needs
-
-same-length-4 : tie.Need-same-length-4
-same-length-4 c = search needs
-
-same-length-5 : tie.Need-same-length-5
-same-length-5 c = search needs
-
-same-length-6 : tie.Need-same-length-6
-same-length-6 c = search needs
-
 returns : tie.Need-returns
 returns c =
     let a = to-ask c in
@@ -92,25 +41,7 @@ returns-3 c =
 
 pub act-spec : {M : Type 1} → statement M
 act-spec =
-    tie.close
-    (tie.spec
-    enum-known-step
-    ask-requires
-    note-requires
-    enum-told
-    patched-requires
-    note-requires-2
-    heads-of-requires
-    enum-told-2
-    patched-requires-2
-    note-requires-3
-    heads-of-requires-2
-    same-length
-    same-length-2
-    same-length-3
-    same-length-4
-    same-length-5
-    same-length-6
-    returns
-    returns-2
-    returns-3)
+    tie.close (tie.spec (λ c. search needs) (λ c κs. search needs) (λ c κs. search needs) (λ c. search needs)
+    (λ c κs. search needs) (λ c κs. search needs) (λ c κs. search needs) (λ c. search needs) (λ c κs. search needs)
+    (λ c κs. search needs) (λ c κs. search needs) (λ c. search needs) (λ c. search needs) (λ c. search needs)
+    (λ c. search needs) (λ c. search needs) (λ c. search needs) returns returns-2 returns-3)

@@ -5,19 +5,10 @@ use Rattle.journal.proofs.laws.Once.{note-none, note-some}
 use Rattle.journal.proofs.note.Statement.{statement}
 use Rattle.journal.proofs.note.Tie as tie
 
-is-unwritten-requires : tie.Need-is-unwritten-requires
-is-unwritten-requires c κs = search needs
-
-no-bytes-requires : tie.Need-no-bytes-requires
-no-bytes-requires c κs = search needs
-
 returns : tie.Need-returns
 returns c =
     let a = c .before .before .before .args in
     note-none (a .step) (a .answer) (sym (c .before .before .is-unwritten .ensures) ∙ c .before .if1 .taken) (c .no-bytes .ensures)
-
-bytes-of-requires : tie.Need-bytes-of-requires
-bytes-of-requires c κs = search needs
 
 returns-2 : tie.Need-returns-2
 returns-2 c =
@@ -25,6 +16,4 @@ returns-2 c =
     note-some (a .step) (a .answer) (sym (c .before .before .is-unwritten .ensures) ∙ c .before .if1 .left) (c .bytes-of .ensures)
 
 pub note-spec : {M : Type 1} → statement M
-note-spec =
-    tie.close
-    (tie.spec is-unwritten-requires no-bytes-requires returns bytes-of-requires returns-2)
+note-spec = tie.close (tie.spec (λ c κs. search needs) (λ c κs. search needs) returns (λ c κs. search needs) returns-2)

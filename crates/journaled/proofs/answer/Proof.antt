@@ -82,12 +82,6 @@ to-start c =
 loop-holds : tie.Need-loop-holds Inv-loop μ-loop
 loop-holds c = (omega (arith, to-begin c .pre), λ e. passes-none, refl, refl, refl, refl, refl, refl, refl, refl, refl)
 
-goes-requires : tie.Need-goes-requires Inv-loop μ-loop
-goes-requires c κs = search needs
-
-answer-lines-requires : tie.Need-answer-lines-requires Inv-loop μ-loop
-answer-lines-requires c κs = search needs
-
 settle-requires : tie.Need-settle-requires Inv-loop μ-loop
 settle-requires c κs =
     let w = feed-room (arg-lines c .answer-lines .ensures) (omega arith, omega arith) in
@@ -157,23 +151,6 @@ returns c = let I = c .before .before .loop .inv in (I .0, λ e. calls-used _ (u
 
 pub answer-spec : {M : Type 1} → statement M
 answer-spec =
-    tie.close
-    (tie.spec
-    Inv-loop
-    μ-loop
-    loop-holds
-    goes-requires
-    answer-lines-requires
-    settle-requires
-    loop-less
-    loop-again
-    same-length
-    same-length-2
-    same-length-3
-    same-length-4
-    same-length-5
-    same-length-6
-    same-length-7
-    same-length-8
-    same-length-9
-    returns)
+    tie.close (tie.spec Inv-loop μ-loop loop-holds (λ c κs. search needs) (λ c κs. search needs) settle-requires
+    loop-less loop-again same-length same-length-2 same-length-3 same-length-4 same-length-5 same-length-6 same-length-7
+    same-length-8 same-length-9 returns)

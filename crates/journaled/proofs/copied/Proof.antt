@@ -32,45 +32,9 @@ within c =
     let I = to-loop r .loop .inv in
     chunk-within (I .1) (c .count .ensures) (omega (arith, r .more-from .ensures .0, I .0)) (r .more-from .ensures .2)
 
-large-buffer-requires : tie.Need-large-buffer-requires Inv-loop μ-loop
-large-buffer-requires c κs = search needs
-
-loop-holds : tie.Need-loop-holds Inv-loop μ-loop
-loop-holds c = search needs
-
-slice-aggregate-more-from : tie.Need-slice-aggregate-more-from Inv-loop μ-loop
-slice-aggregate-more-from c = search needs
-
-more-from-requires : tie.Need-more-from-requires Inv-loop μ-loop
-more-from-requires c κs = search needs
-
-count-requires : tie.Need-count-requires Inv-loop μ-loop
-count-requires c κs = search needs
-
-at-end-requires : tie.Need-at-end-requires Inv-loop μ-loop
-at-end-requires c κs = search needs
-
-fsync-requires : tie.Need-fsync-requires Inv-loop μ-loop
-fsync-requires c κs = search needs
-
-returns : tie.Need-returns Inv-loop μ-loop
-returns c = search needs
-
-returns-2 : tie.Need-returns-2 Inv-loop μ-loop
-returns-2 c = search needs
-
-array-share-prefix-buf : tie.Need-array-share-prefix-buf Inv-loop μ-loop
-array-share-prefix-buf c = search needs
-
 slice-aggregate-write-all : tie.Need-slice-aggregate-write-all Inv-loop μ-loop
 slice-aggregate-write-all c =
     let n = c .before .before in simp length-take (omega (arith, n .count .ensures, to-read n .more-from .ensures .0))
-
-write-all-requires : tie.Need-write-all-requires Inv-loop μ-loop
-write-all-requires c κs = search needs
-
-returns-3 : tie.Need-returns-3 Inv-loop μ-loop
-returns-3 c = search needs
 
 add-at : tie.Need-add-at Inv-loop μ-loop
 add-at c = omega (arith, within (to-count (c .before)))
@@ -85,23 +49,7 @@ loop-again c = (search needs, omega (arith, within (to-count (c .before))))
 
 pub copied-spec : {M : Type 1} → statement M
 copied-spec =
-    tie.close
-    (tie.spec
-    Inv-loop
-    μ-loop
-    large-buffer-requires
-    loop-holds
-    slice-aggregate-more-from
-    more-from-requires
-    count-requires
-    at-end-requires
-    fsync-requires
-    returns
-    returns-2
-    array-share-prefix-buf
-    slice-aggregate-write-all
-    write-all-requires
-    returns-3
-    add-at
-    loop-less
-    loop-again)
+    tie.close (tie.spec Inv-loop μ-loop (λ c κs. search needs) (λ c. search needs) (λ c. search needs)
+    (λ c κs. search needs) (λ c κs. search needs) (λ c κs. search needs) (λ c κs. search needs) (λ c. search needs)
+    (λ c. search needs) (λ c. search needs) slice-aggregate-write-all (λ c κs. search needs) (λ c. search needs) add-at
+    loop-less loop-again)

@@ -53,15 +53,6 @@ to-start c =
 abbrev failed : tie.After-write-all → tie.Then1
 failed c = c .before .before
 
-at-end-requires : tie.Need-at-end-requires
-at-end-requires c κs = search needs
-
-slice-aggregate-write-all : tie.Need-slice-aggregate-write-all
-slice-aggregate-write-all c = search needs
-
-write-all-requires : tie.Need-write-all-requires
-write-all-requires c κs = search needs
-
 returns : tie.Need-returns
 returns c =
     λ e.
@@ -71,38 +62,11 @@ returns c =
 slice-aggregate-answer-last : tie.Need-slice-aggregate-answer-last
 slice-aggregate-answer-last c = simp length-take (omega (arith, arg-start c .pre))
 
-answer-last-requires : tie.Need-answer-last-requires
-answer-last-requires c κs = search needs
-
 settle-requires : tie.Need-settle-requires
 settle-requires c κs =
     let A = to-last c .answer-last in
     let w = last-room (A .ensures) (omega arith, omega arith) in
     (omega (arith, w .0), omega (arith, w .1))
-
-same-length : tie.Need-same-length
-same-length c = search needs
-
-same-length-2 : tie.Need-same-length-2
-same-length-2 c = search needs
-
-same-length-3 : tie.Need-same-length-3
-same-length-3 c = search needs
-
-same-length-4 : tie.Need-same-length-4
-same-length-4 c = search needs
-
-same-length-5 : tie.Need-same-length-5
-same-length-5 c = search needs
-
-same-length-6 : tie.Need-same-length-6
-same-length-6 c = search needs
-
-same-length-7 : tie.Need-same-length-7
-same-length-7 c = search needs
-
-same-length-8 : tie.Need-same-length-8
-same-length-8 c = search needs
 
 returns-2 : tie.Need-returns-2
 returns-2 c =
@@ -118,21 +82,7 @@ returns-2 c =
 
 pub finish-spec : {M : Type 1} → statement M
 finish-spec =
-    tie.close
-    (tie.spec
-    at-end-requires
-    slice-aggregate-write-all
-    write-all-requires
-    returns
-    slice-aggregate-answer-last
-    answer-last-requires
-    settle-requires
-    same-length
-    same-length-2
-    same-length-3
-    same-length-4
-    same-length-5
-    same-length-6
-    same-length-7
-    same-length-8
-    returns-2)
+    tie.close (tie.spec (λ c κs. search needs) (λ c. search needs) (λ c κs. search needs) returns
+    slice-aggregate-answer-last (λ c κs. search needs) settle-requires (λ c. search needs) (λ c. search needs)
+    (λ c. search needs) (λ c. search needs) (λ c. search needs) (λ c. search needs) (λ c. search needs)
+    (λ c. search needs) returns-2)

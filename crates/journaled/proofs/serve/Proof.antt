@@ -109,26 +109,8 @@ to-start c =
     let b = a .before .before .before .before in
     b .before .before .before
 
-buffer-requires : tie.Need-buffer-requires Inv-loop μ-loop
-buffer-requires c κs = search needs
-
 loop-holds : tie.Need-loop-holds Inv-loop μ-loop
 loop-holds c = (omega (arith, to-begin c .pre), search needs, refl, refl, refl, refl, refl, refl, refl, refl, refl, reads-none)
-
-slice-aggregate-more : tie.Need-slice-aggregate-more Inv-loop μ-loop
-slice-aggregate-more c = search needs
-
-more-requires : tie.Need-more-requires Inv-loop μ-loop
-more-requires c κs = search needs
-
-count-requires : tie.Need-count-requires Inv-loop μ-loop
-count-requires c κs = search needs
-
-finish-requires : tie.Need-finish-requires Inv-loop μ-loop
-finish-requires c κs = search needs
-
-comes-to-requires : tie.Need-comes-to-requires Inv-loop μ-loop
-comes-to-requires c κs = search needs
 
 same-length : tie.Need-same-length Inv-loop μ-loop
 same-length c = to-loop (at-end (to-finish c)) .loop .inv .2
@@ -165,16 +147,10 @@ returns c =
     rw (c .comes-to .ensures)
     (λ e. ran (I .11) (simp length-take (omega (arith, I .0, I .2, to-start at-loop .pre))) (at-finish .finish .ensures e))
 
-array-share-prefix-buf : tie.Need-array-share-prefix-buf Inv-loop μ-loop
-array-share-prefix-buf c = search needs
-
 slice-aggregate-answer : tie.Need-slice-aggregate-answer Inv-loop μ-loop
 slice-aggregate-answer c =
     let at-count = c .before .before in
     simp length-take (omega (arith, at-count .count .ensures, at-count .before .before .more .ensures .0 .0))
-
-answer-requires : tie.Need-answer-requires Inv-loop μ-loop
-answer-requires c κs = search needs
 
 add-bytes : tie.Need-add-bytes Inv-loop μ-loop
 add-bytes c =
@@ -182,9 +158,6 @@ add-bytes c =
     let few = at-count .before .before .more in
     let at-loop = to-loop at-count in
     omega (arith, at-count .before .before .before .before .loop-test .taken, at-count .count .ensures, few .ensures .0 .0, few .kept .0, at-loop .loop .inv .1)
-
-comes-to-requires-2 : tie.Need-comes-to-requires-2 Inv-loop μ-loop
-comes-to-requires-2 c κs = search needs
 
 same-length-10 : tie.Need-same-length-10 Inv-loop μ-loop
 same-length-10 c = let at-answer = wrote c in at-answer .answer .kept .1 .0 ∙ to-loop (to-count at-answer) .loop .inv .2
@@ -245,12 +218,6 @@ loop-again c =
           (simp length-take (omega (arith, at-count .count .ensures, got .ensures .0 .0))),
     )
 
-nothing-requires : tie.Need-nothing-requires Inv-loop μ-loop
-nothing-requires c κs = search needs
-
-comes-to-requires-3 : tie.Need-comes-to-requires-3 Inv-loop μ-loop
-comes-to-requires-3 c κs = search needs
-
 same-length-19 : tie.Need-same-length-19 Inv-loop μ-loop
 same-length-19 c = past c .loop .inv .2
 
@@ -287,53 +254,10 @@ returns-3 c =
 
 pub serve-spec : {M : Type 1} → statement M
 serve-spec =
-    tie.close
-    (tie.spec
-    Inv-loop
-    μ-loop
-    buffer-requires
-    loop-holds
-    slice-aggregate-more
-    more-requires
-    count-requires
-    finish-requires
-    comes-to-requires
-    same-length
-    same-length-2
-    same-length-3
-    same-length-4
-    same-length-5
-    same-length-6
-    same-length-7
-    same-length-8
-    same-length-9
-    returns
-    array-share-prefix-buf
-    slice-aggregate-answer
-    answer-requires
-    add-bytes
-    comes-to-requires-2
-    same-length-10
-    same-length-11
-    same-length-12
-    same-length-13
-    same-length-14
-    same-length-15
-    same-length-16
-    same-length-17
-    same-length-18
-    returns-2
-    loop-less
-    loop-again
-    nothing-requires
-    comes-to-requires-3
-    same-length-19
-    same-length-20
-    same-length-21
-    same-length-22
-    same-length-23
-    same-length-24
-    same-length-25
-    same-length-26
-    same-length-27
-    returns-3)
+    tie.close (tie.spec Inv-loop μ-loop (λ c κs. search needs) loop-holds (λ c. search needs) (λ c κs. search needs)
+    (λ c κs. search needs) (λ c κs. search needs) (λ c κs. search needs) same-length same-length-2 same-length-3
+    same-length-4 same-length-5 same-length-6 same-length-7 same-length-8 same-length-9 returns (λ c. search needs)
+    slice-aggregate-answer (λ c κs. search needs) add-bytes (λ c κs. search needs) same-length-10 same-length-11
+    same-length-12 same-length-13 same-length-14 same-length-15 same-length-16 same-length-17 same-length-18 returns-2
+    loop-less loop-again (λ c κs. search needs) (λ c κs. search needs) same-length-19 same-length-20 same-length-21
+    same-length-22 same-length-23 same-length-24 same-length-25 same-length-26 same-length-27 returns-3)

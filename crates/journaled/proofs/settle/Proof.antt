@@ -26,15 +26,6 @@ to-start c = c .before .before .before .before
 slice-aggregate-keep : tie.Need-slice-aggregate-keep
 slice-aggregate-keep c = simp length-take (omega (arith, arg-start c .pre))
 
-keep-requires : tie.Need-keep-requires
-keep-requires c κs = search needs
-
-slice-aggregate-write-all : tie.Need-slice-aggregate-write-all
-slice-aggregate-write-all c = search needs
-
-write-all-requires : tie.Need-write-all-requires
-write-all-requires c κs = search needs
-
 returns : tie.Need-returns
 returns c = λ e. absurd (false≢true e)
 
@@ -48,12 +39,6 @@ say-requires c κs =
     let start = to-start at-keep in
     omega (arith, front-kept (start .args .notes .now) (at-keep .keep .ensures) (not-false _ (at-else .if1 .left)) (start .pre .0))
 
-slice-aggregate-write-all-2 : tie.Need-slice-aggregate-write-all-2
-slice-aggregate-write-all-2 c = search needs
-
-write-all-requires-2 : tie.Need-write-all-requires-2
-write-all-requires-2 c κs = search needs
-
 returns-2 : tie.Need-returns-2
 returns-2 c = λ e. absurd (false≢true e)
 
@@ -66,16 +51,5 @@ returns-3 c =
 
 pub settle-spec : {M : Type 1} → statement M
 settle-spec =
-    tie.close
-    (tie.spec
-    slice-aggregate-keep
-    keep-requires
-    slice-aggregate-write-all
-    write-all-requires
-    returns
-    slice-aggregate-say
-    say-requires
-    slice-aggregate-write-all-2
-    write-all-requires-2
-    returns-2
-    returns-3)
+    tie.close (tie.spec slice-aggregate-keep (λ c κs. search needs) (λ c. search needs) (λ c κs. search needs) returns
+    slice-aggregate-say say-requires (λ c. search needs) (λ c κs. search needs) returns-2 returns-3)

@@ -16,9 +16,6 @@ leveled c =
 returns : tie.Need-returns
 returns c = tells-no (λ H. omega (arith, H .below, c .if1 .taken))
 
-level-of-requires : tie.Need-level-of-requires
-level-of-requires c κs = search needs
-
 returns-2 : tie.Need-returns-2
 returns-2 c = tells-no (λ H. omega (arith, H .high, c .before .level-of .ensures, c .if2 .taken))
 
@@ -28,14 +25,8 @@ head-of-requires c κs = omega (arith, c .before .before .if1 .left)
 returns-3 : tie.Need-returns-3
 returns-3 c = tells-no (λ H. H .filled (sym (c .before .head-of .ensures) ∙ c .if3 .taken))
 
-head-of-requires-2 : tie.Need-head-of-requires-2
-head-of-requires-2 c κs = search needs
-
 returns-4 : tie.Need-returns-4
 returns-4 c = tells-no (λ H. c .if4 .taken (c .before .head-of2 .ensures ∙ H .expired))
-
-block-over-requires : tie.Need-block-over-requires
-block-over-requires c κs = search needs
 
 returns-5 : tie.Need-returns-5
 returns-5 c =
@@ -48,9 +39,6 @@ returns-5 c =
     subst (Tells _) (sym (c .block-over .ensures))
     (hold-parking (omega (arith, e .if1 .left)) (λ w. k .if2 .left (l .level-of .ensures ∙ w))
     (λ w. h .if3 .left (h .before .head-of .ensures ∙ w)) (sym (f .before .head-of2 .ensures) ∙ f .if4 .left) (q .if5 .taken))
-
-slot-of-requires : tie.Need-slot-of-requires
-slot-of-requires c κs = search needs
 
 slot-start-requires : tie.Need-slot-start-requires
 slot-start-requires c κs =
@@ -65,9 +53,6 @@ returns-6 c =
     let l = leveled (q .before) in
     let z = start-of _ _ (q .if5 .left) (l .level-of .ensures) (s .before .slot-of .ensures) (s .slot-start .ensures) in
     tells-no (λ H. omega (arith, H .due, z, c .if6 .taken))
-
-head-of-requires-3 : tie.Need-head-of-requires-3
-head-of-requires-3 c κs = search needs
 
 is-own-requires : tie.Need-is-own-requires
 is-own-requires c κs =
@@ -109,21 +94,6 @@ returns-8 c =
 
 pub can-hold-spec : {M : Type 1} → statement M
 can-hold-spec =
-    tie.close
-    (tie.spec
-    returns
-    level-of-requires
-    returns-2
-    head-of-requires
-    returns-3
-    head-of-requires-2
-    returns-4
-    block-over-requires
-    returns-5
-    slot-of-requires
-    slot-start-requires
-    returns-6
-    head-of-requires-3
-    is-own-requires
-    returns-7
-    returns-8)
+    tie.close (tie.spec returns (λ c κs. search needs) returns-2 head-of-requires returns-3 (λ c κs. search needs)
+    returns-4 (λ c κs. search needs) returns-5 (λ c κs. search needs) slot-start-requires returns-6
+    (λ c κs. search needs) is-own-requires returns-7 returns-8)

@@ -5,9 +5,6 @@ use Rattle.contracts.proofs.laws.Tells.{tells-no, tells-le, tells-by}
 use Rattle.judge.proofs.has_room.Statement.{statement}
 use Rattle.judge.proofs.has_room.Tie as tie
 
-mul-if1 : tie.Need-mul-if1
-mul-if1 c = search needs
-
 returns : tie.Need-returns
 returns c = tells-no (λ R. omega (arith, R .values))
 
@@ -36,4 +33,4 @@ returns-6 c =
     (λ R. R .links .marks)
 
 pub has-room-spec : {M : Type 1} → statement M
-has-room-spec = tie.close (tie.spec mul-if1 returns returns-2 returns-3 returns-4 returns-5 returns-6)
+has-room-spec = tie.close (tie.spec (λ c. search needs) returns returns-2 returns-3 returns-4 returns-5 returns-6)

@@ -8,20 +8,11 @@ use Rattle.judge.proofs.laws.Judge.{own-block, own-told, own-top}
 use Rattle.judge.proofs.is_own.Statement.{statement}
 use Rattle.judge.proofs.is_own.Tie as tie
 
-add-if1 : tie.Need-add-if1
-add-if1 c = search needs
-
-rem-if1 : tie.Need-rem-if1
-rem-if1 c = search needs
-
 returns : tie.Need-returns
 returns c = tells-no (λ o. omega (arith, c .if2 .taken, o .1 (c .before .if1 .taken) .0))
 
 returns-2 : tie.Need-returns-2
 returns-2 c = own-block (c .before .before .pre) (c .before .if1 .taken) (c .if2 .left)
-
-add-above : tie.Need-add-above
-add-above c = search needs
 
 returns-3 : tie.Need-returns-3
 returns-3 c = tells-no (own-top _ (omega arith) (c .if3 .taken) (c .before .if1 .left))
@@ -37,14 +28,5 @@ returns-4 c = own-told _ (omega arith) (c .before .before .if1 .left) (c .slot-r
 
 pub is-own-spec : {M : Type 1} → statement M
 is-own-spec =
-    tie.close
-    (tie.spec
-    add-if1
-    rem-if1
-    returns
-    returns-2
-    add-above
-    returns-3
-    slot-range-requires
-    rem-result
-    returns-4)
+    tie.close (tie.spec (λ c. search needs) (λ c. search needs) returns returns-2 (λ c. search needs) returns-3
+    slot-range-requires rem-result returns-4)

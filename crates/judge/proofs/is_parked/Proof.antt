@@ -6,17 +6,11 @@ use Rattle.judge.proofs.laws.Judge.{parked-hand, parked-aside}
 use Rattle.judge.proofs.is_parked.Statement.{statement}
 use Rattle.judge.proofs.is_parked.Tie as tie
 
-same-block-requires : tie.Need-same-block-requires
-same-block-requires c κs = search needs
-
 returns : tie.Need-returns
 returns c = subst (Tells _) (sym (c .same-block .ensures)) (parked-hand (c .before .if1 .taken))
-
-next-block-requires : tie.Need-next-block-requires
-next-block-requires c κs = search needs
 
 returns-2 : tie.Need-returns-2
 returns-2 c = subst (Tells _) (sym (c .next-block .ensures)) (parked-aside (c .before .if1 .left))
 
 pub is-parked-spec : {M : Type 1} → statement M
-is-parked-spec = tie.close (tie.spec same-block-requires returns next-block-requires returns-2)
+is-parked-spec = tie.close (tie.spec (λ c κs. search needs) returns (λ c κs. search needs) returns-2)

@@ -16,9 +16,6 @@ returns c = tells-no (λ o. omega (arith, o .late))
 abbrev entered : tie.After-level-for → tie.Start
 entered c = c .before .before .before .before
 
-same-block-requires : tie.Need-same-block-requires
-same-block-requires c κs = search needs
-
 returns-2 : tie.Need-returns-2
 returns-2 c =
     tells-no (λ o. eqb-false _ _ (sym (c .before .same-block .ensures) ∙ not-true _ (c .if2 .taken)) (o .near))
@@ -53,9 +50,6 @@ returns-4 c =
     place-hand (b .before .if1 .left) (eqb-true _ _ (sym (b .same-block .ensures) ∙ not-false _ (l .before .if2 .left)))
     (l .level-for .ensures) (c .before .if3 .left) (c .if4 .taken)
 
-slot-for-requires-2 : tie.Need-slot-for-requires-2
-slot-for-requires-2 c κs = search needs
-
 slot-place-requires-2 : tie.Need-slot-place-requires-2
 slot-place-requires-2 c κs =
     let start = entered (c .before .before .before) in
@@ -71,16 +65,5 @@ returns-5 c =
 
 pub is-place-spec : {M : Type 1} → statement M
 is-place-spec =
-    tie.close
-    (tie.spec
-    returns
-    same-block-requires
-    returns-2
-    level-for-requires
-    slot-for-requires
-    slot-place-requires
-    returns-3
-    returns-4
-    slot-for-requires-2
-    slot-place-requires-2
-    returns-5)
+    tie.close (tie.spec returns (λ c κs. search needs) returns-2 level-for-requires slot-for-requires
+    slot-place-requires returns-3 returns-4 (λ c κs. search needs) slot-place-requires-2 returns-5)

@@ -30,14 +30,8 @@ roomed c =
 returns : tie.Need-returns
 returns c = tells-no (λ S. omega (arith, S .standing .fits .some))
 
-has-room-requires : tie.Need-has-room-requires
-has-room-requires c κs = search needs
-
 returns-2 : tie.Need-returns-2
 returns-2 c = tells-no (λ S. c .before .has-room .ensures .no (not-true _ (c .if2 .taken)) (S .standing .fits .room))
-
-tops-in-requires : tie.Need-tops-in-requires
-tops-in-requires c κs = search needs
 
 is-whole-requires : tie.Need-is-whole-requires
 is-whole-requires c κs =
@@ -78,12 +72,9 @@ returns-5 c =
       room = e .before .has-room .ensures .yes (not-false _ (e .if2 .left));
     })
     (tells-whole (lent (w .before) .tops-in .ensures) (w .is-whole .ensures) .yes (not-false _ (g .before .if3 .left))) _ (g .if4 .taken) (g .if4 .taken)
-        (u .if5 .left) (c .records-agree .ensures)
+    (u .if5 .left) (c .records-agree .ensures)
 
 -- a poll is in hand
-
-can-hold-requires : tie.Need-can-hold-requires
-can-hold-requires c κs = search needs
 
 returns-6 : tie.Need-returns-6
 returns-6 c =
@@ -91,9 +82,6 @@ returns-6 c =
     tells-no (λ S.
     tells-hold (lent (held h) .tops-in .ensures) _ (h .can-hold .ensures) .no (not-true _ (c .if6 .taken))
     (sound-judged S .mid (h .before .before .before .if4 .left) .0))
-
-level-of-requires : tie.Need-level-of-requires
-level-of-requires c κs = search needs
 
 list-start-requires : tie.Need-list-start-requires
 list-start-requires c κs =
@@ -136,21 +124,6 @@ returns-7 c =
 
 pub is-sound-spec : {M : Type 1} → statement M
 is-sound-spec =
-    tie.close
-    (tie.spec
-    returns
-    has-room-requires
-    returns-2
-    tops-in-requires
-    is-whole-requires
-    returns-3
-    returns-4
-    records-agree-requires
-    returns-5
-    can-hold-requires
-    returns-6
-    level-of-requires
-    list-start-requires
-    sub-records-agree
-    records-agree-requires-2
-    returns-7)
+    tie.close (tie.spec returns (λ c κs. search needs) returns-2 (λ c κs. search needs) is-whole-requires returns-3
+    returns-4 records-agree-requires returns-5 (λ c κs. search needs) returns-6 (λ c κs. search needs)
+    list-start-requires sub-records-agree records-agree-requires-2 returns-7)

@@ -13,19 +13,10 @@ returns c = tells-no (λ R. omega (arith, R .some))
 returns-2 : tie.Need-returns-2
 returns-2 c = tells-no (λ R. omega (arith, R .last))
 
-is-slot-requires : tie.Need-is-slot-requires
-is-slot-requires c κs = search needs
-
-is-place-requires : tie.Need-is-place-requires
-is-place-requires c κs = search needs
-
 returns-3 : tie.Need-returns-3
 returns-3 c =
     let s = c .before .before in
     record-slot (s .before .before .if1 .left) (s .before .if2 .left) (below (s .is-slot .ensures) (c .before .if3 .taken)) (c .is-place .ensures)
-
-is-parked-requires : tie.Need-is-parked-requires
-is-parked-requires c κs = search needs
 
 returns-4 : tie.Need-returns-4
 returns-4 c =
@@ -51,5 +42,5 @@ returns-7 c =
 
 pub record-agrees-spec : {M : Type 1} → statement M
 record-agrees-spec =
-    tie.close
-    (tie.spec returns returns-2 is-slot-requires is-place-requires returns-3 is-parked-requires returns-4 returns-5 returns-6 returns-7)
+    tie.close (tie.spec returns returns-2 (λ c κs. search needs) (λ c κs. search needs) returns-3 (λ c κs. search needs)
+    returns-4 returns-5 returns-6 returns-7)

@@ -24,39 +24,9 @@ to-start c = c .before .before .before .before
 loop-holds : tie.Need-loop-holds Inv-loop μ-loop
 loop-holds c = (omega arith, λ i h. absurd (omega arith))
 
-cast-k : tie.Need-cast-k Inv-loop μ-loop
-cast-k c = search needs
-
-mul-record-agrees : tie.Need-mul-record-agrees Inv-loop μ-loop
-mul-record-agrees c = search needs
-
-shared-slice-read-record-agrees : tie.Need-shared-slice-read-record-agrees Inv-loop μ-loop
-shared-slice-read-record-agrees c = search needs
-
-mul-record-agrees-2 : tie.Need-mul-record-agrees-2 Inv-loop μ-loop
-mul-record-agrees-2 c = search needs
-
-shared-slice-read-record-agrees-2 : tie.Need-shared-slice-read-record-agrees-2 Inv-loop μ-loop
-shared-slice-read-record-agrees-2 c = search needs
-
-mul-record-agrees-3 : tie.Need-mul-record-agrees-3 Inv-loop μ-loop
-mul-record-agrees-3 c = search needs
-
-shared-slice-read-record-agrees-3 : tie.Need-shared-slice-read-record-agrees-3 Inv-loop μ-loop
-shared-slice-read-record-agrees-3 c = search needs
-
-record-agrees-requires : tie.Need-record-agrees-requires Inv-loop μ-loop
-record-agrees-requires c κs = search needs
-
 returns : tie.Need-returns Inv-loop μ-loop
 returns c =
     tells-no (λ R. c .before .record-agrees .ensures .no (not-true _ (c .if1 .taken)) (R _ (to-in-loop (c .before) .loop-test .taken)))
-
-add-i : tie.Need-add-i Inv-loop μ-loop
-add-i c = search needs
-
-loop-less : tie.Need-loop-less Inv-loop μ-loop
-loop-less c = search needs
 
 loop-again : tie.Need-loop-again Inv-loop μ-loop
 loop-again c =
@@ -72,21 +42,6 @@ returns-2 c = tells-yes (λ i h. c .before .loop .inv .1 i (omega (arith, h)))
 
 pub records-agree-spec : {M : Type 1} → statement M
 records-agree-spec =
-    tie.close
-    (tie.spec
-    Inv-loop
-    μ-loop
-    loop-holds
-    cast-k
-    mul-record-agrees
-    shared-slice-read-record-agrees
-    mul-record-agrees-2
-    shared-slice-read-record-agrees-2
-    mul-record-agrees-3
-    shared-slice-read-record-agrees-3
-    record-agrees-requires
-    returns
-    add-i
-    loop-less
-    loop-again
-    returns-2)
+    tie.close (tie.spec Inv-loop μ-loop loop-holds (λ c. search needs) (λ c. search needs) (λ c. search needs)
+    (λ c. search needs) (λ c. search needs) (λ c. search needs) (λ c. search needs) (λ c κs. search needs) returns
+    (λ c. search needs) (λ c. search needs) loop-again returns-2)

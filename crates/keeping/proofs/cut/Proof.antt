@@ -8,17 +8,8 @@ use Rattle.keeping.proofs.cut.Tie as tie
 returns : tie.Need-returns
 returns c = keeps-none
 
-cast-ftruncate : tie.Need-cast-ftruncate
-cast-ftruncate c = search needs
-
-ftruncate-requires : tie.Need-ftruncate-requires
-ftruncate-requires c κs = search needs
-
 returns-2 : tie.Need-returns-2
 returns-2 c = keeps-none
-
-fsync-requires : tie.Need-fsync-requires
-fsync-requires c κs = search needs
 
 returns-3 : tie.Need-returns-3
 returns-3 c = keeps-none
@@ -28,12 +19,5 @@ returns-4 c = keeps-all (omega arith)
 
 pub cut-spec : {M : Type 1} → statement M
 cut-spec =
-    tie.close
-    (tie.spec
-    returns
-    cast-ftruncate
-    ftruncate-requires
-    returns-2
-    fsync-requires
-    returns-3
+    tie.close (tie.spec returns (λ c. search needs) (λ c κs. search needs) returns-2 (λ c κs. search needs) returns-3
     returns-4)

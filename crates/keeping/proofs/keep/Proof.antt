@@ -14,34 +14,16 @@ returns-2 c = keeps-none
 returns-3 : tie.Need-returns-3
 returns-3 c = keeps-none
 
-write-at-requires : tie.Need-write-at-requires
-write-at-requires c κs = search needs
-
 returns-4 : tie.Need-returns-4
 returns-4 c = keeps-none
 
-fdatasync-requires : tie.Need-fdatasync-requires
-fdatasync-requires c κs = search needs
-
 returns-5 : tie.Need-returns-5
 returns-5 c = keeps-none
-
-add-t9 : tie.Need-add-t9
-add-t9 c = search needs
 
 returns-6 : tie.Need-returns-6
 returns-6 c = keeps-all (omega arith)
 
 pub keep-spec : {M : Type 1} → statement M
 keep-spec =
-    tie.close
-    (tie.spec
-    returns
-    returns-2
-    returns-3
-    write-at-requires
-    returns-4
-    fdatasync-requires
-    returns-5
-    add-t9
-    returns-6)
+    tie.close (tie.spec returns returns-2 returns-3 (λ c κs. search needs) returns-4 (λ c κs. search needs) returns-5
+    (λ c. search needs) returns-6)

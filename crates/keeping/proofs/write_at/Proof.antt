@@ -35,35 +35,14 @@ loop-holds c = omega arith
 sub-pwrite : tie.Need-sub-pwrite Inv-loop μ-loop
 sub-pwrite c = omega (arith, c .before .loop .inv)
 
-part-pwrite-start : tie.Need-part-pwrite-start Inv-loop μ-loop
-part-pwrite-start c = search needs
-
-part-pwrite-end : tie.Need-part-pwrite-end Inv-loop μ-loop
-part-pwrite-end c = search needs
-
 add-pwrite : tie.Need-add-pwrite Inv-loop μ-loop
 add-pwrite c = let l = arg-loop c in omega (arith, l .before .loop .inv, to-start l .pre)
 
 cast-pwrite : tie.Need-cast-pwrite Inv-loop μ-loop
 cast-pwrite c = let l = arg-loop c in omega (arith, l .before .loop .inv, to-start l .pre)
 
-pwrite-requires : tie.Need-pwrite-requires Inv-loop μ-loop
-pwrite-requires c κs = search needs
-
 sub-count : tie.Need-sub-count Inv-loop μ-loop
 sub-count c = omega (arith, pwrite-loop c .before .loop .inv)
-
-part-count-start : tie.Need-part-count-start Inv-loop μ-loop
-part-count-start c = search needs
-
-part-count-end : tie.Need-part-count-end Inv-loop μ-loop
-part-count-end c = search needs
-
-count-requires : tie.Need-count-requires Inv-loop μ-loop
-count-requires c κs = search needs
-
-returns : tie.Need-returns Inv-loop μ-loop
-returns c = search needs
 
 add-i : tie.Need-add-i Inv-loop μ-loop
 add-i c =
@@ -79,28 +58,8 @@ loop-again c =
     let at-loop = to-loop c in
     part-within (to-start at-loop .args .bytes .now) (at-loop .before .loop .inv) (c .before .count .ensures .0 .0)
 
-returns-2 : tie.Need-returns-2 Inv-loop μ-loop
-returns-2 c = search needs
-
 pub write-at-spec : {M : Type 1} → statement M
 write-at-spec =
-    tie.close
-    (tie.spec
-    Inv-loop
-    μ-loop
-    loop-holds
-    sub-pwrite
-    part-pwrite-start
-    part-pwrite-end
-    add-pwrite
-    cast-pwrite
-    pwrite-requires
-    sub-count
-    part-count-start
-    part-count-end
-    count-requires
-    returns
-    add-i
-    loop-less
-    loop-again
-    returns-2)
+    tie.close (tie.spec Inv-loop μ-loop loop-holds sub-pwrite (λ c. search needs) (λ c. search needs) add-pwrite
+    cast-pwrite (λ c κs. search needs) sub-count (λ c. search needs) (λ c. search needs) (λ c κs. search needs)
+    (λ c. search needs) add-i loop-less loop-again (λ c. search needs))

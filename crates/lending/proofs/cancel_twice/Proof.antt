@@ -21,28 +21,10 @@ to-remove c =
     let b = a .before .before .before .before in
     b .before .before .before
 
-remove-requires : tie.Need-remove-requires
-remove-requires c κs = search needs
-
-heads-in-requires : tie.Need-heads-in-requires
-heads-in-requires c κs = search needs
-
-remove-requires-2 : tie.Need-remove-requires-2
-remove-requires-2 c κs = search needs
-
 same-length : tie.Need-same-length
 same-length c =
     let at-remove2 = to-remove2 c in
     at-remove2 .remove2 .kept .1 .1 .1 .1 .0 ∙ to-remove (to-heads-in at-remove2) .remove .kept .1 .1 .1 .1 .0
-
-same-length-2 : tie.Need-same-length-2
-same-length-2 c = search needs
-
-same-length-3 : tie.Need-same-length-3
-same-length-3 c = search needs
-
-same-length-4 : tie.Need-same-length-4
-same-length-4 c = search needs
 
 returns : tie.Need-returns
 returns c =
@@ -52,13 +34,5 @@ returns c =
 
 pub cancel-twice-spec : {M : Type 1} → statement M
 cancel-twice-spec =
-    tie.close
-    (tie.spec
-    remove-requires
-    heads-in-requires
-    remove-requires-2
-    same-length
-    same-length-2
-    same-length-3
-    same-length-4
-    returns)
+    tie.close (tie.spec (λ c κs. search needs) (λ c κs. search needs) (λ c κs. search needs) same-length
+    (λ c. search needs) (λ c. search needs) (λ c. search needs) returns)

@@ -4,15 +4,6 @@ use borrow.Author.Needs.{needs}
 use Rattle.light.proofs.amount.Statement.{statement}
 use Rattle.light.proofs.amount.Tie as tie
 
-number-requires : tie.Need-number-requires
-number-requires c κs = search needs
-
-enum-known-x : tie.Need-enum-known-x
-enum-known-x c = search needs
-
-enum-told : tie.Need-enum-told
-enum-told c = search needs
-
 returns : tie.Need-returns
 returns c = amount-none (c .before .before .number .ensures) (c .enum-told .given .1)
 
@@ -28,4 +19,4 @@ returns-3 c =
 
 pub amount-spec : {M : Type 1} → statement M
 amount-spec =
-    tie.close (tie.spec number-requires enum-known-x enum-told returns returns-2 returns-3)
+    tie.close (tie.spec (λ c κs. search needs) (λ c. search needs) (λ c. search needs) returns returns-2 returns-3)

@@ -7,17 +7,11 @@ use Rattle.lines.proofs.laws.Running.{closes-line, closes-none, breaks-off}
 use Rattle.light.proofs.finish.Statement.{statement}
 use Rattle.light.proofs.finish.Tie as tie
 
-at-end-requires : tie.Need-at-end-requires
-at-end-requires c κs = search needs
-
 returns : tie.Need-returns
 returns c = let t = c .if1 .taken in breaks-off (sym (c .before .at-end .ensures) ∙ not-true _ t)
 
 returns-2 : tie.Need-returns-2
 returns-2 c = let t = c .if2 .taken in closes-none _ t
-
-step-requires : tie.Need-step-requires
-step-requires c κs = search needs
 
 returns-3 : tie.Need-returns-3
 returns-3 c =
@@ -25,4 +19,4 @@ returns-3 c =
     closes-line _ (sym (at-if .before .at-end .ensures) ∙ not-false _ (at-if .if1 .left)) (omega (arith, c .before .if2 .left)) (c .step .ensures)
 
 pub finish-spec : {M : Type 1} → statement M
-finish-spec = tie.close (tie.spec at-end-requires returns returns-2 step-requires returns-3)
+finish-spec = tie.close (tie.spec (λ c κs. search needs) returns returns-2 (λ c κs. search needs) returns-3)

@@ -27,12 +27,6 @@ slice-write-out c =
     let I = c .before .before .loop .inv in
     omega (arith, I .place, I .size, c .before .loop-test .taken, c .before .before .before .before .pre)
 
-add-a : tie.Need-add-a Inv-loop μ-loop
-add-a c = search needs
-
-sub-i : tie.Need-sub-i Inv-loop μ-loop
-sub-i c = search needs
-
 loop-less : tie.Need-loop-less Inv-loop μ-loop
 loop-less c = omega (arith, c .before .loop-test .taken)
 
@@ -48,17 +42,5 @@ returns c = digits-end (c .before .loop .inv) (c .loop-test .left)
 
 pub push-hex-spec : {M : Type 1} → statement M
 push-hex-spec =
-    tie.close
-    (tie.spec
-    Inv-loop
-    μ-loop
-    loop-holds
-    div-digit
-    digit-requires
-    slice-write-out
-    add-a
-    sub-i
-    loop-less
-    loop-again
-    same-length
-    returns)
+    tie.close (tie.spec Inv-loop μ-loop loop-holds div-digit digit-requires slice-write-out (λ c. search needs)
+    (λ c. search needs) loop-less loop-again same-length returns)

@@ -22,17 +22,11 @@ space c = c .before .before .before
 abbrev worst : tie.After-push-arg4 → tie.After-push-hex2
 worst c = c .before .before .before .before
 
-push-word-requires : tie.Need-push-word-requires
-push-word-requires c κs = search needs
-
 push-hex-requires : tie.Need-push-hex-requires
 push-hex-requires c κs =
     let at-word = word c in
     let W = at-word .push-word .ensures in
     omega (arith, W .end, W .size, word-length (start at-word .args .light), start at-word .pre)
-
-slice-aggregate-push : tie.Need-slice-aggregate-push
-slice-aggregate-push c = search needs
 
 push-requires : tie.Need-push-requires
 push-requires c κs =
@@ -54,9 +48,6 @@ push-hex-requires-2 c κs =
     let a = start at-word in
     omega (arith, P .end, P .size, S .end, S .size, digits-length digitOf 16 16 (a .args .smoothed), W .end, W .size, word-length (a .args .light), a .pre)
 
-slice-aggregate-push-2 : tie.Need-slice-aggregate-push-2
-slice-aggregate-push-2 c = search needs
-
 push-requires-2 : tie.Need-push-requires-2
 push-requires-2 c κs =
     let at-worst = worst c in
@@ -72,9 +63,6 @@ push-requires-2 c κs =
     let hex-16 = digits-length digitOf 16 16 (a .args .smoothed) in
     omega (arith, Z .end, Z .size, digits-length digitOf 16 16 (a .args .worst), P .end, P .size, S .end, S .size, hex-16, W .end, W .size, word-5, a .pre)
 
-same-length : tie.Need-same-length
-same-length c = search needs
-
 returns : tie.Need-returns
 returns c =
     let at-end = c .before .before in
@@ -87,14 +75,5 @@ returns c =
 
 pub push-light-spec : {M : Type 1} → statement M
 push-light-spec =
-    tie.close
-    (tie.spec
-    push-word-requires
-    push-hex-requires
-    slice-aggregate-push
-    push-requires
-    push-hex-requires-2
-    slice-aggregate-push-2
-    push-requires-2
-    same-length
-    returns)
+    tie.close (tie.spec (λ c κs. search needs) push-hex-requires (λ c. search needs) push-requires push-hex-requires-2
+    (λ c. search needs) push-requires-2 (λ c. search needs) returns)

@@ -29,32 +29,11 @@ to-loop c = let a = c .before .before .before .before in a .before
 abbrev to-start : tie.At-loop Inv-loop μ-loop → tie.Start Inv-loop μ-loop
 to-start c = c .before .before .before
 
-buffer-requires : tie.Need-buffer-requires Inv-loop μ-loop
-buffer-requires c κs = search needs
-
 loop-holds : tie.Need-loop-holds Inv-loop μ-loop
 loop-holds c = (search needs, search needs, refl, reads-none)
 
-slice-aggregate-more : tie.Need-slice-aggregate-more Inv-loop μ-loop
-slice-aggregate-more c = search needs
-
-more-requires : tie.Need-more-requires Inv-loop μ-loop
-more-requires c κs = search needs
-
-count-requires : tie.Need-count-requires Inv-loop μ-loop
-count-requires c κs = search needs
-
-slice-reshare-prefix-finish : tie.Need-slice-reshare-prefix-finish Inv-loop μ-loop
-slice-reshare-prefix-finish c = search needs
-
 slice-aggregate-finish : tie.Need-slice-aggregate-finish Inv-loop μ-loop
 slice-aggregate-finish c = simp length-take (omega (arith, to-loop (c .before .before) .loop .inv .0))
-
-finish-requires : tie.Need-finish-requires Inv-loop μ-loop
-finish-requires c κs = search needs
-
-same-length : tie.Need-same-length Inv-loop μ-loop
-same-length c = search needs
 
 returns : tie.Need-returns Inv-loop μ-loop
 returns c =
@@ -62,22 +41,10 @@ returns c =
     let I = at-loop .loop .inv in
     ran (I .3) (simp length-take (omega (arith, I .0, I .2, to-start at-loop .pre))) (c .finish .ensures)
 
-array-share-prefix-buf : tie.Need-array-share-prefix-buf Inv-loop μ-loop
-array-share-prefix-buf c = search needs
-
 slice-aggregate-take-chunk : tie.Need-slice-aggregate-take-chunk Inv-loop μ-loop
 slice-aggregate-take-chunk c =
     let at-count = c .before .before in
     simp length-take (omega (arith, at-count .count .ensures, at-count .before .before .more .ensures .0))
-
-take-chunk-requires : tie.Need-take-chunk-requires Inv-loop μ-loop
-take-chunk-requires c κs = search needs
-
-add-bytes : tie.Need-add-bytes Inv-loop μ-loop
-add-bytes c = search needs
-
-loop-less : tie.Need-loop-less Inv-loop μ-loop
-loop-less c = search needs
 
 loop-again : tie.Need-loop-again Inv-loop μ-loop
 loop-again c =
@@ -94,12 +61,6 @@ loop-again c =
       reads-more (I .3) all refl (simp length-take (omega (arith, at-count .count .ensures, few))),
     )
 
-nothing-requires : tie.Need-nothing-requires Inv-loop μ-loop
-nothing-requires c κs = search needs
-
-same-length-2 : tie.Need-same-length-2 Inv-loop μ-loop
-same-length-2 c = search needs
-
 returns-2 : tie.Need-returns-2 Inv-loop μ-loop
 returns-2 c =
     let at-loop = c .before .before in
@@ -108,26 +69,7 @@ returns-2 c =
 
 pub read-all-spec : {M : Type 1} → statement M
 read-all-spec =
-    tie.close
-    (tie.spec
-    Inv-loop
-    μ-loop
-    buffer-requires
-    loop-holds
-    slice-aggregate-more
-    more-requires
-    count-requires
-    slice-reshare-prefix-finish
-    slice-aggregate-finish
-    finish-requires
-    same-length
-    returns
-    array-share-prefix-buf
-    slice-aggregate-take-chunk
-    take-chunk-requires
-    add-bytes
-    loop-less
-    loop-again
-    nothing-requires
-    same-length-2
-    returns-2)
+    tie.close (tie.spec Inv-loop μ-loop (λ c κs. search needs) loop-holds (λ c. search needs) (λ c κs. search needs)
+    (λ c κs. search needs) (λ c. search needs) slice-aggregate-finish (λ c κs. search needs) (λ c. search needs) returns
+    (λ c. search needs) slice-aggregate-take-chunk (λ c κs. search needs) (λ c. search needs) (λ c. search needs)
+    loop-again (λ c κs. search needs) (λ c. search needs) returns-2)

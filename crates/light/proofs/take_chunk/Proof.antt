@@ -30,17 +30,11 @@ to-loop c = c .before .before
 loop-holds : tie.Need-loop-holds Inv-loop μ-loop
 loop-holds c = (reaches-none, refl)
 
-take-line-requires : tie.Need-take-line-requires Inv-loop μ-loop
-take-line-requires c κs = search needs
-
 slice-reshare-prefix-step : tie.Need-slice-reshare-prefix-step Inv-loop μ-loop
 slice-reshare-prefix-step c = let T = to-take-line c .take-line .ensures in omega (arith, T .fits, T .size)
 
 slice-aggregate-step : tie.Need-slice-aggregate-step Inv-loop μ-loop
 slice-aggregate-step c = let T = to-take-line (c .before) .take-line .ensures in simp length-take (omega (arith, T .fits, T .size))
-
-step-requires : tie.Need-step-requires Inv-loop μ-loop
-step-requires c κs = search needs
 
 loop-less : tie.Need-loop-less Inv-loop μ-loop
 loop-less c =
@@ -79,18 +73,5 @@ returns c = c .before .loop .inv .0 .then _ _ _ (used (omega (arith, c .loop-tes
 
 pub take-chunk-spec : {M : Type 1} → statement M
 take-chunk-spec =
-    tie.close
-    (tie.spec
-    Inv-loop
-    μ-loop
-    loop-holds
-    take-line-requires
-    slice-reshare-prefix-step
-    slice-aggregate-step
-    step-requires
-    loop-less
-    loop-again
-    loop-less-2
-    loop-again-2
-    same-length
-    returns)
+    tie.close (tie.spec Inv-loop μ-loop loop-holds (λ c κs. search needs) slice-reshare-prefix-step slice-aggregate-step
+    (λ c κs. search needs) loop-less loop-again loop-less-2 loop-again-2 same-length returns)

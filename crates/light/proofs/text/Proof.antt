@@ -30,42 +30,12 @@ other (S.Slow s) x = refl
 other (S.Both s l g) x = absurd (miss (0 ∷ 1 ∷ 3 ∷ []) 2 tt x)
 other S.Bad x = refl
 
-enum-known-state : tie.Need-enum-known-state
-enum-known-state c = search needs
-
-write-bad-requires : tie.Need-write-bad-requires
-write-bad-requires c κs = search needs
-
-same-length : tie.Need-same-length
-same-length c = search needs
-
 returns : tie.Need-returns
 returns c =
     let at-bad = c .before .before in
     let at-match = at-bad .before .before in
     let state = at-match .before .before .args .state in
     text-bad state (other state (at-match .match .keys2)) (at-bad .write-bad .ensures)
-
-float-of-requires : tie.Need-float-of-requires
-float-of-requires c κs = search needs
-
-float-of-requires-2 : tie.Need-float-of-requires-2
-float-of-requires-2 c κs = search needs
-
-read-requires : tie.Need-read-requires
-read-requires c κs = search needs
-
-enum-known-r : tie.Need-enum-known-r
-enum-known-r c = search needs
-
-enum-told : tie.Need-enum-told
-enum-told c = search needs
-
-write-bad-requires-2 : tie.Need-write-bad-requires-2
-write-bad-requires-2 c κs = search needs
-
-same-length-2 : tie.Need-same-length-2
-same-length-2 c = search needs
 
 returns-2 : tie.Need-returns-2
 returns-2 c =
@@ -82,18 +52,6 @@ returns-3 c =
     let at-limits = limits at-read in
     let state = both at-limits .state .given in
     text-full _ _ _ (state .1) (at-limits .before .float-of .ensures) (at-limits .float-of2 .ensures) (at-read .read .ensures) (c .if1 .taken)
-
-bits-of-requires : tie.Need-bits-of-requires
-bits-of-requires c κs = search needs
-
-bits-of-requires-2 : tie.Need-bits-of-requires-2
-bits-of-requires-2 c κs = search needs
-
-push-light-requires : tie.Need-push-light-requires
-push-light-requires c κs = search needs
-
-same-length-3 : tie.Need-same-length-3
-same-length-3 c = search needs
 
 returns-4 : tie.Need-returns-4
 returns-4 c =
@@ -112,23 +70,7 @@ returns-4 c =
 
 pub text-spec : {M : Type 1} → statement M
 text-spec =
-    tie.close
-    (tie.spec
-    enum-known-state
-    write-bad-requires
-    same-length
-    returns
-    float-of-requires
-    float-of-requires-2
-    read-requires
-    enum-known-r
-    enum-told
-    write-bad-requires-2
-    same-length-2
-    returns-2
-    returns-3
-    bits-of-requires
-    bits-of-requires-2
-    push-light-requires
-    same-length-3
-    returns-4)
+    tie.close (tie.spec (λ c. search needs) (λ c κs. search needs) (λ c. search needs) returns (λ c κs. search needs)
+    (λ c κs. search needs) (λ c κs. search needs) (λ c. search needs) (λ c. search needs) (λ c κs. search needs)
+    (λ c. search needs) returns-2 returns-3 (λ c κs. search needs) (λ c κs. search needs) (λ c κs. search needs)
+    (λ c. search needs) returns-4)

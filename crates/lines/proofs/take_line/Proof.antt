@@ -17,17 +17,8 @@ Inv-loop got from line₀ n i₀ k₀ line i k = So got from line₀ n line i k
 abbrev μ-loop : tie.MeasureT-loop
 μ-loop got from line₀ n i₀ k₀ line i k = length got - i
 
-least-requires : tie.Need-least-requires Inv-loop μ-loop
-least-requires c κs = search needs
-
 loop-holds : tie.Need-loop-holds Inv-loop μ-loop
 loop-holds c = so-none _ _ _ _ (c .least .ensures)
-
-shared-slice-read-b : tie.Need-shared-slice-read-b Inv-loop μ-loop
-shared-slice-read-b c = search needs
-
-add-t13 : tie.Need-add-t13 Inv-loop μ-loop
-add-t13 c = search needs
 
 same-length : tie.Need-same-length Inv-loop μ-loop
 same-length c = c .before .before .before .loop .inv .size
@@ -44,18 +35,6 @@ returns c =
       size = S .size;
       rest = S .rest;
     }
-
-slice-write-line : tie.Need-slice-write-line Inv-loop μ-loop
-slice-write-line c = search needs
-
-add-k : tie.Need-add-k Inv-loop μ-loop
-add-k c = search needs
-
-add-i : tie.Need-add-i Inv-loop μ-loop
-add-i c = search needs
-
-loop-less : tie.Need-loop-less Inv-loop μ-loop
-loop-less c = search needs
 
 loop-again : tie.Need-loop-again Inv-loop μ-loop
 loop-again c =
@@ -90,20 +69,6 @@ returns-2 c =
 
 pub take-line-spec : {M : Type 1} → statement M
 take-line-spec =
-    tie.close
-    (tie.spec
-    Inv-loop
-    μ-loop
-    least-requires
-    loop-holds
-    shared-slice-read-b
-    add-t13
-    same-length
-    returns
-    slice-write-line
-    add-k
-    add-i
-    loop-less
-    loop-again
-    same-length-2
-    returns-2)
+    tie.close (tie.spec Inv-loop μ-loop (λ c κs. search needs) loop-holds (λ c. search needs) (λ c. search needs)
+    same-length returns (λ c. search needs) (λ c. search needs) (λ c. search needs) (λ c. search needs) loop-again
+    same-length-2 returns-2)

@@ -20,26 +20,8 @@ entered c =
     let a = c .before .before .before .before in
     a .before
 
-tail-or-requires : tie.Need-tail-or-requires
-tail-or-requires c κs = search needs
-
 put-requires : tie.Need-put-requires
 put-requires c κs = rw (c .tail-or .ensures) (start c .pre .last)
-
-enter-requires : tie.Need-enter-requires
-enter-requires c κs = search needs
-
-choose-requires : tie.Need-choose-requires
-choose-requires c κs = search needs
-
-same-length : tie.Need-same-length
-same-length c = search needs
-
-same-length-2 : tie.Need-same-length-2
-same-length-2 c = search needs
-
-same-length-3 : tie.Need-same-length-3
-same-length-3 c = search needs
 
 returns : tie.Need-returns
 unfolding headWith
@@ -50,13 +32,5 @@ returns c =
 
 pub add-spec : {M : Type 1} → statement M
 add-spec =
-    tie.close
-    (tie.spec
-    tail-or-requires
-    put-requires
-    enter-requires
-    choose-requires
-    same-length
-    same-length-2
-    same-length-3
-    returns)
+    tie.close (tie.spec (λ c κs. search needs) put-requires (λ c κs. search needs) (λ c κs. search needs)
+    (λ c. search needs) (λ c. search needs) (λ c. search needs) returns)

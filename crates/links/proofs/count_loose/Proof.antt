@@ -27,39 +27,6 @@ to-start c = c .before .before .before .before
 loop-holds : tie.Need-loop-holds Inv-loop μ-loop
 loop-holds c = (omega arith, omega arith, sym (loose-zero _ _ _ _))
 
-cast-k : tie.Need-cast-k Inv-loop μ-loop
-cast-k c = search needs
-
-mul-is-loose : tie.Need-mul-is-loose Inv-loop μ-loop
-mul-is-loose c = search needs
-
-shared-slice-read-is-loose : tie.Need-shared-slice-read-is-loose Inv-loop μ-loop
-shared-slice-read-is-loose c = search needs
-
-mul-is-loose-2 : tie.Need-mul-is-loose-2 Inv-loop μ-loop
-mul-is-loose-2 c = search needs
-
-shared-slice-read-is-loose-2 : tie.Need-shared-slice-read-is-loose-2 Inv-loop μ-loop
-shared-slice-read-is-loose-2 c = search needs
-
-mul-is-loose-3 : tie.Need-mul-is-loose-3 Inv-loop μ-loop
-mul-is-loose-3 c = search needs
-
-shared-slice-read-is-loose-3 : tie.Need-shared-slice-read-is-loose-3 Inv-loop μ-loop
-shared-slice-read-is-loose-3 c = search needs
-
-is-loose-requires : tie.Need-is-loose-requires Inv-loop μ-loop
-is-loose-requires c κs = search needs
-
-add-count : tie.Need-add-count Inv-loop μ-loop
-add-count c = search needs
-
-add-i : tie.Need-add-i Inv-loop μ-loop
-add-i c = search needs
-
-loop-less : tie.Need-loop-less Inv-loop μ-loop
-loop-less c = search needs
-
 loop-again : tie.Need-loop-again Inv-loop μ-loop
 loop-again c =
     let turn = to-at-loop (c .before) in
@@ -80,21 +47,6 @@ returns c =
 
 pub count-loose-spec : {M : Type 1} → statement M
 count-loose-spec =
-    tie.close
-    (tie.spec
-    Inv-loop
-    μ-loop
-    loop-holds
-    cast-k
-    mul-is-loose
-    shared-slice-read-is-loose
-    mul-is-loose-2
-    shared-slice-read-is-loose-2
-    mul-is-loose-3
-    shared-slice-read-is-loose-3
-    is-loose-requires
-    add-count
-    add-i
-    loop-less
-    loop-again
-    returns)
+    tie.close (tie.spec Inv-loop μ-loop loop-holds (λ c. search needs) (λ c. search needs) (λ c. search needs)
+    (λ c. search needs) (λ c. search needs) (λ c. search needs) (λ c. search needs) (λ c κs. search needs)
+    (λ c. search needs) (λ c. search needs) (λ c. search needs) loop-again returns)

@@ -26,17 +26,8 @@ returns c = sym (scan-end _ _ _ _ _ _ _ _ _ (c .if1 .taken) refl)
 returns-2 : tie.Need-returns-2 Inv-loop μ-loop
 returns-2 c = sym (scan-far _ _ _ _ _ _ _ _ _ (c .before .if1 .left) (c .if2 .taken))
 
-mul-tail : tie.Need-mul-tail Inv-loop μ-loop
-mul-tail c = search needs
-
-shared-slice-read-tail : tie.Need-shared-slice-read-tail Inv-loop μ-loop
-shared-slice-read-tail c = search needs
-
 loop-holds : tie.Need-loop-holds Inv-loop μ-loop
 loop-holds c = (omega arith, scan-start _ _ _ _ _ _ _ (c .before .before .if1 .left))
-
-cast-k : tie.Need-cast-k Inv-loop μ-loop
-cast-k c = search needs
 
 returns-3 : tie.Need-returns-3 Inv-loop μ-loop
 returns-3 c = sym (scan-full _ _ _ _ _ _ _ _ _ (c .before .loop-test .taken) (c .if3 .taken)) ∙ c .before .before .loop .inv .1
@@ -45,39 +36,15 @@ returns-4 : tie.Need-returns-4 Inv-loop μ-loop
 returns-4 c =
     sym (scan-far _ _ _ _ _ _ _ _ _ (c .before .before .loop-test .taken) (c .if4 .taken)) ∙ c .before .before .before .loop .inv .1
 
-mul-if5 : tie.Need-mul-if5 Inv-loop μ-loop
-mul-if5 c = search needs
-
-shared-slice-read-if5 : tie.Need-shared-slice-read-if5 Inv-loop μ-loop
-shared-slice-read-if5 c = search needs
-
 returns-5 : tie.Need-returns-5 Inv-loop μ-loop
 returns-5 c =
     let in-loop = step (c .before) in
     sym (scan-mark _ _ _ _ _ _ _ _ _ (in-loop .loop-test .taken) (c .if5 .taken)) ∙ in-loop .before .loop .inv .1
 
-mul-if6 : tie.Need-mul-if6 Inv-loop μ-loop
-mul-if6 c = search needs
-
-shared-slice-read-if6 : tie.Need-shared-slice-read-if6 Inv-loop μ-loop
-shared-slice-read-if6 c = search needs
-
 returns-6 : tie.Need-returns-6 Inv-loop μ-loop
 returns-6 c =
     let in-loop = step (c .before .before .before) in
     sym (scan-prev _ _ _ _ _ _ _ _ _ (in-loop .loop-test .taken) (c .if6 .taken)) ∙ in-loop .before .loop .inv .1
-
-sub-left : tie.Need-sub-left Inv-loop μ-loop
-sub-left c = search needs
-
-mul-item : tie.Need-mul-item Inv-loop μ-loop
-mul-item c = search needs
-
-shared-slice-read-item : tie.Need-shared-slice-read-item Inv-loop μ-loop
-shared-slice-read-item c = search needs
-
-loop-less : tie.Need-loop-less Inv-loop μ-loop
-loop-less c = search needs
 
 loop-again : tie.Need-loop-again Inv-loop μ-loop
 loop-again c =
@@ -96,28 +63,7 @@ returns-8 c = sym (scan-end _ _ _ _ _ _ _ _ _ (c .before .loop-test .left) (c .i
 
 pub walk-list-spec : {M : Type 1} → statement M
 walk-list-spec =
-    tie.close
-    (tie.spec
-    Inv-loop
-    μ-loop
-    returns
-    returns-2
-    mul-tail
-    shared-slice-read-tail
-    loop-holds
-    cast-k
-    returns-3
-    returns-4
-    mul-if5
-    shared-slice-read-if5
-    returns-5
-    mul-if6
-    shared-slice-read-if6
-    returns-6
-    sub-left
-    mul-item
-    shared-slice-read-item
-    loop-less
-    loop-again
-    returns-7
-    returns-8)
+    tie.close (tie.spec Inv-loop μ-loop returns returns-2 (λ c. search needs) (λ c. search needs) loop-holds
+    (λ c. search needs) returns-3 returns-4 (λ c. search needs) (λ c. search needs) returns-5 (λ c. search needs)
+    (λ c. search needs) returns-6 (λ c. search needs) (λ c. search needs) (λ c. search needs) (λ c. search needs)
+    loop-again returns-7 returns-8)

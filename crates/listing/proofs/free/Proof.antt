@@ -12,61 +12,8 @@ Inv-loop out₀ nexts n head p₀ run₀ i₀ left₀ out p run i left = (left �
 abbrev μ-loop : tie.MeasureT-loop
 μ-loop out₀ nexts n head p₀ run₀ i₀ left₀ out p run i left = left
 
-slice-aggregate-text : tie.Need-slice-aggregate-text Inv-loop μ-loop
-slice-aggregate-text c = search needs
-
-text-requires : tie.Need-text-requires Inv-loop μ-loop
-text-requires c κs = search needs
-
-no-run-requires : tie.Need-no-run-requires Inv-loop μ-loop
-no-run-requires c κs = search needs
-
-loop-holds : tie.Need-loop-holds Inv-loop μ-loop
-loop-holds c = search needs
-
-add-requires : tie.Need-add-requires Inv-loop μ-loop
-add-requires c κs = search needs
-
-half-at-requires : tie.Need-half-at-requires Inv-loop μ-loop
-half-at-requires c κs = search needs
-
-sub-left : tie.Need-sub-left Inv-loop μ-loop
-sub-left c = search needs
-
-loop-less : tie.Need-loop-less Inv-loop μ-loop
-loop-less c = search needs
-
-loop-again : tie.Need-loop-again Inv-loop μ-loop
-loop-again c = search needs
-
-write-run-requires : tie.Need-write-run-requires Inv-loop μ-loop
-write-run-requires c κs = search needs
-
-byte-requires : tie.Need-byte-requires Inv-loop μ-loop
-byte-requires c κs = search needs
-
-same-length : tie.Need-same-length Inv-loop μ-loop
-same-length c = search needs
-
-returns : tie.Need-returns Inv-loop μ-loop
-returns c = search needs
-
 pub free-spec : {M : Type 1} → statement M
 free-spec =
-    tie.close
-    (tie.spec
-    Inv-loop
-    μ-loop
-    slice-aggregate-text
-    text-requires
-    no-run-requires
-    loop-holds
-    add-requires
-    half-at-requires
-    sub-left
-    loop-less
-    loop-again
-    write-run-requires
-    byte-requires
-    same-length
-    returns)
+    tie.close (tie.spec Inv-loop μ-loop (λ c. search needs) (λ c κs. search needs) (λ c κs. search needs)
+    (λ c. search needs) (λ c κs. search needs) (λ c κs. search needs) (λ c. search needs) (λ c. search needs)
+    (λ c. search needs) (λ c κs. search needs) (λ c κs. search needs) (λ c. search needs) (λ c. search needs))

@@ -24,38 +24,11 @@ to-else c =
     let b = a .before .before .before .before in
     b .before
 
-has-room-requires : tie.Need-has-room-requires
-has-room-requires c κs = search needs
-
 returns : tie.Need-returns
 returns c = full (c .before .has-room .ensures .no (not-true _ (c .if1 .taken)))
 
 do-line-requires : tie.Need-do-line-requires
 do-line-requires c κs = let e = arg-else c in e .before .has-room .ensures .yes (not-false _ (e .if1 .left)) .0
-
-same-length : tie.Need-same-length
-same-length c = search needs
-
-same-length-2 : tie.Need-same-length-2
-same-length-2 c = search needs
-
-same-length-3 : tie.Need-same-length-3
-same-length-3 c = search needs
-
-same-length-4 : tie.Need-same-length-4
-same-length-4 c = search needs
-
-same-length-5 : tie.Need-same-length-5
-same-length-5 c = search needs
-
-same-length-6 : tie.Need-same-length-6
-same-length-6 c = search needs
-
-same-length-7 : tie.Need-same-length-7
-same-length-7 c = search needs
-
-same-length-8 : tie.Need-same-length-8
-same-length-8 c = search needs
 
 returns-2 : tie.Need-returns-2
 returns-2 c =
@@ -65,17 +38,6 @@ returns-2 c =
 
 pub answer-line-spec : {M : Type 1} → statement M
 answer-line-spec =
-    tie.close
-    (tie.spec
-    has-room-requires
-    returns
-    do-line-requires
-    same-length
-    same-length-2
-    same-length-3
-    same-length-4
-    same-length-5
-    same-length-6
-    same-length-7
-    same-length-8
-    returns-2)
+    tie.close (tie.spec (λ c κs. search needs) returns do-line-requires (λ c. search needs) (λ c. search needs)
+    (λ c. search needs) (λ c. search needs) (λ c. search needs) (λ c. search needs) (λ c. search needs)
+    (λ c. search needs) returns-2)

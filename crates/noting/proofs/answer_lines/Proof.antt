@@ -56,9 +56,6 @@ arg-then c =
 loop-holds : tie.Need-loop-holds Inv-loop μ-loop
 loop-holds c = (reaches-none, refl, refl, refl, refl, refl, refl, refl, refl, refl)
 
-goes-requires : tie.Need-goes-requires Inv-loop μ-loop
-goes-requires c κs = search needs
-
 next-line-requires : tie.Need-next-line-requires Inv-loop μ-loop
 next-line-requires c κs = let t = arg-then c in t .before .goes .ensures .yes (t .if1 .taken) .1 .0
 
@@ -120,22 +117,6 @@ returns c = let at-goes = c .before in at-goes .before .loop .inv .0 .then _ (st
 
 pub answer-lines-spec : {M : Type 1} → statement M
 answer-lines-spec =
-    tie.close
-    (tie.spec
-    Inv-loop
-    μ-loop
-    loop-holds
-    goes-requires
-    next-line-requires
-    loop-less
-    loop-again
-    same-length
-    same-length-2
-    same-length-3
-    same-length-4
-    same-length-5
-    same-length-6
-    same-length-7
-    same-length-8
-    same-length-9
-    returns)
+    tie.close (tie.spec Inv-loop μ-loop loop-holds (λ c κs. search needs) next-line-requires loop-less loop-again
+    same-length same-length-2 same-length-3 same-length-4 same-length-5 same-length-6 same-length-7 same-length-8
+    same-length-9 returns)

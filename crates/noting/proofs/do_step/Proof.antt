@@ -49,12 +49,6 @@ to-start c =
     let b = a .before .before .before .before in
     b .before
 
-heads-in-requires : tie.Need-heads-in-requires
-heads-in-requires c κs = search needs
-
-act-requires : tie.Need-act-requires
-act-requires c κs = search needs
-
 array-share-prefix-bytes : tie.Need-array-share-prefix-bytes
 array-share-prefix-bytes c = let z = act-size (arg-act c .act .ensures) in omega (arith, z .0, z .1)
 
@@ -67,33 +61,6 @@ push-requires c κs =
     let z = act-size (at-act .act .ensures) in
     simp length-take (omega (arith, z .0, z .1, to-start (to-grid at-act) .pre))
 
-write-answer-requires : tie.Need-write-answer-requires
-write-answer-requires c κs = search needs
-
-same-length : tie.Need-same-length
-same-length c = search needs
-
-same-length-2 : tie.Need-same-length-2
-same-length-2 c = search needs
-
-same-length-3 : tie.Need-same-length-3
-same-length-3 c = search needs
-
-same-length-4 : tie.Need-same-length-4
-same-length-4 c = search needs
-
-same-length-5 : tie.Need-same-length-5
-same-length-5 c = search needs
-
-same-length-6 : tie.Need-same-length-6
-same-length-6 c = search needs
-
-same-length-7 : tie.Need-same-length-7
-same-length-7 c = search needs
-
-same-length-8 : tie.Need-same-length-8
-same-length-8 c = search needs
-
 returns : tie.Need-returns
 returns c =
     let at-act = to-act c in
@@ -101,20 +68,6 @@ returns c =
 
 pub do-step-spec : {M : Type 1} → statement M
 do-step-spec =
-    tie.close
-    (tie.spec
-    heads-in-requires
-    act-requires
-    array-share-prefix-bytes
-    slice-aggregate-push
-    push-requires
-    write-answer-requires
-    same-length
-    same-length-2
-    same-length-3
-    same-length-4
-    same-length-5
-    same-length-6
-    same-length-7
-    same-length-8
-    returns)
+    tie.close (tie.spec (λ c κs. search needs) (λ c κs. search needs) array-share-prefix-bytes slice-aggregate-push
+    push-requires (λ c κs. search needs) (λ c. search needs) (λ c. search needs) (λ c. search needs) (λ c. search needs)
+    (λ c. search needs) (λ c. search needs) (λ c. search needs) (λ c. search needs) returns)

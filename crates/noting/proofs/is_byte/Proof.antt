@@ -12,13 +12,10 @@ use Rattle.noting.proofs.is_byte.Tie as tie
 returns : tie.Need-returns
 returns c = tells-no (λ h. c .if1 .taken (ap (λ (l : List ℕ). length l) h))
 
-shared-slice-read-result : tie.Need-shared-slice-read-result
-shared-slice-read-result c = search needs
-
 returns-2 : tie.Need-returns-2
 returns-2 c =
     let args = c .before .before .args in
     tells-by (tells-eq (getD (args .line .now) 0 0) (args .b)) (one-byte _ (c .before .if1 .left)) its-byte
 
 pub is-byte-spec : {M : Type 1} → statement M
-is-byte-spec = tie.close (tie.spec returns shared-slice-read-result returns-2)
+is-byte-spec = tie.close (tie.spec returns (λ c. search needs) returns-2)

@@ -29,44 +29,8 @@ to-take c = c .before .before .before
 abbrev else-take : tie.Else1 → tie.After-take-line
 else-take c = c .before .before .before
 
-take-line-requires : tie.Need-take-line-requires
-take-line-requires c κs = search needs
-
-slice-reshare-prefix-do-line : tie.Need-slice-reshare-prefix-do-line
-slice-reshare-prefix-do-line c = search needs
-
 slice-aggregate-do-line : tie.Need-slice-aggregate-do-line
 slice-aggregate-do-line c = let T = arg-take c .take-line .ensures in simp length-take (omega (arith, T .fits, T .size))
-
-do-line-requires : tie.Need-do-line-requires
-do-line-requires c κs = search needs
-
-same-length : tie.Need-same-length
-same-length c = search needs
-
-same-length-2 : tie.Need-same-length-2
-same-length-2 c = search needs
-
-same-length-3 : tie.Need-same-length-3
-same-length-3 c = search needs
-
-same-length-4 : tie.Need-same-length-4
-same-length-4 c = search needs
-
-same-length-5 : tie.Need-same-length-5
-same-length-5 c = search needs
-
-same-length-6 : tie.Need-same-length-6
-same-length-6 c = search needs
-
-same-length-7 : tie.Need-same-length-7
-same-length-7 c = search needs
-
-same-length-8 : tie.Need-same-length-8
-same-length-8 c = search needs
-
-same-length-9 : tie.Need-same-length-9
-same-length-9 c = search needs
 
 returns : tie.Need-returns
 returns c =
@@ -74,29 +38,12 @@ returns c =
     let at-then = to-then at-do in
     next-ended (to-take at-then .take-line .ensures) (at-then .if1 .taken) (at-do .do-line .ensures)
 
-same-length-10 : tie.Need-same-length-10
-same-length-10 c = search needs
-
 returns-2 : tie.Need-returns-2
 returns-2 c = next-kept (else-take c .take-line .ensures) (c .if1 .left)
 
 pub next-line-spec : {M : Type 1} → statement M
 next-line-spec =
-    tie.close
-    (tie.spec
-    take-line-requires
-    slice-reshare-prefix-do-line
-    slice-aggregate-do-line
-    do-line-requires
-    same-length
-    same-length-2
-    same-length-3
-    same-length-4
-    same-length-5
-    same-length-6
-    same-length-7
-    same-length-8
-    same-length-9
-    returns
-    same-length-10
+    tie.close (tie.spec (λ c κs. search needs) (λ c. search needs) slice-aggregate-do-line (λ c κs. search needs)
+    (λ c. search needs) (λ c. search needs) (λ c. search needs) (λ c. search needs) (λ c. search needs)
+    (λ c. search needs) (λ c. search needs) (λ c. search needs) (λ c. search needs) returns (λ c. search needs)
     returns-2)

@@ -11,26 +11,11 @@ at-read c = c .before .before .before
 abbrev at-bad : tie.After-enum-told → tie.After-read-line
 at-bad c = c .before .before
 
-is-byte-requires : tie.Need-is-byte-requires
-is-byte-requires c κs = search needs
-
 returns : tie.Need-returns
 returns c = is (opens (c .before .is-byte .ensures .yes (c .if1 .taken)))
 
-is-byte-requires-2 : tie.Need-is-byte-requires-2
-is-byte-requires-2 c κs = search needs
-
 returns-2 : tie.Need-returns-2
 returns-2 c = is (ends (c .before .is-byte2 .ensures .yes (c .if2 .taken)))
-
-read-line-requires : tie.Need-read-line-requires
-read-line-requires c κs = search needs
-
-enum-known-asked : tie.Need-enum-known-asked
-enum-known-asked c = search needs
-
-enum-told : tie.Need-enum-told
-enum-told c = search needs
 
 returns-3 : tie.Need-returns-3
 returns-3 c = said-asks (at-read c .read-line .ensures) (c .before .asked .given .1)
@@ -45,14 +30,5 @@ returns-4 c =
 
 pub step-in-spec : {M : Type 1} → statement M
 step-in-spec =
-    tie.close
-    (tie.spec
-    is-byte-requires
-    returns
-    is-byte-requires-2
-    returns-2
-    read-line-requires
-    enum-known-asked
-    enum-told
-    returns-3
-    returns-4)
+    tie.close (tie.spec (λ c κs. search needs) returns (λ c κs. search needs) returns-2 (λ c κs. search needs)
+    (λ c. search needs) (λ c. search needs) returns-3 returns-4)

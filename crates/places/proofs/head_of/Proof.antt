@@ -8,40 +8,19 @@ use Rattle.places.specs.Heads.{headOf}
 use Rattle.places.proofs.head_of.Statement.{statement}
 use Rattle.places.proofs.head_of.Tie as tie
 
-mul-result : tie.Need-mul-result
-mul-result c = search needs
-
-mul-result-2 : tie.Need-mul-result-2
-mul-result-2 c = search needs
-
-index-1-result : tie.Need-index-1-result
-index-1-result c = search needs
-
-index-2-result : tie.Need-index-2-result
-index-2-result c = search needs
-
 returns : tie.Need-returns
 unfolding headOf
 returns c = simp (lt-ltb _ _ (c .before .if1 .taken))
 
-element-copy-out-result : tie.Need-element-copy-out-result
-element-copy-out-result c = search needs
-
 returns-2 : tie.Need-returns-2
 unfolding headOf
 returns-2 c = simp (le-ltb _ _ (c .before .before .if1 .left), eq-eqb _ _ (c .before .if2 .taken))
-
-element-copy-out-result-2 : tie.Need-element-copy-out-result-2
-element-copy-out-result-2 c = search needs
 
 returns-3 : tie.Need-returns-3
 unfolding headOf
 returns-3 c =
     let e = c .before .before in
     simp (le-ltb _ _ (e .before .if1 .left), ne-eqb _ _ (e .if2 .left), eq-eqb _ _ (c .before .if3 .taken))
-
-element-copy-out-result-3 : tie.Need-element-copy-out-result-3
-element-copy-out-result-3 c = search needs
 
 returns-4 : tie.Need-returns-4
 unfolding headOf
@@ -52,16 +31,5 @@ returns-4 c =
 
 pub head-of-spec : {M : Type 1} → statement M
 head-of-spec =
-    tie.close
-    (tie.spec
-    mul-result
-    mul-result-2
-    index-1-result
-    index-2-result
-    returns
-    element-copy-out-result
-    returns-2
-    element-copy-out-result-2
-    returns-3
-    element-copy-out-result-3
-    returns-4)
+    tie.close (tie.spec (λ c. search needs) (λ c. search needs) (λ c. search needs) (λ c. search needs) returns
+    (λ c. search needs) returns-2 (λ c. search needs) returns-3 (λ c. search needs) returns-4)

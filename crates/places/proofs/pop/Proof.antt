@@ -19,9 +19,6 @@ left c =
     let a = c .before .before .before .before in
     a .before .before
 
-head-of-requires : tie.Need-head-of-requires
-head-of-requires c κs = search needs
-
 returns : tie.Need-returns
 returns c = (c .before .head-of .ensures, pop-none _ _ _ (c .before .head-of .ensures) (c .if1 .taken))
 
@@ -30,15 +27,6 @@ remove-requires c κs =
     let s = some c in
     pop-asks _ _ _ (s .before .head-of .ensures) (start (s .before) .pre) (s .if1 .left)
 
-same-length : tie.Need-same-length
-same-length c = search needs
-
-same-length-2 : tie.Need-same-length-2
-same-length-2 c = search needs
-
-same-length-3 : tie.Need-same-length-3
-same-length-3 c = search needs
-
 returns-2 : tie.Need-returns-2
 returns-2 c =
     let s = some (left c .before) in
@@ -46,12 +34,5 @@ returns-2 c =
 
 pub pop-spec : {M : Type 1} → statement M
 pop-spec =
-    tie.close
-    (tie.spec
-    head-of-requires
-    returns
-    remove-requires
-    same-length
-    same-length-2
-    same-length-3
-    returns-2)
+    tie.close (tie.spec (λ c κs. search needs) returns remove-requires (λ c. search needs) (λ c. search needs)
+    (λ c. search needs) returns-2)

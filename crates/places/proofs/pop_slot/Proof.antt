@@ -17,18 +17,6 @@ left c =
     let a = c .before .before .before .before in
     a .before .before
 
-mul-item : tie.Need-mul-item
-mul-item c = search needs
-
-mul-item-2 : tie.Need-mul-item-2
-mul-item-2 c = search needs
-
-index-1-item : tie.Need-index-1-item
-index-1-item c = search needs
-
-index-2-item : tie.Need-index-2-item
-index-2-item c = search needs
-
 returns : tie.Need-returns
 returns c =
     let s = start (c .before) in
@@ -36,27 +24,6 @@ returns c =
 
 cut-requires : tie.Need-cut-requires
 cut-requires c κs = start (some c .before) .pre .linked (some c .if1 .left)
-
-mul-heads : tie.Need-mul-heads
-mul-heads c = search needs
-
-mul-heads-2 : tie.Need-mul-heads-2
-mul-heads-2 c = search needs
-
-index-1-heads : tie.Need-index-1-heads
-index-1-heads c = search needs
-
-index-2-heads : tie.Need-index-2-heads
-index-2-heads c = search needs
-
-same-length : tie.Need-same-length
-same-length c = search needs
-
-same-length-2 : tie.Need-same-length-2
-same-length-2 c = search needs
-
-same-length-3 : tie.Need-same-length-3
-same-length-3 c = search needs
 
 returns-2 : tie.Need-returns-2
 returns-2 c =
@@ -67,19 +34,6 @@ returns-2 c =
 
 pub pop-slot-spec : {M : Type 1} → statement M
 pop-slot-spec =
-    tie.close
-    (tie.spec
-    mul-item
-    mul-item-2
-    index-1-item
-    index-2-item
-    returns
-    cut-requires
-    mul-heads
-    mul-heads-2
-    index-1-heads
-    index-2-heads
-    same-length
-    same-length-2
-    same-length-3
-    returns-2)
+    tie.close (tie.spec (λ c. search needs) (λ c. search needs) (λ c. search needs) (λ c. search needs) returns
+    cut-requires (λ c. search needs) (λ c. search needs) (λ c. search needs) (λ c. search needs) (λ c. search needs)
+    (λ c. search needs) (λ c. search needs) returns-2)

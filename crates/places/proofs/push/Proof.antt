@@ -27,23 +27,8 @@ added c =
     let b = a .before .before .before .before in
     b .before
 
-head-of-requires : tie.Need-head-of-requires
-head-of-requires c κs = search needs
-
 join-requires : tie.Need-join-requires
 join-requires c κs = let l = joining c .before in rw (l .head-of .ensures) (start l .pre .1)
-
-set-head-requires : tie.Need-set-head-requires
-set-head-requires c κs = search needs
-
-same-length : tie.Need-same-length
-same-length c = search needs
-
-same-length-2 : tie.Need-same-length-2
-same-length-2 c = search needs
-
-same-length-3 : tie.Need-same-length-3
-same-length-3 c = search needs
 
 returns : tie.Need-returns
 returns c =
@@ -54,18 +39,6 @@ returns c =
 add-requires : tie.Need-add-requires
 add-requires c κs = let l = adding c .before in rw (l .head-of .ensures) (start l .pre .1)
 
-set-head-requires-2 : tie.Need-set-head-requires-2
-set-head-requires-2 c κs = search needs
-
-same-length-4 : tie.Need-same-length-4
-same-length-4 c = search needs
-
-same-length-5 : tie.Need-same-length-5
-same-length-5 c = search needs
-
-same-length-6 : tie.Need-same-length-6
-same-length-6 c = search needs
-
 returns-2 : tie.Need-returns-2
 returns-2 c =
     let a = added c in
@@ -75,18 +48,6 @@ returns-2 c =
 
 pub push-spec : {M : Type 1} → statement M
 push-spec =
-    tie.close
-    (tie.spec
-    head-of-requires
-    join-requires
-    set-head-requires
-    same-length
-    same-length-2
-    same-length-3
-    returns
-    add-requires
-    set-head-requires-2
-    same-length-4
-    same-length-5
-    same-length-6
-    returns-2)
+    tie.close (tie.spec (λ c κs. search needs) join-requires (λ c κs. search needs) (λ c. search needs)
+    (λ c. search needs) (λ c. search needs) returns add-requires (λ c κs. search needs) (λ c. search needs)
+    (λ c. search needs) (λ c. search needs) returns-2)

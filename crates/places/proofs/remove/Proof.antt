@@ -18,29 +18,8 @@ cut c =
     let b = a .before .before .before .before in
     b .before
 
-mul-place : tie.Need-mul-place
-mul-place c = search needs
-
-slice-read-place : tie.Need-slice-read-place
-slice-read-place c = search needs
-
-head-of-requires : tie.Need-head-of-requires
-head-of-requires c κs = search needs
-
 cut-requires : tie.Need-cut-requires
 cut-requires c κs = rw (looked c .head-of .ensures) (start (looked c) .pre .1)
-
-set-head-requires : tie.Need-set-head-requires
-set-head-requires c κs = search needs
-
-same-length : tie.Need-same-length
-same-length c = search needs
-
-same-length-2 : tie.Need-same-length-2
-same-length-2 c = search needs
-
-same-length-3 : tie.Need-same-length-3
-same-length-3 c = search needs
 
 returns : tie.Need-returns
 returns c =
@@ -49,14 +28,5 @@ returns c =
 
 pub remove-spec : {M : Type 1} → statement M
 remove-spec =
-    tie.close
-    (tie.spec
-    mul-place
-    slice-read-place
-    head-of-requires
-    cut-requires
-    set-head-requires
-    same-length
-    same-length-2
-    same-length-3
-    returns)
+    tie.close (tie.spec (λ c. search needs) (λ c. search needs) (λ c κs. search needs) cut-requires
+    (λ c κs. search needs) (λ c. search needs) (λ c. search needs) (λ c. search needs) returns)

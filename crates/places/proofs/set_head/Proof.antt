@@ -15,58 +15,19 @@ other c = c .before .before .before .before
 abbrev last : tie.After-tops3 → tie.Else3
 last c = c .before .before .before .before
 
-mul-heads : tie.Need-mul-heads
-mul-heads c = search needs
-
-mul-heads-2 : tie.Need-mul-heads-2
-mul-heads-2 c = search needs
-
-index-1-heads : tie.Need-index-1-heads
-index-1-heads c = search needs
-
-index-2-heads : tie.Need-index-2-heads
-index-2-heads c = search needs
-
 returns : tie.Need-returns
 unfolding headsWith topsWith
 returns c = simp (lt-ltb _ _ (c .if1 .taken)) (refl, refl)
 
-element-copy-out-t16 : tie.Need-element-copy-out-t16
-element-copy-out-t16 c = search needs
-
-element-copy-out-t19 : tie.Need-element-copy-out-t19
-element-copy-out-t19 c = search needs
-
-element-copy-out-t22 : tie.Need-element-copy-out-t22
-element-copy-out-t22 c = search needs
-
 returns-2 : tie.Need-returns-2
 unfolding headsWith topsWith
 returns-2 c = simp (le-ltb _ _ (park c .before .if1 .left), eq-eqb _ _ (park c .if2 .taken)) (refl, refl)
-
-element-copy-out-t25 : tie.Need-element-copy-out-t25
-element-copy-out-t25 c = search needs
-
-element-copy-out-t28 : tie.Need-element-copy-out-t28
-element-copy-out-t28 c = search needs
-
-element-copy-out-t31 : tie.Need-element-copy-out-t31
-element-copy-out-t31 c = search needs
 
 returns-3 : tie.Need-returns-3
 unfolding headsWith topsWith
 returns-3 c =
     let e = other c .before in
     simp (le-ltb _ _ (e .before .if1 .left), ne-eqb _ _ (e .if2 .left), eq-eqb _ _ (other c .if3 .taken)) (refl, refl)
-
-element-copy-out-t34 : tie.Need-element-copy-out-t34
-element-copy-out-t34 c = search needs
-
-element-copy-out-t37 : tie.Need-element-copy-out-t37
-element-copy-out-t37 c = search needs
-
-element-copy-out-t40 : tie.Need-element-copy-out-t40
-element-copy-out-t40 c = search needs
 
 returns-4 : tie.Need-returns-4
 unfolding headsWith topsWith
@@ -76,22 +37,6 @@ returns-4 c =
 
 pub set-head-spec : {M : Type 1} → statement M
 set-head-spec =
-    tie.close
-    (tie.spec
-    mul-heads
-    mul-heads-2
-    index-1-heads
-    index-2-heads
-    returns
-    element-copy-out-t16
-    element-copy-out-t19
-    element-copy-out-t22
-    returns-2
-    element-copy-out-t25
-    element-copy-out-t28
-    element-copy-out-t31
-    returns-3
-    element-copy-out-t34
-    element-copy-out-t37
-    element-copy-out-t40
-    returns-4)
+    tie.close (tie.spec (λ c. search needs) (λ c. search needs) (λ c. search needs) (λ c. search needs) returns
+    (λ c. search needs) (λ c. search needs) (λ c. search needs) returns-2 (λ c. search needs) (λ c. search needs)
+    (λ c. search needs) returns-3 (λ c. search needs) (λ c. search needs) (λ c. search needs) returns-4)

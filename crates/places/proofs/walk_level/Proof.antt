@@ -19,50 +19,14 @@ abbrev μ-loop : tie.MeasureT-loop
 abbrev looked : tie.After-walk-list Inv-loop μ-loop → tie.In-loop Inv-loop μ-loop
 looked c = c .before .before .before .before
 
-element-copy-out-n : tie.Need-element-copy-out-n Inv-loop μ-loop
-element-copy-out-n c = search needs
-
 loop-holds : tie.Need-loop-holds Inv-loop μ-loop
 loop-holds c = level-begun _ _ (omega arith) _
-
-mul-head : tie.Need-mul-head Inv-loop μ-loop
-mul-head c = search needs
-
-mul-head-2 : tie.Need-mul-head-2 Inv-loop μ-loop
-mul-head-2 c = search needs
-
-index-1-head : tie.Need-index-1-head Inv-loop μ-loop
-index-1-head c = search needs
-
-index-2-head : tie.Need-index-2-head Inv-loop μ-loop
-index-2-head c = search needs
-
-slot-place-requires : tie.Need-slot-place-requires Inv-loop μ-loop
-slot-place-requires c κs = search needs
-
-walk-list-requires : tie.Need-walk-list-requires Inv-loop μ-loop
-walk-list-requires c κs = search needs
-
-enum-known-walk : tie.Need-enum-known-walk Inv-loop μ-loop
-enum-known-walk c = search needs
-
-enum-told : tie.Need-enum-told Inv-loop μ-loop
-enum-told c = search needs
 
 returns : tie.Need-returns Inv-loop μ-loop
 returns c =
     let w = c .before .before in
     let i = looked w in
     level-wrong _ _ (omega arith) (i .before .loop .inv) (i .loop-test .taken) (w .before .slot-place .ensures) (w .walk-list .ensures) (c .enum-told .given .1)
-
-set-requires : tie.Need-set-requires Inv-loop μ-loop
-set-requires c κs = search needs
-
-add-slot : tie.Need-add-slot Inv-loop μ-loop
-add-slot c = search needs
-
-loop-less : tie.Need-loop-less Inv-loop μ-loop
-loop-less c = search needs
 
 loop-again : tie.Need-loop-again Inv-loop μ-loop
 loop-again c =
@@ -81,23 +45,6 @@ returns-2 c = level-done _ _ (omega arith) (c .before .loop .inv) (c .loop-test 
 
 pub walk-level-spec : {M : Type 1} → statement M
 walk-level-spec =
-    tie.close
-    (tie.spec
-    Inv-loop
-    μ-loop
-    element-copy-out-n
-    loop-holds
-    mul-head
-    mul-head-2
-    index-1-head
-    index-2-head
-    slot-place-requires
-    walk-list-requires
-    enum-known-walk
-    enum-told
-    returns
-    set-requires
-    add-slot
-    loop-less
-    loop-again
-    returns-2)
+    tie.close (tie.spec Inv-loop μ-loop (λ c. search needs) loop-holds (λ c. search needs) (λ c. search needs)
+    (λ c. search needs) (λ c. search needs) (λ c κs. search needs) (λ c κs. search needs) (λ c. search needs)
+    (λ c. search needs) returns (λ c κs. search needs) (λ c. search needs) (λ c. search needs) loop-again returns-2)

@@ -27,23 +27,8 @@ wrong c = c .before .before
 abbrev go : tie.After-known-told Inv-loop μ-loop → tie.After-walk-list Inv-loop μ-loop
 go c = c .before .before .before
 
-element-copy-out-n : tie.Need-element-copy-out-n Inv-loop μ-loop
-element-copy-out-n c = search needs
-
 loop-holds : tie.Need-loop-holds Inv-loop μ-loop
 loop-holds c = (omega arith, refl)
-
-head-of-requires : tie.Need-head-of-requires Inv-loop μ-loop
-head-of-requires c κs = search needs
-
-walk-list-requires : tie.Need-walk-list-requires Inv-loop μ-loop
-walk-list-requires c κs = search needs
-
-enum-known-l : tie.Need-enum-known-l Inv-loop μ-loop
-enum-known-l c = search needs
-
-enum-told : tie.Need-enum-told Inv-loop μ-loop
-enum-told c = search needs
 
 returns : tie.Need-returns Inv-loop μ-loop
 returns c =
@@ -52,12 +37,6 @@ returns c =
     rest-wrong _ _ _ _ (t .before .loop .inv .1)
     (judge-wrong _ _ _ _ _ (t .loop-test .taken) (w .before .head-of .ensures) (w .walk-list .ensures) (c .enum-told .given .1))
 
-add-place : tie.Need-add-place Inv-loop μ-loop
-add-place c = search needs
-
-loop-less : tie.Need-loop-less Inv-loop μ-loop
-loop-less c = search needs
-
 loop-again : tie.Need-loop-again Inv-loop μ-loop
 loop-again c =
     let w = go c in
@@ -65,27 +44,11 @@ loop-again c =
     let e = judge-go _ _ _ _ _ (t .loop-test .taken) (w .before .head-of .ensures) (w .walk-list .ensures) _ (c .before .l .given .1) in
     (omega arith, t .before .loop .inv .1 ∙ e)
 
-count-loose-requires : tie.Need-count-loose-requires Inv-loop μ-loop
-count-loose-requires c κs = search needs
-
 returns-2 : tie.Need-returns-2 Inv-loop μ-loop
 returns-2 c = rest-end _ _ _ _ _ (c .before .before .loop .inv .1) (c .before .loop-test .left) (c .count-loose .ensures)
 
 pub walk-rest-spec : {M : Type 1} → statement M
 walk-rest-spec =
-    tie.close
-    (tie.spec
-    Inv-loop
-    μ-loop
-    element-copy-out-n
-    loop-holds
-    head-of-requires
-    walk-list-requires
-    enum-known-l
-    enum-told
-    returns
-    add-place
-    loop-less
-    loop-again
-    count-loose-requires
-    returns-2)
+    tie.close (tie.spec Inv-loop μ-loop (λ c. search needs) loop-holds (λ c κs. search needs) (λ c κs. search needs)
+    (λ c. search needs) (λ c. search needs) returns (λ c. search needs) (λ c. search needs) loop-again
+    (λ c κs. search needs) returns-2)

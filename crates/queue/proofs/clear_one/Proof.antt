@@ -27,15 +27,6 @@ to-leave c =
     let a = c .before .before .before .before in
     a .before .before .before .before
 
-mul-is-pending : tie.Need-mul-is-pending
-mul-is-pending c = search needs
-
-slice-read-is-pending : tie.Need-slice-read-is-pending
-slice-read-is-pending c = search needs
-
-is-pending-requires : tie.Need-is-pending-requires
-is-pending-requires c κs = search needs
-
 returns : tie.Need-returns
 returns c =
     let start = to-start (c .before .before) in
@@ -56,18 +47,6 @@ leave-requires c κs =
     let start = to-start (asked .before) in
     clear-frees (start .pre .0) (start .pre .1) (is-below (asked .is-pending .ensures) (else1 .if1 .left)) (at-remove .remove .ensures)
 
-same-length : tie.Need-same-length
-same-length c = search needs
-
-same-length-2 : tie.Need-same-length-2
-same-length-2 c = search needs
-
-same-length-3 : tie.Need-same-length-3
-same-length-3 c = search needs
-
-same-length-4 : tie.Need-same-length-4
-same-length-4 c = search needs
-
 returns-2 : tie.Need-returns-2
 returns-2 c =
     let at-leave = to-leave c in
@@ -80,16 +59,5 @@ returns-2 c =
 
 pub clear-one-spec : {M : Type 1} → statement M
 clear-one-spec =
-    tie.close
-    (tie.spec
-    mul-is-pending
-    slice-read-is-pending
-    is-pending-requires
-    returns
-    remove-requires
-    leave-requires
-    same-length
-    same-length-2
-    same-length-3
-    same-length-4
-    returns-2)
+    tie.close (tie.spec (λ c. search needs) (λ c. search needs) (λ c κs. search needs) returns remove-requires
+    leave-requires (λ c. search needs) (λ c. search needs) (λ c. search needs) (λ c. search needs) returns-2)

@@ -45,12 +45,6 @@ to-place c =
     let a = c .before .before .before .before in
     a .before .before .before .before
 
-mul-key-of : tie.Need-mul-key-of
-mul-key-of c = search needs
-
-slice-read-key-of : tie.Need-slice-read-key-of
-slice-read-key-of c = search needs
-
 key-of-requires : tie.Need-key-of-requires
 key-of-requires c κs =
     let start = to-start c in
@@ -66,28 +60,10 @@ period-of-requires c κs =
     let start = to-start (c .before .before) in
     out-words (start .pre .0) (start .pre .1) .0
 
-mul-deadline : tie.Need-mul-deadline
-mul-deadline c = search needs
-
-slice-read-deadline : tie.Need-slice-read-deadline
-slice-read-deadline c = search needs
-
 leave-requires : tie.Need-leave-requires
 leave-requires c κs =
     let start = to-start (to-key-of (to-then1 c .before) .before) in
     out-frees (start .pre .0) (start .pre .1)
-
-same-length : tie.Need-same-length
-same-length c = search needs
-
-same-length-2 : tie.Need-same-length-2
-same-length-2 c = search needs
-
-same-length-3 : tie.Need-same-length-3
-same-length-3 c = search needs
-
-same-length-4 : tie.Need-same-length-4
-same-length-4 c = search needs
 
 returns : tie.Need-returns
 returns c =
@@ -100,32 +76,11 @@ returns c =
     (out-done (start .pre .0) (start .pre .1) _ _ (at-key-of .key-of .ensures) (sym (at-period .period-of .ensures) ∙ then1 .if1 .taken)
     (at-leave .leave .ensures))
 
-next-time-requires : tie.Need-next-time-requires
-next-time-requires c κs = search needs
-
-enum-known-next : tie.Need-enum-known-next
-enum-known-next c = search needs
-
-enum-told : tie.Need-enum-told
-enum-told c = search needs
-
 leave-requires-2 : tie.Need-leave-requires-2
 leave-requires-2 c κs =
     let at-next-time = to-told c .before .before in
     let start = to-start (to-key-of (at-next-time .before .before) .before) in
     out-frees (start .pre .0) (start .pre .1)
-
-same-length-5 : tie.Need-same-length-5
-same-length-5 c = search needs
-
-same-length-6 : tie.Need-same-length-6
-same-length-6 c = search needs
-
-same-length-7 : tie.Need-same-length-7
-same-length-7 c = search needs
-
-same-length-8 : tie.Need-same-length-8
-same-length-8 c = search needs
 
 returns-2 : tie.Need-returns-2
 returns-2 c =
@@ -150,18 +105,6 @@ place-requires c κs =
     out-places (start .pre .0) (start .pre .1)
     (again-at _ (at-period .period-of .ensures) (at-next-time .next-time .ensures) _ (at-next .next .given .1))
 
-same-length-9 : tie.Need-same-length-9
-same-length-9 c = search needs
-
-same-length-10 : tie.Need-same-length-10
-same-length-10 c = search needs
-
-same-length-11 : tie.Need-same-length-11
-same-length-11 c = search needs
-
-same-length-12 : tie.Need-same-length-12
-same-length-12 c = search needs
-
 returns-3 : tie.Need-returns-3
 returns-3 c =
     let at-place = to-place c in
@@ -178,33 +121,8 @@ returns-3 c =
 
 pub hand-out-spec : {M : Type 1} → statement M
 hand-out-spec =
-    tie.close
-    (tie.spec
-    mul-key-of
-    slice-read-key-of
-    key-of-requires
-    value-of-requires
-    period-of-requires
-    mul-deadline
-    slice-read-deadline
-    leave-requires
-    same-length
-    same-length-2
-    same-length-3
-    same-length-4
-    returns
-    next-time-requires
-    enum-known-next
-    enum-told
-    leave-requires-2
-    same-length-5
-    same-length-6
-    same-length-7
-    same-length-8
-    returns-2
-    place-requires
-    same-length-9
-    same-length-10
-    same-length-11
-    same-length-12
-    returns-3)
+    tie.close (tie.spec (λ c. search needs) (λ c. search needs) key-of-requires value-of-requires period-of-requires
+    (λ c. search needs) (λ c. search needs) leave-requires (λ c. search needs) (λ c. search needs) (λ c. search needs)
+    (λ c. search needs) returns (λ c κs. search needs) (λ c. search needs) (λ c. search needs) leave-requires-2
+    (λ c. search needs) (λ c. search needs) (λ c. search needs) (λ c. search needs) returns-2 place-requires
+    (λ c. search needs) (λ c. search needs) (λ c. search needs) (λ c. search needs) returns-3)

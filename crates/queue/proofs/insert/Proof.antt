@@ -50,14 +50,8 @@ words c =
     let else1 = else2 .before .before in
     insert-words (to-start (else1 .before) .pre) refl 0 _ 0 (some else1) (else2 .before .deadline-no .ensures) (else2 .if2 .left) (c .pop .ensures)
 
-first-free-requires : tie.Need-first-free-requires
-first-free-requires c κs = search needs
-
 returns : tie.Need-returns
 returns c = insert-full (to-start (c .before) .pre) refl _ _ _ (sym (c .before .first-free .ensures) ∙ c .if1 .taken)
-
-deadline-no-requires : tie.Need-deadline-no-requires
-deadline-no-requires c κs = search needs
 
 returns-2 : tie.Need-returns-2
 returns-2 c =
@@ -72,12 +66,6 @@ pop-requires c κs =
 give-requires : tie.Need-give-requires
 give-requires c κs = words (to-pop c) .0
 
-cast-key-of : tie.Need-cast-key-of
-cast-key-of c = search needs
-
-mul-key-of : tie.Need-mul-key-of
-mul-key-of c = search needs
-
 shared-slice-read-key-of : tie.Need-shared-slice-read-key-of
 shared-slice-read-key-of c = words (to-pop (to-give c .before)) .1
 
@@ -90,21 +78,6 @@ place-requires c κs =
     let else2 = to-else2 (at-pop .before) in
     let else1 = else2 .before .before in
     insert-place (to-start (else1 .before) .pre) refl 0 _ 0 (some else1) (else2 .before .deadline-no .ensures) (else2 .if2 .left) (at-pop .pop .ensures)
-
-same-length : tie.Need-same-length
-same-length c = search needs
-
-same-length-2 : tie.Need-same-length-2
-same-length-2 c = search needs
-
-same-length-3 : tie.Need-same-length-3
-same-length-3 c = search needs
-
-same-length-4 : tie.Need-same-length-4
-same-length-4 c = search needs
-
-same-length-5 : tie.Need-same-length-5
-same-length-5 c = search needs
 
 returns-3 : tie.Need-returns-3
 returns-3 c =
@@ -120,22 +93,6 @@ returns-3 c =
 
 pub insert-spec : {M : Type 1} → statement M
 insert-spec =
-    tie.close
-    (tie.spec
-    first-free-requires
-    returns
-    deadline-no-requires
-    returns-2
-    pop-requires
-    give-requires
-    cast-key-of
-    mul-key-of
-    shared-slice-read-key-of
-    key-of-requires
-    place-requires
-    same-length
-    same-length-2
-    same-length-3
-    same-length-4
-    same-length-5
-    returns-3)
+    tie.close (tie.spec (λ c κs. search needs) returns (λ c κs. search needs) returns-2 pop-requires give-requires
+    (λ c. search needs) (λ c. search needs) shared-slice-read-key-of key-of-requires place-requires (λ c. search needs)
+    (λ c. search needs) (λ c. search needs) (λ c. search needs) (λ c. search needs) returns-3)

@@ -19,27 +19,6 @@ abbrev μ-loop : tie.MeasureT-loop
 loop-holds : tie.Need-loop-holds Inv-loop μ-loop
 loop-holds c = (omega arith, omega arith, sym (pending-zero _))
 
-cast-is-pending : tie.Need-cast-is-pending Inv-loop μ-loop
-cast-is-pending c = search needs
-
-mul-is-pending : tie.Need-mul-is-pending Inv-loop μ-loop
-mul-is-pending c = search needs
-
-shared-slice-read-is-pending : tie.Need-shared-slice-read-is-pending Inv-loop μ-loop
-shared-slice-read-is-pending c = search needs
-
-is-pending-requires : tie.Need-is-pending-requires Inv-loop μ-loop
-is-pending-requires c κs = search needs
-
-add-count : tie.Need-add-count Inv-loop μ-loop
-add-count c = search needs
-
-add-i : tie.Need-add-i Inv-loop μ-loop
-add-i c = search needs
-
-loop-less : tie.Need-loop-less Inv-loop μ-loop
-loop-less c = search needs
-
 loop-again : tie.Need-loop-again Inv-loop μ-loop
 loop-again c =
     let turn = c .before .before .before .before in
@@ -49,9 +28,6 @@ loop-again c =
     (λ w. (omega arith, omega arith, w .1 ∙ turn .loop .inv .2 ∙ sym (pending-same _ _ (e ∙ w .0 .left))))
     (c .if1 .came)
 
-cast-result : tie.Need-cast-result Inv-loop μ-loop
-cast-result c = search needs
-
 returns : tie.Need-returns Inv-loop μ-loop
 returns c =
     let e : c .before .loop .i ≡ c .before .before .before .args .n = omega arith in
@@ -59,18 +35,6 @@ returns c =
 
 pub length-spec : {M : Type 1} → statement M
 length-spec =
-    tie.close
-    (tie.spec
-    Inv-loop
-    μ-loop
-    loop-holds
-    cast-is-pending
-    mul-is-pending
-    shared-slice-read-is-pending
-    is-pending-requires
-    add-count
-    add-i
-    loop-less
-    loop-again
-    cast-result
+    tie.close (tie.spec Inv-loop μ-loop loop-holds (λ c. search needs) (λ c. search needs) (λ c. search needs)
+    (λ c κs. search needs) (λ c. search needs) (λ c. search needs) (λ c. search needs) loop-again (λ c. search needs)
     returns)

@@ -7,15 +7,6 @@ use Rattle.queue.proofs.next_wake.Tie as tie
 returns : tie.Need-returns
 returns c = λ v S. wake-now v S (c .if1 .taken)
 
-poll-at-requires : tie.Need-poll-at-requires
-poll-at-requires c κs = search needs
-
-enum-known-wake : tie.Need-enum-known-wake
-enum-known-wake c = search needs
-
-enum-told : tie.Need-enum-told
-enum-told c = search needs
-
 returns-2 : tie.Need-returns-2
 returns-2 c =
     let at-poll = c .before .before .before in
@@ -27,4 +18,5 @@ returns-3 c =
     λ v S. wake-never v S (at-poll .before .if1 .left) (at-poll .poll-at .ensures (v .lists) (S .wheel)) (c .enum-told .given .1)
 
 pub next-wake-spec : {M : Type 1} → statement M
-next-wake-spec = tie.close (tie.spec returns poll-at-requires enum-known-wake enum-told returns-2 returns-3)
+next-wake-spec =
+    tie.close (tie.spec returns (λ c κs. search needs) (λ c. search needs) (λ c. search needs) returns-2 returns-3)

@@ -32,9 +32,6 @@ to-hand-out c =
     let b = a .before .before .before .before in
     b .before .before
 
-poll-no-requires : tie.Need-poll-no-requires
-poll-no-requires c κs = search needs
-
 returns : tie.Need-returns
 returns c = let n = c .before in poll-refused (to-start n .pre) _ _ (n .poll-no .ensures) (c .if1 .taken)
 
@@ -44,36 +41,12 @@ poll-idx-requires c κs =
     let n = else1 .before in
     poll-can (to-start n .pre) _ 0 (n .poll-no .ensures) (else1 .if1 .left)
 
-same-length : tie.Need-same-length
-same-length c = search needs
-
-same-length-2 : tie.Need-same-length-2
-same-length-2 c = search needs
-
-same-length-3 : tie.Need-same-length-3
-same-length-3 c = search needs
-
-same-length-4 : tie.Need-same-length-4
-same-length-4 c = search needs
-
 returns-2 : tie.Need-returns-2
 returns-2 c =
     let at-poll-idx = to-poll-idx (c .before) in
     let else1 = to-else1 (at-poll-idx .before) in
     let n = else1 .before in
     poll-yet (to-start n .pre) _ _ (n .poll-no .ensures) (else1 .if1 .left) (at-poll-idx .poll-idx .ensures) (c .if2 .taken)
-
-same-length-5 : tie.Need-same-length-5
-same-length-5 c = search needs
-
-same-length-6 : tie.Need-same-length-6
-same-length-6 c = search needs
-
-same-length-7 : tie.Need-same-length-7
-same-length-7 c = search needs
-
-same-length-8 : tie.Need-same-length-8
-same-length-8 c = search needs
 
 returns-3 : tie.Need-returns-3
 returns-3 c =
@@ -92,9 +65,6 @@ hand-out-requires c κs =
     let n = else1 .before in
     poll-loose (to-start n .pre) _ _ (n .poll-no .ensures) (else1 .if1 .left) (at-poll-idx .poll-idx .ensures) (ended .if2 .left) (else3 .if3 .left)
 
-same-length-9 : tie.Need-same-length-9
-same-length-9 c = search needs
-
 same-length-10 : tie.Need-same-length-10
 same-length-10 c =
     let at-hand-out = to-hand-out c in
@@ -106,9 +76,6 @@ same-length-11 c =
     let at-hand-out = to-hand-out c in
     let at-poll-idx = to-poll-idx (to-else3 (at-hand-out .before) .before .before) in
     at-hand-out .hand-out .kept .1 .1 .1 .1 .1 .1 .1 .0 ∙ at-poll-idx .poll-idx .kept .1 .1 .1 .1 .1 .1 .0
-
-same-length-12 : tie.Need-same-length-12
-same-length-12 c = search needs
 
 same-length-13 : tie.Need-same-length-13
 same-length-13 c =
@@ -129,25 +96,7 @@ returns-4 c =
 
 pub poll-spec : {M : Type 1} → statement M
 poll-spec =
-    tie.close
-    (tie.spec
-    poll-no-requires
-    returns
-    poll-idx-requires
-    same-length
-    same-length-2
-    same-length-3
-    same-length-4
-    returns-2
-    same-length-5
-    same-length-6
-    same-length-7
-    same-length-8
-    returns-3
-    hand-out-requires
-    same-length-9
-    same-length-10
-    same-length-11
-    same-length-12
-    same-length-13
-    returns-4)
+    tie.close (tie.spec (λ c κs. search needs) returns poll-idx-requires (λ c. search needs) (λ c. search needs)
+    (λ c. search needs) (λ c. search needs) returns-2 (λ c. search needs) (λ c. search needs) (λ c. search needs)
+    (λ c. search needs) returns-3 hand-out-requires (λ c. search needs) same-length-10 same-length-11
+    (λ c. search needs) same-length-13 returns-4)

@@ -26,18 +26,6 @@ to-poll c =
     let a = c .before .before .before .before in
     a .before .before
 
-pop-requires : tie.Need-pop-requires
-pop-requires c κs = search needs
-
-same-length : tie.Need-same-length
-same-length c = search needs
-
-same-length-2 : tie.Need-same-length-2
-same-length-2 c = search needs
-
-same-length-3 : tie.Need-same-length-3
-same-length-3 c = search needs
-
 returns : tie.Need-returns
 returns c = of-expired (to-pop (c .before) .pop .ensures) (c .if1 .taken)
 
@@ -47,15 +35,6 @@ poll-requires c κs =
     let at-pop = to-pop (else1 .before) in
     wheel-can (to-start (at-pop .before) .pre) (at-pop .pop .ensures) (else1 .if1 .left)
 
-same-length-4 : tie.Need-same-length-4
-same-length-4 c = search needs
-
-same-length-5 : tie.Need-same-length-5
-same-length-5 c = search needs
-
-same-length-6 : tie.Need-same-length-6
-same-length-6 c = search needs
-
 returns-2 : tie.Need-returns-2
 returns-2 c =
     let at-poll = to-poll c in
@@ -64,15 +43,5 @@ returns-2 c =
 
 pub poll-idx-spec : {M : Type 1} → statement M
 poll-idx-spec =
-    tie.close
-    (tie.spec
-    pop-requires
-    same-length
-    same-length-2
-    same-length-3
-    returns
-    poll-requires
-    same-length-4
-    same-length-5
-    same-length-6
-    returns-2)
+    tie.close (tie.spec (λ c κs. search needs) (λ c. search needs) (λ c. search needs) (λ c. search needs) returns
+    poll-requires (λ c. search needs) (λ c. search needs) (λ c. search needs) returns-2)

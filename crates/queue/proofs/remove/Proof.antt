@@ -35,23 +35,8 @@ to-leave c =
     let a = c .before .before .before .before in
     a .before .before .before .before
 
-count-of-requires : tie.Need-count-of-requires
-count-of-requires c κs = search needs
-
 find-requires : tie.Need-find-requires
 find-requires c κs = rw (c .before .before .count-of .ensures) (find-room (to-start c .pre))
-
-enum-known-found : tie.Need-enum-known-found
-enum-known-found c = search needs
-
-enum-told : tie.Need-enum-told
-enum-told c = search needs
-
-same-length : tie.Need-same-length
-same-length c = search needs
-
-same-length-2 : tie.Need-same-length-2
-same-length-2 c = search needs
 
 returns : tie.Need-returns
 returns c =
@@ -65,12 +50,6 @@ value-of-requires c κs =
     let at-find = at-found .before .before in
     found-words (to-start (at-find .before) .pre) refl _ 0
     (find-at (at-find .before .before .before .count-of .ensures) (at-find .find .ensures) _ (at-found .found .given .1)) .0
-
-cast-deadline : tie.Need-cast-deadline
-cast-deadline c = search needs
-
-mul-deadline : tie.Need-mul-deadline
-mul-deadline c = search needs
 
 shared-slice-read-deadline : tie.Need-shared-slice-read-deadline
 shared-slice-read-deadline c =
@@ -94,18 +73,6 @@ leave-requires c κs =
     remove-frees (to-start (at-find .before) .pre) refl _ 0
     (find-at (at-find .before .before .before .count-of .ensures) (at-find .find .ensures) _ (at-found .found .given .1)) (at-remove .remove .ensures)
 
-same-length-3 : tie.Need-same-length-3
-same-length-3 c = search needs
-
-same-length-4 : tie.Need-same-length-4
-same-length-4 c = search needs
-
-same-length-5 : tie.Need-same-length-5
-same-length-5 c = search needs
-
-same-length-6 : tie.Need-same-length-6
-same-length-6 c = search needs
-
 returns-2 : tie.Need-returns-2
 returns-2 c =
     let at-leave = to-leave c in
@@ -119,23 +86,7 @@ returns-2 c =
 
 pub remove-spec : {M : Type 1} → statement M
 remove-spec =
-    tie.close
-    (tie.spec
-    count-of-requires
-    find-requires
-    enum-known-found
-    enum-told
-    same-length
-    same-length-2
-    returns
-    value-of-requires
-    cast-deadline
-    mul-deadline
-    shared-slice-read-deadline
-    remove-requires
-    leave-requires
-    same-length-3
-    same-length-4
-    same-length-5
-    same-length-6
+    tie.close (tie.spec (λ c κs. search needs) find-requires (λ c. search needs) (λ c. search needs) (λ c. search needs)
+    (λ c. search needs) returns value-of-requires (λ c. search needs) (λ c. search needs) shared-slice-read-deadline
+    remove-requires leave-requires (λ c. search needs) (λ c. search needs) (λ c. search needs) (λ c. search needs)
     returns-2)

@@ -32,32 +32,14 @@ to-place c =
     let a = c .before .before .before .before in
     a .before .before .before .before
 
-count-of-requires : tie.Need-count-of-requires
-count-of-requires c κs = search needs
-
 find-requires : tie.Need-find-requires
 find-requires c κs = rw (c .before .count-of .ensures) (find-room (to-start c .pre))
-
-enum-known-found : tie.Need-enum-known-found
-enum-known-found c = search needs
-
-enum-told : tie.Need-enum-told
-enum-told c = search needs
-
-same-length : tie.Need-same-length
-same-length c = search needs
 
 returns : tie.Need-returns
 returns c =
     let at-find = c .before .before in
     reset-dead (to-start (at-find .before) .pre) refl _ _
     (find-nowhere (at-find .before .before .count-of .ensures) (at-find .find .ensures) (c .enum-told .given .1))
-
-deadline-no-requires : tie.Need-deadline-no-requires
-deadline-no-requires c κs = search needs
-
-same-length-2 : tie.Need-same-length-2
-same-length-2 c = search needs
 
 returns-2 : tie.Need-returns-2
 returns-2 c =
@@ -84,18 +66,6 @@ place-requires c κs =
     (find-at (at-find .before .before .count-of .ensures) (at-find .find .ensures) _ (at-found .found .given .1))
     (at-deadline-no .deadline-no .ensures) (else1 .if1 .left) (at-remove .remove .ensures)
 
-same-length-3 : tie.Need-same-length-3
-same-length-3 c = search needs
-
-same-length-4 : tie.Need-same-length-4
-same-length-4 c = search needs
-
-same-length-5 : tie.Need-same-length-5
-same-length-5 c = search needs
-
-same-length-6 : tie.Need-same-length-6
-same-length-6 c = search needs
-
 returns-3 : tie.Need-returns-3
 returns-3 c =
     let at-place = to-place c in
@@ -110,21 +80,6 @@ returns-3 c =
 
 pub reset-spec : {M : Type 1} → statement M
 reset-spec =
-    tie.close
-    (tie.spec
-    count-of-requires
-    find-requires
-    enum-known-found
-    enum-told
-    same-length
-    returns
-    deadline-no-requires
-    same-length-2
-    returns-2
-    remove-requires
-    place-requires
-    same-length-3
-    same-length-4
-    same-length-5
-    same-length-6
-    returns-3)
+    tie.close (tie.spec (λ c κs. search needs) find-requires (λ c. search needs) (λ c. search needs) (λ c. search needs)
+    returns (λ c κs. search needs) (λ c. search needs) returns-2 remove-requires place-requires (λ c. search needs)
+    (λ c. search needs) (λ c. search needs) (λ c. search needs) returns-3)

@@ -5,9 +5,6 @@ use Rattle.records.proofs.laws.Found.{no-far, no-near}
 use Rattle.records.proofs.ahead_no.Statement.{statement}
 use Rattle.records.proofs.ahead_no.Tie as tie
 
-too-far-requires : tie.Need-too-far-requires
-too-far-requires c κs = search needs
-
 returns : tie.Need-returns
 returns c = no-far _ _ (sym (c .if1 .taken) ∙ c .before .too-far .ensures)
 
@@ -15,4 +12,4 @@ returns-2 : tie.Need-returns-2
 returns-2 c = no-near _ _ (sym (c .if1 .left) ∙ c .before .too-far .ensures)
 
 pub ahead-no-spec : {M : Type 1} → statement M
-ahead-no-spec = tie.close (tie.spec too-far-requires returns returns-2)
+ahead-no-spec = tie.close (tie.spec (λ c κs. search needs) returns returns-2)

@@ -10,38 +10,8 @@ numbered c = c .before .before .before
 abbrev pending : tie.After-turn-of → tie.After-is-pending
 pending c = c .before .before .before
 
-number-of-requires : tie.Need-number-of-requires
-number-of-requires c κs = search needs
-
-returns : tie.Need-returns
-returns c = search needs
-
-cast-is-pending : tie.Need-cast-is-pending
-cast-is-pending c = search needs
-
-mul-is-pending : tie.Need-mul-is-pending
-mul-is-pending c = search needs
-
-shared-slice-read-is-pending : tie.Need-shared-slice-read-is-pending
-shared-slice-read-is-pending c = search needs
-
-is-pending-requires : tie.Need-is-pending-requires
-is-pending-requires c κs = search needs
-
 returns-2 : tie.Need-returns-2
 returns-2 c = find-mark (numbered (c .before) .number-of .ensures) (c .before .is-pending .ensures) (c .if2 .taken)
-
-cast-if3 : tie.Need-cast-if3
-cast-if3 c = search needs
-
-mul-if3 : tie.Need-mul-if3
-mul-if3 c = search needs
-
-shared-slice-read-if3 : tie.Need-shared-slice-read-if3
-shared-slice-read-if3 c = search needs
-
-turn-of-requires : tie.Need-turn-of-requires
-turn-of-requires c κs = search needs
 
 returns-3 : tie.Need-returns-3
 returns-3 c =
@@ -56,18 +26,6 @@ returns-4 c =
 
 pub find-spec : {M : Type 1} → statement M
 find-spec =
-    tie.close
-    (tie.spec
-    number-of-requires
-    returns
-    cast-is-pending
-    mul-is-pending
-    shared-slice-read-is-pending
-    is-pending-requires
-    returns-2
-    cast-if3
-    mul-if3
-    shared-slice-read-if3
-    turn-of-requires
-    returns-3
-    returns-4)
+    tie.close (tie.spec (λ c κs. search needs) (λ c. search needs) (λ c. search needs) (λ c. search needs)
+    (λ c. search needs) (λ c κs. search needs) returns-2 (λ c. search needs) (λ c. search needs) (λ c. search needs)
+    (λ c κs. search needs) returns-3 returns-4)

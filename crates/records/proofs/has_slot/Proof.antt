@@ -10,11 +10,8 @@ use Rattle.records.proofs.has_slot.Tie as tie
 returns : tie.Need-returns
 returns c = tells-no (λ h. omega (arith, h .0, c .if1 .taken))
 
-same-block-requires : tie.Need-same-block-requires
-same-block-requires c κs = search needs
-
 returns-2 : tie.Need-returns-2
 returns-2 c = tells-by (subst (Tells _) (sym (c .same-block .ensures)) (tells-eq _ _)) (λ b. (c .before .if1 .left, b)) (λ h. h .1)
 
 pub has-slot-spec : {M : Type 1} → statement M
-has-slot-spec = tie.close (tie.spec returns same-block-requires returns-2)
+has-slot-spec = tie.close (tie.spec returns (λ c κs. search needs) returns-2)

@@ -19,47 +19,11 @@ to-push c =
     let a = c .before .before .before .before in
     a .before .before
 
-mul-turn : tie.Need-mul-turn
-mul-turn c = search needs
-
-slice-read-turn : tie.Need-slice-read-turn
-slice-read-turn c = search needs
-
-mul-marks : tie.Need-mul-marks
-mul-marks c = search needs
-
-slice-write-marks : tie.Need-slice-write-marks
-slice-write-marks c = search needs
-
-same-length : tie.Need-same-length
-same-length c = search needs
-
 returns : tie.Need-returns
 returns c = freed-last (to-start (c .before) .pre) (c .if1 .taken)
 
-add-turns : tie.Need-add-turns
-add-turns c = search needs
-
-mul-turns : tie.Need-mul-turns
-mul-turns c = search needs
-
-slice-write-turns : tie.Need-slice-write-turns
-slice-write-turns c = search needs
-
 push-requires : tie.Need-push-requires
 push-requires c κs = free-push (to-start (to-else1 c .before) .pre)
-
-same-length-2 : tie.Need-same-length-2
-same-length-2 c = search needs
-
-same-length-3 : tie.Need-same-length-3
-same-length-3 c = search needs
-
-same-length-4 : tie.Need-same-length-4
-same-length-4 c = search needs
-
-same-length-5 : tie.Need-same-length-5
-same-length-5 c = search needs
 
 returns-2 : tie.Need-returns-2
 returns-2 c =
@@ -69,20 +33,6 @@ returns-2 c =
 
 pub leave-spec : {M : Type 1} → statement M
 leave-spec =
-    tie.close
-    (tie.spec
-    mul-turn
-    slice-read-turn
-    mul-marks
-    slice-write-marks
-    same-length
-    returns
-    add-turns
-    mul-turns
-    slice-write-turns
-    push-requires
-    same-length-2
-    same-length-3
-    same-length-4
-    same-length-5
-    returns-2)
+    tie.close (tie.spec (λ c. search needs) (λ c. search needs) (λ c. search needs) (λ c. search needs)
+    (λ c. search needs) returns (λ c. search needs) (λ c. search needs) (λ c. search needs) push-requires
+    (λ c. search needs) (λ c. search needs) (λ c. search needs) (λ c. search needs) returns-2)

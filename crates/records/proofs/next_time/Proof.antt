@@ -7,17 +7,8 @@ use Rattle.records.proofs.laws.Again.{set-no-more, set-again}
 use Rattle.records.proofs.next_time.Statement.{statement}
 use Rattle.records.proofs.next_time.Tie as tie
 
-sub-if1 : tie.Need-sub-if1
-sub-if1 c = search needs
-
 returns : tie.Need-returns
 returns c = inl (omega arith)
-
-add-when : tie.Need-add-when
-add-when c = search needs
-
-ahead-no-requires : tie.Need-ahead-no-requires
-ahead-no-requires c κs = search needs
 
 returns-2 : tie.Need-returns-2
 returns-2 c = set-no-more (c .before .ahead-no .ensures) (c .if2 .taken)
@@ -27,4 +18,4 @@ returns-3 c = (refl, set-again (c .before .ahead-no .ensures) (omega arith) (c .
 
 pub next-time-spec : {M : Type 1} → statement M
 next-time-spec =
-    tie.close (tie.spec sub-if1 returns add-when ahead-no-requires returns-2 returns-3)
+    tie.close (tie.spec (λ c. search needs) returns (λ c. search needs) (λ c κs. search needs) returns-2 returns-3)

@@ -29,46 +29,16 @@ to-push c =
     let a = c .before .before .before .before in
     a .before .before
 
-has-slot-requires : tie.Need-has-slot-requires
-has-slot-requires c κs = search needs
-
-mul-deadlines : tie.Need-mul-deadlines
-mul-deadlines c = search needs
-
-slice-write-deadlines : tie.Need-slice-write-deadlines
-slice-write-deadlines c = search needs
-
 insert-requires : tie.Need-insert-requires
 insert-requires c κs =
     let y = to-slot c in
     place-insert (to-start (y .before) .pre) (y .before .has-slot .ensures .yes (y .if1 .taken))
-
-same-length : tie.Need-same-length
-same-length c = search needs
-
-same-length-2 : tie.Need-same-length-2
-same-length-2 c = search needs
-
-same-length-3 : tie.Need-same-length-3
-same-length-3 c = search needs
-
-same-length-4 : tie.Need-same-length-4
-same-length-4 c = search needs
 
 returns : tie.Need-returns
 returns c =
     let p = to-insert c in
     let y = to-slot (p .before) in
     placed-slot (to-start (y .before) .pre) (y .before .has-slot .ensures .yes (y .if1 .taken)) (p .insert .ensures)
-
-raised-requires : tie.Need-raised-requires
-raised-requires c κs = search needs
-
-mul-deadlines-2 : tie.Need-mul-deadlines-2
-mul-deadlines-2 c = search needs
-
-slice-write-deadlines-2 : tie.Need-slice-write-deadlines-2
-slice-write-deadlines-2 c = search needs
 
 aside-requires : tie.Need-aside-requires
 aside-requires c κs =
@@ -80,18 +50,6 @@ push-requires c κs =
     let a = to-aside c in
     place-aside (to-start (a .before .before .before) .pre) _ (a .aside .ensures .1) (a .aside .ensures .2)
 
-same-length-5 : tie.Need-same-length-5
-same-length-5 c = search needs
-
-same-length-6 : tie.Need-same-length-6
-same-length-6 c = search needs
-
-same-length-7 : tie.Need-same-length-7
-same-length-7 c = search needs
-
-same-length-8 : tie.Need-same-length-8
-same-length-8 c = search needs
-
 returns-2 : tie.Need-returns-2
 returns-2 c =
     let p = to-push c in
@@ -101,24 +59,7 @@ returns-2 c =
 
 pub place-spec : {M : Type 1} → statement M
 place-spec =
-    tie.close
-    (tie.spec
-    has-slot-requires
-    mul-deadlines
-    slice-write-deadlines
-    insert-requires
-    same-length
-    same-length-2
-    same-length-3
-    same-length-4
-    returns
-    raised-requires
-    mul-deadlines-2
-    slice-write-deadlines-2
-    aside-requires
-    push-requires
-    same-length-5
-    same-length-6
-    same-length-7
-    same-length-8
-    returns-2)
+    tie.close (tie.spec (λ c κs. search needs) (λ c. search needs) (λ c. search needs) insert-requires
+    (λ c. search needs) (λ c. search needs) (λ c. search needs) (λ c. search needs) returns (λ c κs. search needs)
+    (λ c. search needs) (λ c. search needs) aside-requires push-requires (λ c. search needs) (λ c. search needs)
+    (λ c. search needs) (λ c. search needs) returns-2)

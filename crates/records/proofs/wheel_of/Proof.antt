@@ -3,11 +3,8 @@ use borrow.Author.Needs.{needs}
 use Rattle.records.proofs.wheel_of.Statement.{statement}
 use Rattle.records.proofs.wheel_of.Tie as tie
 
-tops-of-requires : tie.Need-tops-of-requires
-tops-of-requires c κs = search needs
-
 returns : tie.Need-returns
 returns c = rw (c .tops-of .ensures)
 
 pub wheel-of-spec : {M : Type 1} → statement M
-wheel-of-spec = tie.close (tie.spec tops-of-requires returns)
+wheel-of-spec = tie.close (tie.spec (λ c κs. search needs) returns)

@@ -67,12 +67,6 @@ to-asked c =
 loop-holds : tie.Need-loop-holds Inv-loop μ-loop
 loop-holds c = (apply-start _ _, to-begin c .pre, refl, refl, refl, refl, refl, refl)
 
-read-step-requires : tie.Need-read-step-requires Inv-loop μ-loop
-read-step-requires c κs = search needs
-
-enum-known-n : tie.Need-enum-known-n Inv-loop μ-loop
-enum-known-n c = search needs
-
 same-length : tie.Need-same-length Inv-loop μ-loop
 same-length c = to-ended c .before .loop .inv .2
 
@@ -94,14 +88,8 @@ same-length-6 c = to-ended c .before .loop .inv .7
 returns : tie.Need-returns Inv-loop μ-loop
 returns c = let r = to-ended c in apply-ends (r .before .loop .inv .0) (sym (r .read-step .ensures) ∙ c .before .n .given .1)
 
-enum-known-n-2 : tie.Need-enum-known-n-2 Inv-loop μ-loop
-enum-known-n-2 c = search needs
-
 one-requires : tie.Need-one-requires Inv-loop μ-loop
 one-requires c κs = to-read (to-asked c) .before .loop .inv .1
-
-size-of-requires : tie.Need-size-of-requires Inv-loop μ-loop
-size-of-requires c κs = search needs
 
 add-used : tie.Need-add-used Inv-loop μ-loop
 add-used c =
@@ -136,23 +124,6 @@ loop-again c =
 
 pub apply-parts-spec : {M : Type 1} → statement M
 apply-parts-spec =
-    tie.close
-    (tie.spec
-    Inv-loop
-    μ-loop
-    loop-holds
-    read-step-requires
-    enum-known-n
-    same-length
-    same-length-2
-    same-length-3
-    same-length-4
-    same-length-5
-    same-length-6
-    returns
-    enum-known-n-2
-    one-requires
-    size-of-requires
-    add-used
-    loop-less
-    loop-again)
+    tie.close (tie.spec Inv-loop μ-loop loop-holds (λ c κs. search needs) (λ c. search needs) same-length same-length-2
+    same-length-3 same-length-4 same-length-5 same-length-6 returns (λ c. search needs) one-requires
+    (λ c κs. search needs) add-used loop-less loop-again)

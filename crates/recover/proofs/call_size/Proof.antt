@@ -4,35 +4,8 @@ use Rattle.recover.proofs.laws.Parts.{size-call, size-format, size-inse
 use Rattle.recover.proofs.call_size.Statement.{statement}
 use Rattle.recover.proofs.call_size.Tie as tie
 
-enum-known-call : tie.Need-enum-known-call
-enum-known-call c = search needs
-
-enum-known-call-2 : tie.Need-enum-known-call-2
-enum-known-call-2 c = search needs
-
 returns : tie.Need-returns
 returns c = size-call (c .before .before .call2 .given .1) (size-insert _ _ _ (c .if1 .taken))
-
-enum-known-call-3 : tie.Need-enum-known-call-3
-enum-known-call-3 c = search needs
-
-enum-known-call-4 : tie.Need-enum-known-call-4
-enum-known-call-4 c = search needs
-
-enum-known-call-5 : tie.Need-enum-known-call-5
-enum-known-call-5 c = search needs
-
-enum-known-call-6 : tie.Need-enum-known-call-6
-enum-known-call-6 c = search needs
-
-enum-told : tie.Need-enum-told
-enum-told c = search needs
-
-enum-told-2 : tie.Need-enum-told-2
-enum-told-2 c = search needs
-
-enum-told-3 : tie.Need-enum-told-3
-enum-told-3 c = search needs
 
 returns-2 : tie.Need-returns-2
 returns-2 c = size-call (c .before .call .given .1) (size-format _ _)
@@ -52,35 +25,11 @@ returns-6 c = size-call (c .before .call5 .given .1) (size-poll _)
 returns-7 : tie.Need-returns-7
 returns-7 c = size-call (c .before .call6 .given .1) (size-poll-some _ _)
 
-returns-8 : tie.Need-returns-8
-returns-8 c = search needs
-
-returns-9 : tie.Need-returns-9
-returns-9 c = search needs
-
 returns-10 : tie.Need-returns-10
 returns-10 c = size-call (c .enum-told3 .given .1) size-clear
 
 pub call-size-spec : {M : Type 1} → statement M
 call-size-spec =
-    tie.close
-    (tie.spec
-    enum-known-call
-    enum-known-call-2
-    returns
-    enum-known-call-3
-    enum-known-call-4
-    enum-known-call-5
-    enum-known-call-6
-    enum-told
-    enum-told-2
-    enum-told-3
-    returns-2
-    returns-3
-    returns-4
-    returns-5
-    returns-6
-    returns-7
-    returns-8
-    returns-9
-    returns-10)
+    tie.close (tie.spec (λ c. search needs) (λ c. search needs) returns (λ c. search needs) (λ c. search needs)
+    (λ c. search needs) (λ c. search needs) (λ c. search needs) (λ c. search needs) (λ c. search needs) returns-2
+    returns-3 returns-4 returns-5 returns-6 returns-7 (λ c. search needs) (λ c. search needs) returns-10)

@@ -7,17 +7,8 @@ use Rattle.recover.proofs.format_number.Tie as tie
 returns : tie.Need-returns
 returns c = not-none (c .if1 .taken)
 
-cast-if2 : tie.Need-cast-if2
-cast-if2 c = search needs
-
 returns-2 : tie.Need-returns-2
 returns-2 c = not-many (c .if2 .taken)
-
-cast-has-room : tie.Need-cast-has-room
-cast-has-room c = search needs
-
-has-room-requires : tie.Need-has-room-requires
-has-room-requires c κs = search needs
 
 returns-3 : tie.Need-returns-3
 returns-3 c = no-room (c .before .has-room .ensures) (c .if3 .taken)
@@ -27,5 +18,5 @@ returns-4 c = let b = c .before .before in fits-so (b .before .if1 .left) (b .if
 
 pub format-number-spec : {M : Type 1} → statement M
 format-number-spec =
-    tie.close
-    (tie.spec returns cast-if2 returns-2 cast-has-room has-room-requires returns-3 returns-4)
+    tie.close (tie.spec returns (λ c. search needs) returns-2 (λ c. search needs) (λ c κs. search needs) returns-3
+    returns-4)

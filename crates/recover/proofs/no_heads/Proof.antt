@@ -4,12 +4,9 @@ use Rattle.recover.specs.Replay.{noHeads}
 use Rattle.recover.proofs.no_heads.Statement.{statement}
 use Rattle.recover.proofs.no_heads.Tie as tie
 
-heads-of-requires : tie.Need-heads-of-requires
-heads-of-requires c κs = search needs
-
 returns : tie.Need-returns
 unfolding noHeads
 returns c = c .heads-of .ensures
 
 pub no-heads-spec : {M : Type 1} → statement M
-no-heads-spec = tie.close (tie.spec heads-of-requires returns)
+no-heads-spec = tie.close (tie.spec (λ c κs. search needs) returns)

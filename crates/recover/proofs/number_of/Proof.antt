@@ -7,75 +7,6 @@ use Rattle.recover.proofs.laws.Known.{number-as, number-call, number-op
 use Rattle.recover.proofs.number_of.Statement.{statement}
 use Rattle.recover.proofs.number_of.Tie as tie
 
-enum-known-step : tie.Need-enum-known-step
-enum-known-step c = search needs
-
-enum-known-call : tie.Need-enum-known-call
-enum-known-call c = search needs
-
-format-number-requires : tie.Need-format-number-requires
-format-number-requires c κs = search needs
-
-enum-known-call-2 : tie.Need-enum-known-call-2
-enum-known-call-2 c = search needs
-
-choose-requires : tie.Need-choose-requires
-choose-requires c κs = search needs
-
-enum-known-call-3 : tie.Need-enum-known-call-3
-enum-known-call-3 c = search needs
-
-choose-requires-2 : tie.Need-choose-requires-2
-choose-requires-2 c κs = search needs
-
-enum-known-call-4 : tie.Need-enum-known-call-4
-enum-known-call-4 c = search needs
-
-choose-requires-3 : tie.Need-choose-requires-3
-choose-requires-3 c κs = search needs
-
-enum-known-call-5 : tie.Need-enum-known-call-5
-enum-known-call-5 c = search needs
-
-choose-requires-4 : tie.Need-choose-requires-4
-choose-requires-4 c κs = search needs
-
-enum-known-call-6 : tie.Need-enum-known-call-6
-enum-known-call-6 c = search needs
-
-choose-requires-5 : tie.Need-choose-requires-5
-choose-requires-5 c κs = search needs
-
-enum-told : tie.Need-enum-told
-enum-told c = search needs
-
-choose-requires-6 : tie.Need-choose-requires-6
-choose-requires-6 c κs = search needs
-
-enum-told-2 : tie.Need-enum-told-2
-enum-told-2 c = search needs
-
-choose-requires-7 : tie.Need-choose-requires-7
-choose-requires-7 c κs = search needs
-
-enum-told-3 : tie.Need-enum-told-3
-enum-told-3 c = search needs
-
-choose-requires-8 : tie.Need-choose-requires-8
-choose-requires-8 c κs = search needs
-
-enum-told-4 : tie.Need-enum-told-4
-enum-told-4 c = search needs
-
-choose-requires-9 : tie.Need-choose-requires-9
-choose-requires-9 c κs = search needs
-
-enum-told-5 : tie.Need-enum-told-5
-enum-told-5 c = search needs
-
-choose-requires-10 : tie.Need-choose-requires-10
-choose-requires-10 c κs = search needs
-
 returns : tie.Need-returns
 returns c =
     let a = c .before .before in
@@ -138,39 +69,9 @@ returns-11 c = number-as (c .before .enum-told5 .given .1) (number-close _ (c .c
 
 pub number-of-spec : {M : Type 1} → statement M
 number-of-spec =
-    tie.close
-    (tie.spec
-    enum-known-step
-    enum-known-call
-    format-number-requires
-    enum-known-call-2
-    choose-requires
-    enum-known-call-3
-    choose-requires-2
-    enum-known-call-4
-    choose-requires-3
-    enum-known-call-5
-    choose-requires-4
-    enum-known-call-6
-    choose-requires-5
-    enum-told
-    choose-requires-6
-    enum-told-2
-    choose-requires-7
-    enum-told-3
-    choose-requires-8
-    enum-told-4
-    choose-requires-9
-    enum-told-5
-    choose-requires-10
-    returns
-    returns-2
-    returns-3
-    returns-4
-    returns-5
-    returns-6
-    returns-7
-    returns-8
-    returns-9
-    returns-10
-    returns-11)
+    tie.close (tie.spec (λ c. search needs) (λ c. search needs) (λ c κs. search needs) (λ c. search needs)
+    (λ c κs. search needs) (λ c. search needs) (λ c κs. search needs) (λ c. search needs) (λ c κs. search needs)
+    (λ c. search needs) (λ c κs. search needs) (λ c. search needs) (λ c κs. search needs) (λ c. search needs)
+    (λ c κs. search needs) (λ c. search needs) (λ c κs. search needs) (λ c. search needs) (λ c κs. search needs)
+    (λ c. search needs) (λ c κs. search needs) (λ c. search needs) (λ c κs. search needs) returns returns-2 returns-3
+    returns-4 returns-5 returns-6 returns-7 returns-8 returns-9 returns-10 returns-11)

@@ -23,45 +23,6 @@ to-start c =
     let a = c .before .before .before .before in
     a .before .before
 
-enum-known-step : tie.Need-enum-known-step
-enum-known-step c = search needs
-
-command-of-requires : tie.Need-command-of-requires
-command-of-requires c κs = search needs
-
-slice-aggregate-answer-all : tie.Need-slice-aggregate-answer-all
-slice-aggregate-answer-all c = search needs
-
-slice-aggregate-answer-all-2 : tie.Need-slice-aggregate-answer-all-2
-slice-aggregate-answer-all-2 c = search needs
-
-answer-all-requires : tie.Need-answer-all-requires
-answer-all-requires c κs = search needs
-
-enum-told : tie.Need-enum-told
-enum-told c = search needs
-
-enum-told-2 : tie.Need-enum-told-2
-enum-told-2 c = search needs
-
-same-length : tie.Need-same-length
-same-length c = search needs
-
-same-length-2 : tie.Need-same-length-2
-same-length-2 c = search needs
-
-same-length-3 : tie.Need-same-length-3
-same-length-3 c = search needs
-
-same-length-4 : tie.Need-same-length-4
-same-length-4 c = search needs
-
-same-length-5 : tie.Need-same-length-5
-same-length-5 c = search needs
-
-same-length-6 : tie.Need-same-length-6
-same-length-6 c = search needs
-
 returns : tie.Need-returns
 returns c =
     let at-run = to-run c in
@@ -80,21 +41,6 @@ returns-3 c = record { makes = closed-makes (c .enum-told2 .given .1); tells = t
 
 pub one-spec : {M : Type 1} → statement M
 one-spec =
-    tie.close
-    (tie.spec
-    enum-known-step
-    command-of-requires
-    slice-aggregate-answer-all
-    slice-aggregate-answer-all-2
-    answer-all-requires
-    enum-told
-    enum-told-2
-    same-length
-    same-length-2
-    same-length-3
-    same-length-4
-    same-length-5
-    same-length-6
-    returns
-    returns-2
-    returns-3)
+    tie.close (tie.spec (λ c. search needs) (λ c κs. search needs) (λ c. search needs) (λ c. search needs)
+    (λ c κs. search needs) (λ c. search needs) (λ c. search needs) (λ c. search needs) (λ c. search needs)
+    (λ c. search needs) (λ c. search needs) (λ c. search needs) (λ c. search needs) returns returns-2 returns-3)

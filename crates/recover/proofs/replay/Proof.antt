@@ -37,44 +37,11 @@ to-lent c =
 -- what the scan found in all of the bytes
 scanned : (c : tie.After-scan) → let a = to-start (to-unread c) .args in
     Scans (slicesOf (a .values .now) (a .deadlines .now) (a .nexts .now) (a .prevs .now) (a .turns .now) (a .marks .now)) (a .bytes .now) atStart
-        (c .scan .result)
+    (c .scan .result)
 scanned c = all-scanned (to-unread c .unread .ensures) (omega (arith, to-start (to-unread c) .good)) (c .scan .ensures)
-
-unread-requires : tie.Need-unread-requires
-unread-requires c κs = search needs
-
-scan-requires : tie.Need-scan-requires
-scan-requires c κs = search needs
-
-no-store-requires : tie.Need-no-store-requires
-no-store-requires c κs = search needs
-
-no-heads-requires : tie.Need-no-heads-requires
-no-heads-requires c κs = search needs
 
 slice-aggregate-apply : tie.Need-slice-aggregate-apply
 slice-aggregate-apply c = sym (length-take-le _ _ (kept-within (scanned (to-scan c))))
-
-apply-requires : tie.Need-apply-requires
-apply-requires c κs = search needs
-
-same-length : tie.Need-same-length
-same-length c = search needs
-
-same-length-2 : tie.Need-same-length-2
-same-length-2 c = search needs
-
-same-length-3 : tie.Need-same-length-3
-same-length-3 c = search needs
-
-same-length-4 : tie.Need-same-length-4
-same-length-4 c = search needs
-
-same-length-5 : tie.Need-same-length-5
-same-length-5 c = search needs
-
-same-length-6 : tie.Need-same-length-6
-same-length-6 c = search needs
 
 returns : tie.Need-returns
 returns c =
@@ -85,18 +52,6 @@ returns c =
 
 pub replay-spec : {M : Type 1} → statement M
 replay-spec =
-    tie.close
-    (tie.spec
-    unread-requires
-    scan-requires
-    no-store-requires
-    no-heads-requires
-    slice-aggregate-apply
-    apply-requires
-    same-length
-    same-length-2
-    same-length-3
-    same-length-4
-    same-length-5
-    same-length-6
-    returns)
+    tie.close (tie.spec (λ c κs. search needs) (λ c κs. search needs) (λ c κs. search needs) (λ c κs. search needs)
+    slice-aggregate-apply (λ c κs. search needs) (λ c. search needs) (λ c. search needs) (λ c. search needs)
+    (λ c. search needs) (λ c. search needs) (λ c. search needs) returns)

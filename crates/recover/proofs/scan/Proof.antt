@@ -69,14 +69,8 @@ can-be c =
     let k = to-cut r in
     can (sym (k .before .is-cut .ensures) ∙ not-false _ (k .if1 .left)) (omega (arith, r .if2 .left, to-start c .good)) (omega (arith, c .if3 .left))
 
-is-cut-requires : tie.Need-is-cut-requires Inv-loop μ-loop
-is-cut-requires c κs = search needs
-
 returns : tie.Need-returns Inv-loop μ-loop
 returns c = cannot (λ C. true≢false (sym (C .cut) ∙ sym (c .before .is-cut .ensures) ∙ not-true _ (c .if1 .taken)))
-
-sub-if2 : tie.Need-sub-if2 Inv-loop μ-loop
-sub-if2 c = search needs
 
 returns-2 : tie.Need-returns-2 Inv-loop μ-loop
 returns-2 c = cannot (λ C. omega (arith, C .within, c .if2 .taken))
@@ -86,12 +80,6 @@ returns-3 c = cannot (λ C. omega (arith, C .few, c .if3 .taken))
 
 loop-holds : tie.Need-loop-holds Inv-loop μ-loop
 loop-holds c = scan-start _ _ _ (can-be c .few)
-
-read-step-requires : tie.Need-read-step-requires Inv-loop μ-loop
-read-step-requires c κs = search needs
-
-enum-known-n : tie.Need-enum-known-n Inv-loop μ-loop
-enum-known-n c = search needs
 
 add-t24 : tie.Need-add-t24 Inv-loop μ-loop
 add-t24 c = let r = to-ended c in omega (arith, can-be (to-begun r) .within, r .before .loop .inv .within)
@@ -103,12 +91,6 @@ returns-4 c =
       reads = λ C. scans-after (scan-ends (r .before .loop .inv) (sym (r .read-step .ensures) ∙ c .before .n .given .1));
       stays = λ f. absurd (f (can-be (to-begun r)));
     }
-
-enum-known-n-2 : tie.Need-enum-known-n-2 Inv-loop μ-loop
-enum-known-n-2 c = search needs
-
-number-of-requires : tie.Need-number-of-requires Inv-loop μ-loop
-number-of-requires c κs = search needs
 
 add-t26 : tie.Need-add-t26 Inv-loop μ-loop
 add-t26 c = let r = to-read (to-got c) in omega (arith, can-be (to-begun r) .within, r .before .loop .inv .within)
@@ -124,21 +106,12 @@ returns-5 c =
       stays = λ f. absurd (f (can-be (to-begun r)));
     }
 
-lives-requires : tie.Need-lives-requires Inv-loop μ-loop
-lives-requires c κs = search needs
-
-opens-requires : tie.Need-opens-requires Inv-loop μ-loop
-opens-requires c κs = search needs
-
 left-after-requires : tie.Need-left-after-requires Inv-loop μ-loop
 left-after-requires c κs =
     let n = to-opened c in
     let r = to-read n in
     let f = step-forth _ (r .before .loop .i) (sym (r .read-step .ensures) ∙ n .before .before .n2 .given .1) refl in
     omega (arith, f .0, f .1, r .before .loop .inv .few, can-be (to-begun r) .within)
-
-size-of-requires : tie.Need-size-of-requires Inv-loop μ-loop
-size-of-requires c κs = search needs
 
 -- a step goes forth, and stays within
 abbrev forth : (c : tie.After-size-of Inv-loop μ-loop)
@@ -181,31 +154,7 @@ loop-again-2 c =
 
 pub scan-spec : {M : Type 1} → statement M
 scan-spec =
-    tie.close
-    (tie.spec
-    Inv-loop
-    μ-loop
-    is-cut-requires
-    returns
-    sub-if2
-    returns-2
-    returns-3
-    loop-holds
-    read-step-requires
-    enum-known-n
-    add-t24
-    returns-4
-    enum-known-n-2
-    number-of-requires
-    add-t26
-    returns-5
-    lives-requires
-    opens-requires
-    left-after-requires
-    size-of-requires
-    add-i
-    add-kept
-    loop-less
-    loop-again
-    loop-less-2
-    loop-again-2)
+    tie.close (tie.spec Inv-loop μ-loop (λ c κs. search needs) returns (λ c. search needs) returns-2 returns-3
+    loop-holds (λ c κs. search needs) (λ c. search needs) add-t24 returns-4 (λ c. search needs) (λ c κs. search needs)
+    add-t26 returns-5 (λ c κs. search needs) (λ c κs. search needs) left-after-requires (λ c κs. search needs) add-i
+    add-kept loop-less loop-again loop-less-2 loop-again-2)

@@ -65,32 +65,11 @@ from-none : {w : Wheel} {hh : List (List ℕ)} {vs ds ns ps ts ms : List ℕ} {a
 from-none {vs = vs} {ds} {ns} {ps} {ts} {ms} {at} {t} e f I =
     subst (λ (z : Wheel × List (List ℕ)). Applying at (words (z .0) (z .1) vs ds ns ps ts ms) t) (λ i. (e i, f i)) I
 
-large-buffer-requires : tie.Need-large-buffer-requires Inv-loop μ-loop
-large-buffer-requires c κs = search needs
-
-no-store-requires : tie.Need-no-store-requires Inv-loop μ-loop
-no-store-requires c κs = search needs
-
-no-heads-requires : tie.Need-no-heads-requires Inv-loop μ-loop
-no-heads-requires c κs = search needs
-
 loop-holds : tie.Need-loop-holds Inv-loop μ-loop
 loop-holds c = (applying-start, c .before .before .large-buffer .ensures, omega arith, refl, refl, refl, refl, refl, refl)
 
 slice-aggregate-more-from : tie.Need-slice-aggregate-more-from Inv-loop μ-loop
 slice-aggregate-more-from c = c .before .before .loop .inv .1
-
-more-from-requires : tie.Need-more-from-requires Inv-loop μ-loop
-more-from-requires c κs = search needs
-
-count-requires : tie.Need-count-requires Inv-loop μ-loop
-count-requires c κs = search needs
-
-sub-least : tie.Need-sub-least Inv-loop μ-loop
-sub-least c = search needs
-
-least-requires : tie.Need-least-requires Inv-loop μ-loop
-least-requires c κs = search needs
 
 array-share-prefix-buf : tie.Need-array-share-prefix-buf Inv-loop μ-loop
 array-share-prefix-buf c = omega (arith, c .least .ensures, c .before .count .ensures, to-read c .more-from .ensures .0)
@@ -98,9 +77,6 @@ array-share-prefix-buf c = omega (arith, c .least .ensures, c .before .count .en
 slice-aggregate-apply : tie.Need-slice-aggregate-apply Inv-loop μ-loop
 slice-aggregate-apply c =
     let n = c .before in simp length-take (omega (arith, n .least .ensures, n .before .count .ensures, to-read n .more-from .ensures .0))
-
-apply-requires : tie.Need-apply-requires Inv-loop μ-loop
-apply-requires c κs = search needs
 
 same-length : tie.Need-same-length Inv-loop μ-loop
 same-length c = let a = to-apply (c .before) in a .apply .kept .1 .1 .1 .0 ∙ to-loop (to-read (to-least a)) .loop .inv .3
@@ -187,36 +163,8 @@ returns-2 c =
 
 pub apply-file-spec : {M : Type 1} → statement M
 apply-file-spec =
-    tie.close
-    (tie.spec
-    Inv-loop
-    μ-loop
-    large-buffer-requires
-    no-store-requires
-    no-heads-requires
-    loop-holds
-    slice-aggregate-more-from
-    more-from-requires
-    count-requires
-    sub-least
-    least-requires
-    array-share-prefix-buf
-    slice-aggregate-apply
-    apply-requires
-    same-length
-    same-length-2
-    same-length-3
-    same-length-4
-    same-length-5
-    same-length-6
-    returns
-    add-at
-    loop-less
-    loop-again
-    same-length-7
-    same-length-8
-    same-length-9
-    same-length-10
-    same-length-11
-    same-length-12
-    returns-2)
+    tie.close (tie.spec Inv-loop μ-loop (λ c κs. search needs) (λ c κs. search needs) (λ c κs. search needs) loop-holds
+    slice-aggregate-more-from (λ c κs. search needs) (λ c κs. search needs) (λ c. search needs) (λ c κs. search needs)
+    array-share-prefix-buf slice-aggregate-apply (λ c κs. search needs) same-length same-length-2 same-length-3
+    same-length-4 same-length-5 same-length-6 returns add-at loop-less loop-again same-length-7 same-length-8
+    same-length-9 same-length-10 same-length-11 same-length-12 returns-2)

@@ -6,9 +6,6 @@ use borrow.Author.Tests.{not-false, ltb-true}
 use Rattle.restore.proofs.goes_on.Statement.{statement}
 use Rattle.restore.proofs.goes_on.Tie as tie
 
-is-cut-requires : tie.Need-is-cut-requires
-is-cut-requires c κs = search needs
-
 returns : tie.Need-returns
 returns c = λ (e : false ≡ true). absurd (false≢true e)
 
@@ -16,4 +13,4 @@ returns-2 : tie.Need-returns-2
 returns-2 c = λ e. (ltb-true _ _ e, sym (c .before .before .is-cut .ensures) ∙ not-false _ (c .before .if1 .left))
 
 pub goes-on-spec : {M : Type 1} → statement M
-goes-on-spec = tie.close (tie.spec is-cut-requires returns returns-2)
+goes-on-spec = tie.close (tie.spec (λ c κs. search needs) returns returns-2)

@@ -44,23 +44,11 @@ within c =
 counted : (c : tie.After-count Inv-loop μ-loop) → length (take (c .count .result) (to-read c .more-from .last .1 .1 .0)) ≡ c .count .result
 counted c = simp length-take (omega (arith, c .count .ensures, to-read c .more-from .ensures .0))
 
-large-buffer-requires : tie.Need-large-buffer-requires Inv-loop μ-loop
-large-buffer-requires c κs = search needs
-
-unread-requires : tie.Need-unread-requires Inv-loop μ-loop
-unread-requires c κs = search needs
-
 loop-holds : tie.Need-loop-holds Inv-loop μ-loop
 loop-holds c = (c .before .large-buffer .ensures, omega (arith, ap (λ s. s .at) (c .unread .ensures)), scanning-start (c .unread .ensures))
 
 slice-aggregate-more-from : tie.Need-slice-aggregate-more-from Inv-loop μ-loop
 slice-aggregate-more-from c = c .before .loop .inv .0
-
-more-from-requires : tie.Need-more-from-requires Inv-loop μ-loop
-more-from-requires c κs = search needs
-
-count-requires : tie.Need-count-requires Inv-loop μ-loop
-count-requires c κs = search needs
 
 array-share-prefix-buf : tie.Need-array-share-prefix-buf Inv-loop μ-loop
 array-share-prefix-buf c = omega (arith, c .count .ensures, to-read c .more-from .ensures .0)
@@ -68,20 +56,8 @@ array-share-prefix-buf c = omega (arith, c .count .ensures, to-read c .more-from
 slice-aggregate-scan : tie.Need-slice-aggregate-scan Inv-loop μ-loop
 slice-aggregate-scan c = sym (counted (c .before))
 
-scan-requires : tie.Need-scan-requires Inv-loop μ-loop
-scan-requires c κs = search needs
-
-goes-on-requires : tie.Need-goes-on-requires Inv-loop μ-loop
-goes-on-requires c κs = search needs
-
 add-more-from : tie.Need-add-more-from Inv-loop μ-loop
 add-more-from c = omega (arith, within (to-count (c .before)))
-
-slice-aggregate-more-from-2 : tie.Need-slice-aggregate-more-from-2 Inv-loop μ-loop
-slice-aggregate-more-from-2 c = search needs
-
-more-from-requires-2 : tie.Need-more-from-requires-2 Inv-loop μ-loop
-more-from-requires-2 c κs = search needs
 
 add-t22 : tie.Need-add-t22 Inv-loop μ-loop
 add-t22 c = omega (arith, within (to-count (to-last c)))
@@ -115,24 +91,7 @@ loop-again c =
 
 pub scan-file-spec : {M : Type 1} → statement M
 scan-file-spec =
-    tie.close
-    (tie.spec
-    Inv-loop
-    μ-loop
-    large-buffer-requires
-    unread-requires
-    loop-holds
-    slice-aggregate-more-from
-    more-from-requires
-    count-requires
-    array-share-prefix-buf
-    slice-aggregate-scan
-    scan-requires
-    goes-on-requires
-    add-more-from
-    slice-aggregate-more-from-2
-    more-from-requires-2
-    add-t22
-    returns
-    loop-less
-    loop-again)
+    tie.close (tie.spec Inv-loop μ-loop (λ c κs. search needs) (λ c κs. search needs) loop-holds
+    slice-aggregate-more-from (λ c κs. search needs) (λ c κs. search needs) array-share-prefix-buf slice-aggregate-scan
+    (λ c κs. search needs) (λ c κs. search needs) add-more-from (λ c. search needs) (λ c κs. search needs) add-t22
+    returns loop-less loop-again)

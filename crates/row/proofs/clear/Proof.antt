@@ -6,13 +6,10 @@ use Rattle.row.proofs.laws.Code.{xor-clears}
 use Rattle.row.proofs.clear.Statement.{statement}
 use Rattle.row.proofs.clear.Tie as tie
 
-occupied-bit-requires : tie.Need-occupied-bit-requires
-occupied-bit-requires c κs = search needs
-
 returns : tie.Need-returns
 returns c =
     ap (bitXor (c .before .args .occupied)) (c .occupied-bit .ensures)
     ∙ xor-clears _ _ (c .before .fits .occupied .fits) (c .before .pre .0) (c .before .pre .1)
 
 pub clear-spec : {M : Type 1} → statement M
-clear-spec = tie.close (tie.spec occupied-bit-requires returns)
+clear-spec = tie.close (tie.spec (λ c κs. search needs) returns)

@@ -4,11 +4,8 @@ use Rattle.row.proofs.laws.Code.{one-shl}
 use Rattle.row.proofs.occupied_bit.Statement.{statement}
 use Rattle.row.proofs.occupied_bit.Tie as tie
 
-shl-result : tie.Need-shl-result
-shl-result c = search needs
-
 returns : tie.Need-returns
 returns c = one-shl (c .args .slot) (c .pre)
 
 pub occupied-bit-spec : {M : Type 1} → statement M
-occupied-bit-spec = tie.close (tie.spec shl-result returns)
+occupied-bit-spec = tie.close (tie.spec (λ c. search needs) returns)

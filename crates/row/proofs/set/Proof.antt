@@ -6,11 +6,8 @@ use Rattle.row.proofs.laws.Code.{or-sets}
 use Rattle.row.proofs.set.Statement.{statement}
 use Rattle.row.proofs.set.Tie as tie
 
-occupied-bit-requires : tie.Need-occupied-bit-requires
-occupied-bit-requires c κs = search needs
-
 returns : tie.Need-returns
 returns c = ap (bitOr (c .before .args .occupied)) (c .occupied-bit .ensures) ∙ or-sets _ _ (c .before .fits .occupied .fits) (c .before .pre)
 
 pub set-spec : {M : Type 1} → statement M
-set-spec = tie.close (tie.spec occupied-bit-requires returns)
+set-spec = tie.close (tie.spec (λ c κs. search needs) returns)

@@ -69,84 +69,12 @@ to-write c = c .before .before
 loop-holds : tie.Need-loop-holds Inv-loop μ-loop
 loop-holds c = (answered-none, to-start c .pre, refl, refl, refl, refl, refl, refl, refl)
 
-mul-at : tie.Need-mul-at Inv-loop μ-loop
-mul-at c = search needs
-
-mul-call-of : tie.Need-mul-call-of Inv-loop μ-loop
-mul-call-of c = search needs
-
-shared-slice-read-call-of : tie.Need-shared-slice-read-call-of Inv-loop μ-loop
-shared-slice-read-call-of c = search needs
-
-add-call-of : tie.Need-add-call-of Inv-loop μ-loop
-add-call-of c = search needs
-
-mul-call-of-2 : tie.Need-mul-call-of-2 Inv-loop μ-loop
-mul-call-of-2 c = search needs
-
-shared-slice-read-call-of-2 : tie.Need-shared-slice-read-call-of-2 Inv-loop μ-loop
-shared-slice-read-call-of-2 c = search needs
-
-add-call-of-2 : tie.Need-add-call-of-2 Inv-loop μ-loop
-add-call-of-2 c = search needs
-
-mul-call-of-3 : tie.Need-mul-call-of-3 Inv-loop μ-loop
-mul-call-of-3 c = search needs
-
-shared-slice-read-call-of-3 : tie.Need-shared-slice-read-call-of-3 Inv-loop μ-loop
-shared-slice-read-call-of-3 c = search needs
-
-add-call-of-3 : tie.Need-add-call-of-3 Inv-loop μ-loop
-add-call-of-3 c = search needs
-
-mul-call-of-4 : tie.Need-mul-call-of-4 Inv-loop μ-loop
-mul-call-of-4 c = search needs
-
-shared-slice-read-call-of-4 : tie.Need-shared-slice-read-call-of-4 Inv-loop μ-loop
-shared-slice-read-call-of-4 c = search needs
-
-call-of-requires : tie.Need-call-of-requires Inv-loop μ-loop
-call-of-requires c κs = search needs
-
-enum-known-group : tie.Need-enum-known-group Inv-loop μ-loop
-enum-known-group c = search needs
-
-enum-told : tie.Need-enum-told Inv-loop μ-loop
-enum-told c = search needs
-
-same-length : tie.Need-same-length Inv-loop μ-loop
-same-length c = search needs
-
-same-length-2 : tie.Need-same-length-2 Inv-loop μ-loop
-same-length-2 c = search needs
-
-same-length-3 : tie.Need-same-length-3 Inv-loop μ-loop
-same-length-3 c = search needs
-
-same-length-4 : tie.Need-same-length-4 Inv-loop μ-loop
-same-length-4 c = search needs
-
-same-length-5 : tie.Need-same-length-5 Inv-loop μ-loop
-same-length-5 c = search needs
-
-same-length-6 : tie.Need-same-length-6 Inv-loop μ-loop
-same-length-6 c = search needs
-
-same-length-7 : tie.Need-same-length-7 Inv-loop μ-loop
-same-length-7 c = search needs
-
 returns : tie.Need-returns Inv-loop μ-loop
 returns c =
     let at-call-of = c .before .before in
     let in-loop = to-in-loop at-call-of in
     let I = in-loop .before .loop .inv in
     record { run = stops-there (I .0) (omega (arith, in-loop .loop-test .taken)) (at-call-of .call-of .ensures) (c .enum-told .given .1); tells = I .1 }
-
-same-length-8 : tie.Need-same-length-8 Inv-loop μ-loop
-same-length-8 c = search needs
-
-same-length-9 : tie.Need-same-length-9 Inv-loop μ-loop
-same-length-9 c = search needs
 
 same-length-10 : tie.Need-same-length-10 Inv-loop μ-loop
 same-length-10 c = search needs
@@ -245,53 +173,11 @@ returns-3 c =
 
 pub answer-all-spec : {M : Type 1} → statement M
 answer-all-spec =
-    tie.close
-    (tie.spec
-    Inv-loop
-    μ-loop
-    loop-holds
-    mul-at
-    mul-call-of
-    shared-slice-read-call-of
-    add-call-of
-    mul-call-of-2
-    shared-slice-read-call-of-2
-    add-call-of-2
-    mul-call-of-3
-    shared-slice-read-call-of-3
-    add-call-of-3
-    mul-call-of-4
-    shared-slice-read-call-of-4
-    call-of-requires
-    enum-known-group
-    enum-told
-    same-length
-    same-length-2
-    same-length-3
-    same-length-4
-    same-length-5
-    same-length-6
-    same-length-7
-    returns
-    same-length-8
-    same-length-9
-    same-length-10
-    same-length-11
-    same-length-12
-    same-length-13
-    same-length-14
-    returns-2
-    mul-to
-    add-next
-    known-requires
-    write-answer-requires
-    loop-less
-    loop-again
-    same-length-15
-    same-length-16
-    same-length-17
-    same-length-18
-    same-length-19
-    same-length-20
-    same-length-21
-    returns-3)
+    tie.close (tie.spec Inv-loop μ-loop loop-holds (λ c. search needs) (λ c. search needs) (λ c. search needs)
+    (λ c. search needs) (λ c. search needs) (λ c. search needs) (λ c. search needs) (λ c. search needs)
+    (λ c. search needs) (λ c. search needs) (λ c. search needs) (λ c. search needs) (λ c κs. search needs)
+    (λ c. search needs) (λ c. search needs) (λ c. search needs) (λ c. search needs) (λ c. search needs)
+    (λ c. search needs) (λ c. search needs) (λ c. search needs) (λ c. search needs) returns (λ c. search needs)
+    (λ c. search needs) same-length-10 same-length-11 same-length-12 same-length-13 same-length-14 returns-2 mul-to
+    add-next known-requires write-answer-requires loop-less loop-again same-length-15 same-length-16 same-length-17
+    same-length-18 same-length-19 same-length-20 same-length-21 returns-3)

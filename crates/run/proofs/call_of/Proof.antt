@@ -4,33 +4,6 @@ use Rattle.run.proofs.laws.Groups.{is-format, is-insert, is-reset, is-r
 use Rattle.run.proofs.call_of.Statement.{statement}
 use Rattle.run.proofs.call_of.Tie as tie
 
-if-blank-requires : tie.Need-if-blank-requires
-if-blank-requires c κs = search needs
-
-if-blank-requires-2 : tie.Need-if-blank-requires-2
-if-blank-requires-2 c κs = search needs
-
-if-blank-requires-3 : tie.Need-if-blank-requires-3
-if-blank-requires-3 c κs = search needs
-
-if-blank-requires-4 : tie.Need-if-blank-requires-4
-if-blank-requires-4 c κs = search needs
-
-if-blank-requires-5 : tie.Need-if-blank-requires-5
-if-blank-requires-5 c κs = search needs
-
-if-blank-requires-6 : tie.Need-if-blank-requires-6
-if-blank-requires-6 c κs = search needs
-
-if-blank-requires-7 : tie.Need-if-blank-requires-7
-if-blank-requires-7 c κs = search needs
-
-if-blank-requires-8 : tie.Need-if-blank-requires-8
-if-blank-requires-8 c κs = search needs
-
-if-blank-requires-9 : tie.Need-if-blank-requires-9
-if-blank-requires-9 c κs = search needs
-
 returns : tie.Need-returns
 returns c = is-format (c .before .match .keys1) (c .if-blank .ensures)
 
@@ -63,24 +36,6 @@ returns-10 c = is-nothing (c .match .rest)
 
 pub call-of-spec : {M : Type 1} → statement M
 call-of-spec =
-    tie.close
-    (tie.spec
-    if-blank-requires
-    if-blank-requires-2
-    if-blank-requires-3
-    if-blank-requires-4
-    if-blank-requires-5
-    if-blank-requires-6
-    if-blank-requires-7
-    if-blank-requires-8
-    if-blank-requires-9
-    returns
-    returns-2
-    returns-3
-    returns-4
-    returns-5
-    returns-6
-    returns-7
-    returns-8
-    returns-9
-    returns-10)
+    tie.close (tie.spec (λ c κs. search needs) (λ c κs. search needs) (λ c κs. search needs) (λ c κs. search needs)
+    (λ c κs. search needs) (λ c κs. search needs) (λ c κs. search needs) (λ c κs. search needs) (λ c κs. search needs)
+    returns returns-2 returns-3 returns-4 returns-5 returns-6 returns-7 returns-8 returns-9 returns-10)

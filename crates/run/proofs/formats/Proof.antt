@@ -22,36 +22,6 @@ to-wheel c =
     let a = c .before .before .before .before in
     a .before .before .before .before
 
-wheel-of-requires : tie.Need-wheel-of-requires
-wheel-of-requires c κs = search needs
-
-format-requires : tie.Need-format-requires
-format-requires c κs = search needs
-
-tops-in-requires : tie.Need-tops-in-requires
-tops-in-requires c κs = search needs
-
-heads-in-requires : tie.Need-heads-in-requires
-heads-in-requires c κs = search needs
-
-same-length : tie.Need-same-length
-same-length c = search needs
-
-same-length-2 : tie.Need-same-length-2
-same-length-2 c = search needs
-
-same-length-3 : tie.Need-same-length-3
-same-length-3 c = search needs
-
-same-length-4 : tie.Need-same-length-4
-same-length-4 c = search needs
-
-same-length-5 : tie.Need-same-length-5
-same-length-5 c = search needs
-
-same-length-6 : tie.Need-same-length-6
-same-length-6 c = search needs
-
 returns : tie.Need-returns
 returns c =
     let at-format = to-format c in
@@ -60,16 +30,6 @@ returns c =
 
 pub formats-spec : {M : Type 1} → statement M
 formats-spec =
-    tie.close
-    (tie.spec
-    wheel-of-requires
-    format-requires
-    tops-in-requires
-    heads-in-requires
-    same-length
-    same-length-2
-    same-length-3
-    same-length-4
-    same-length-5
-    same-length-6
-    returns)
+    tie.close (tie.spec (λ c κs. search needs) (λ c κs. search needs) (λ c κs. search needs) (λ c κs. search needs)
+    (λ c. search needs) (λ c. search needs) (λ c. search needs) (λ c. search needs) (λ c. search needs)
+    (λ c. search needs) returns)

@@ -36,24 +36,6 @@ to-call c =
 on-sound-requires : tie.Need-on-sound-requires
 on-sound-requires c κs = let at-then = to-then c in to-start (at-then .before) .pre .yes (at-then .if1 .taken)
 
-same-length : tie.Need-same-length
-same-length c = search needs
-
-same-length-2 : tie.Need-same-length-2
-same-length-2 c = search needs
-
-same-length-3 : tie.Need-same-length-3
-same-length-3 c = search needs
-
-same-length-4 : tie.Need-same-length-4
-same-length-4 c = search needs
-
-same-length-5 : tie.Need-same-length-5
-same-length-5 c = search needs
-
-same-length-6 : tie.Need-same-length-6
-same-length-6 c = search needs
-
 returns : tie.Need-returns
 returns c =
     let at-call = to-on-sound c in
@@ -61,37 +43,10 @@ returns c =
     let start = to-start (at-then .before) in
     knows-sound (start .args .call) (start .pre .yes (at-then .if1 .taken)) (at-call .on-sound .ensures)
 
-enum-known-call : tie.Need-enum-known-call
-enum-known-call c = search needs
-
 returns-2 : tie.Need-returns-2
 returns-2 c =
     let start = to-start (c .before .before) in
     knows-not (start .args .call) (start .pre .no (c .before .if1 .left)) (c .match .keys2)
-
-formats-requires : tie.Need-formats-requires
-formats-requires c κs = search needs
-
-accepted-requires : tie.Need-accepted-requires
-accepted-requires c κs = search needs
-
-same-length-7 : tie.Need-same-length-7
-same-length-7 c = search needs
-
-same-length-8 : tie.Need-same-length-8
-same-length-8 c = search needs
-
-same-length-9 : tie.Need-same-length-9
-same-length-9 c = search needs
-
-same-length-10 : tie.Need-same-length-10
-same-length-10 c = search needs
-
-same-length-11 : tie.Need-same-length-11
-same-length-11 c = search needs
-
-same-length-12 : tie.Need-same-length-12
-same-length-12 c = search needs
 
 returns-3 : tie.Need-returns-3
 returns-3 c =
@@ -102,24 +57,7 @@ returns-3 c =
 
 pub known-spec : {M : Type 1} → statement M
 known-spec =
-    tie.close
-    (tie.spec
-    on-sound-requires
-    same-length
-    same-length-2
-    same-length-3
-    same-length-4
-    same-length-5
-    same-length-6
-    returns
-    enum-known-call
-    returns-2
-    formats-requires
-    accepted-requires
-    same-length-7
-    same-length-8
-    same-length-9
-    same-length-10
-    same-length-11
-    same-length-12
-    returns-3)
+    tie.close (tie.spec on-sound-requires (λ c. search needs) (λ c. search needs) (λ c. search needs)
+    (λ c. search needs) (λ c. search needs) (λ c. search needs) returns (λ c. search needs) returns-2
+    (λ c κs. search needs) (λ c κs. search needs) (λ c. search needs) (λ c. search needs) (λ c. search needs)
+    (λ c. search needs) (λ c. search needs) (λ c. search needs) returns-3)

@@ -7,18 +7,6 @@ use Rattle.run.proofs.must_wait.Tie as tie
 returns : tie.Need-returns
 returns c = none-waits (c .before .args .call) (c .if1 .taken)
 
-enum-told : tie.Need-enum-told
-enum-told c = search needs
-
-enum-told-2 : tie.Need-enum-told-2
-enum-told-2 c = search needs
-
-enum-told-3 : tie.Need-enum-told-3
-enum-told-3 c = search needs
-
-enum-told-4 : tie.Need-enum-told-4
-enum-told-4 c = search needs
-
 returns-2 : tie.Need-returns-2
 returns-2 c = waits-so (c .before .before .if1 .left) (c .enum-told .given .1) tt
 
@@ -36,15 +24,5 @@ returns-6 c = goes-through (c .before .before .args .call) (c .match .keys5)
 
 pub must-wait-spec : {M : Type 1} → statement M
 must-wait-spec =
-    tie.close
-    (tie.spec
-    returns
-    enum-told
-    enum-told-2
-    enum-told-3
-    enum-told-4
-    returns-2
-    returns-3
-    returns-4
-    returns-5
-    returns-6)
+    tie.close (tie.spec returns (λ c. search needs) (λ c. search needs) (λ c. search needs) (λ c. search needs)
+    returns-2 returns-3 returns-4 returns-5 returns-6)

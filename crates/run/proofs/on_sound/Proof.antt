@@ -110,47 +110,11 @@ to-expired c = c .before .before
 abbrev to-enum-told3 : tie.After-first-expired → tie.After-enum-told3
 to-enum-told3 c = c .before .before
 
-must-wait-requires : tie.Need-must-wait-requires
-must-wait-requires c κs = search needs
-
 returns : tie.Need-returns
 returns c = held-up (to-start (c .before) .args .call) (to-start (c .before) .pre) (c .before .must-wait .ensures .yes (c .if1 .taken))
 
-enum-known-call : tie.Need-enum-known-call
-enum-known-call c = search needs
-
-formats-requires : tie.Need-formats-requires
-formats-requires c κs = search needs
-
-enum-known-call-2 : tie.Need-enum-known-call-2
-enum-known-call-2 c = search needs
-
-poll-requires : tie.Need-poll-requires
-poll-requires c κs = search needs
-
-enum-known-call-3 : tie.Need-enum-known-call-3
-enum-known-call-3 c = search needs
-
-poll-requires-2 : tie.Need-poll-requires-2
-poll-requires-2 c κs = search needs
-
-enum-told : tie.Need-enum-told
-enum-told c = search needs
-
-count-of-requires : tie.Need-count-of-requires
-count-of-requires c κs = search needs
-
-length-requires : tie.Need-length-requires
-length-requires c κs = search needs
-
-enum-told-2 : tie.Need-enum-told-2
-enum-told-2 c = search needs
-
 clear-requires : tie.Need-clear-requires
 clear-requires c κs = standing-hold (to-start (to-enum-told2 c .before .before .before) .pre .standing) _ _
-
-enum-known-call-4 : tie.Need-enum-known-call-4
-enum-known-call-4 c = search needs
 
 insert-requires : tie.Need-insert-requires
 insert-requires c κs =
@@ -160,9 +124,6 @@ insert-requires c κs =
     let z = at-rest (else1 .before .must-wait .ensures) (else1 .if1 .left) (at-call .call4 .given .1) tt in
     parted (S, z)
 
-enum-known-call-5 : tie.Need-enum-known-call-5
-enum-known-call-5 c = search needs
-
 reset-requires : tie.Need-reset-requires
 reset-requires c κs =
     let at-call = to-call5 c in
@@ -171,9 +132,6 @@ reset-requires c κs =
     let z = at-rest (else1 .before .must-wait .ensures) (else1 .if1 .left) (at-call .call5 .given .1) tt in
     parted (S, z)
 
-enum-known-call-6 : tie.Need-enum-known-call-6
-enum-known-call-6 c = search needs
-
 remove-requires : tie.Need-remove-requires
 remove-requires c κs =
     let at-call = to-call6 c in
@@ -181,15 +139,6 @@ remove-requires c κs =
     let S = to-start (else1 .before) .pre in
     let z = at-rest (else1 .before .must-wait .ensures) (else1 .if1 .left) (at-call .call6 .given .1) tt in
     parted (S, z)
-
-enum-told-3 : tie.Need-enum-told-3
-enum-told-3 c = search needs
-
-first-expired-requires : tie.Need-first-expired-requires
-first-expired-requires c κs = search needs
-
-first-parked-requires : tie.Need-first-parked-requires
-first-parked-requires c κs = search needs
 
 next-wake-requires : tie.Need-next-wake-requires
 next-wake-requires c κs =
@@ -200,31 +149,10 @@ next-wake-requires c κs =
     let z = at-rest (else1 .before .must-wait .ensures) (else1 .if1 .left) (told .enum-told3 .given .1) tt in
     rw (at-parked .first-parked .ensures) (can-look (S, z))
 
-same-length : tie.Need-same-length
-same-length c = search needs
-
-same-length-2 : tie.Need-same-length-2
-same-length-2 c = search needs
-
-same-length-3 : tie.Need-same-length-3
-same-length-3 c = search needs
-
-same-length-4 : tie.Need-same-length-4
-same-length-4 c = search needs
-
-same-length-5 : tie.Need-same-length-5
-same-length-5 c = search needs
-
-same-length-6 : tie.Need-same-length-6
-same-length-6 c = search needs
-
 returns-2 : tie.Need-returns-2
 returns-2 c =
     let at-formats = to-formats c in
     by-call _ _ _ (to-call at-formats .call .given .1) (at-formats .formats .ensures)
-
-same-length-7 : tie.Need-same-length-7
-same-length-7 c = search needs
 
 same-length-8 : tie.Need-same-length-8
 same-length-8 c = search needs
@@ -403,81 +331,15 @@ returns-10 c =
 
 pub on-sound-spec : {M : Type 1} → statement M
 on-sound-spec =
-    tie.close
-    (tie.spec
-    must-wait-requires
-    returns
-    enum-known-call
-    formats-requires
-    enum-known-call-2
-    poll-requires
-    enum-known-call-3
-    poll-requires-2
-    enum-told
-    count-of-requires
-    length-requires
-    enum-told-2
-    clear-requires
-    enum-known-call-4
-    insert-requires
-    enum-known-call-5
-    reset-requires
-    enum-known-call-6
-    remove-requires
-    enum-told-3
-    first-expired-requires
-    first-parked-requires
-    next-wake-requires
-    same-length
-    same-length-2
-    same-length-3
-    same-length-4
-    same-length-5
-    same-length-6
-    returns-2
-    same-length-7
-    same-length-8
-    same-length-9
-    same-length-10
-    same-length-11
-    same-length-12
-    returns-3
-    same-length-13
-    same-length-14
-    same-length-15
-    same-length-16
-    same-length-17
-    same-length-18
-    returns-4
-    same-length-19
-    returns-5
-    same-length-20
-    same-length-21
-    same-length-22
-    same-length-23
-    same-length-24
-    same-length-25
-    returns-6
-    same-length-26
-    same-length-27
-    same-length-28
-    same-length-29
-    same-length-30
-    same-length-31
-    returns-7
-    same-length-32
-    same-length-33
-    same-length-34
-    same-length-35
-    same-length-36
-    same-length-37
-    returns-8
-    same-length-38
-    same-length-39
-    same-length-40
-    same-length-41
-    same-length-42
-    same-length-43
-    returns-9
-    same-length-44
-    returns-10)
+    tie.close (tie.spec (λ c κs. search needs) returns (λ c. search needs) (λ c κs. search needs) (λ c. search needs)
+    (λ c κs. search needs) (λ c. search needs) (λ c κs. search needs) (λ c. search needs) (λ c κs. search needs)
+    (λ c κs. search needs) (λ c. search needs) clear-requires (λ c. search needs) insert-requires (λ c. search needs)
+    reset-requires (λ c. search needs) remove-requires (λ c. search needs) (λ c κs. search needs) (λ c κs. search needs)
+    next-wake-requires (λ c. search needs) (λ c. search needs) (λ c. search needs) (λ c. search needs)
+    (λ c. search needs) (λ c. search needs) returns-2 (λ c. search needs) same-length-8 same-length-9 same-length-10
+    same-length-11 same-length-12 returns-3 same-length-13 same-length-14 same-length-15 same-length-16 same-length-17
+    same-length-18 returns-4 same-length-19 returns-5 same-length-20 same-length-21 same-length-22 same-length-23
+    same-length-24 same-length-25 returns-6 same-length-26 same-length-27 same-length-28 same-length-29 same-length-30
+    same-length-31 returns-7 same-length-32 same-length-33 same-length-34 same-length-35 same-length-36 same-length-37
+    returns-8 same-length-38 same-length-39 same-length-40 same-length-41 same-length-42 same-length-43 returns-9
+    same-length-44 returns-10)

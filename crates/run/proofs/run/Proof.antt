@@ -27,43 +27,10 @@ to-tops c =
     let b = a .before .before .before .before in
     b .before .before .before
 
-is-sound-requires : tie.Need-is-sound-requires
-is-sound-requires c κs = search needs
-
-tops-in-requires : tie.Need-tops-in-requires
-tops-in-requires c κs = search needs
-
 answer-all-requires : tie.Need-answer-all-requires
 answer-all-requires c κs =
     let at-tops = to-lent c in
     tells-lent (at-tops .tops-in .ensures) (to-sound at-tops .is-sound .ensures)
-
-wheel-of-requires : tie.Need-wheel-of-requires
-wheel-of-requires c κs = search needs
-
-heads-of-requires : tie.Need-heads-of-requires
-heads-of-requires c κs = search needs
-
-same-length : tie.Need-same-length
-same-length c = search needs
-
-same-length-2 : tie.Need-same-length-2
-same-length-2 c = search needs
-
-same-length-3 : tie.Need-same-length-3
-same-length-3 c = search needs
-
-same-length-4 : tie.Need-same-length-4
-same-length-4 c = search needs
-
-same-length-5 : tie.Need-same-length-5
-same-length-5 c = search needs
-
-same-length-6 : tie.Need-same-length-6
-same-length-6 c = search needs
-
-same-length-7 : tie.Need-same-length-7
-same-length-7 c = search needs
 
 returns : tie.Need-returns
 returns c =
@@ -72,18 +39,6 @@ returns c =
 
 pub run-spec : {M : Type 1} → statement M
 run-spec =
-    tie.close
-    (tie.spec
-    is-sound-requires
-    tops-in-requires
-    answer-all-requires
-    wheel-of-requires
-    heads-of-requires
-    same-length
-    same-length-2
-    same-length-3
-    same-length-4
-    same-length-5
-    same-length-6
-    same-length-7
-    returns)
+    tie.close (tie.spec (λ c κs. search needs) (λ c κs. search needs) answer-all-requires (λ c κs. search needs)
+    (λ c κs. search needs) (λ c. search needs) (λ c. search needs) (λ c. search needs) (λ c. search needs)
+    (λ c. search needs) (λ c. search needs) (λ c. search needs) returns)

@@ -55,80 +55,8 @@ to-answer9 c =
     let a = c .before .before .before .before in
     a .before
 
-enum-told : tie.Need-enum-told
-enum-told c = search needs
-
-write-words-requires : tie.Need-write-words-requires
-write-words-requires c κs = search needs
-
-enum-known-answer : tie.Need-enum-known-answer
-enum-known-answer c = search needs
-
-write-words-requires-2 : tie.Need-write-words-requires-2
-write-words-requires-2 c κs = search needs
-
-enum-known-answer-2 : tie.Need-enum-known-answer-2
-enum-known-answer-2 c = search needs
-
-write-words-requires-3 : tie.Need-write-words-requires-3
-write-words-requires-3 c κs = search needs
-
-enum-known-answer-3 : tie.Need-enum-known-answer-3
-enum-known-answer-3 c = search needs
-
-write-words-requires-4 : tie.Need-write-words-requires-4
-write-words-requires-4 c κs = search needs
-
-enum-known-answer-4 : tie.Need-enum-known-answer-4
-enum-known-answer-4 c = search needs
-
-write-words-requires-5 : tie.Need-write-words-requires-5
-write-words-requires-5 c κs = search needs
-
-enum-known-answer-5 : tie.Need-enum-known-answer-5
-enum-known-answer-5 c = search needs
-
-write-words-requires-6 : tie.Need-write-words-requires-6
-write-words-requires-6 c κs = search needs
-
-enum-known-answer-6 : tie.Need-enum-known-answer-6
-enum-known-answer-6 c = search needs
-
-write-words-requires-7 : tie.Need-write-words-requires-7
-write-words-requires-7 c κs = search needs
-
-enum-told-2 : tie.Need-enum-told-2
-enum-told-2 c = search needs
-
-write-words-requires-8 : tie.Need-write-words-requires-8
-write-words-requires-8 c κs = search needs
-
-enum-known-answer-7 : tie.Need-enum-known-answer-7
-enum-known-answer-7 c = search needs
-
-write-words-requires-9 : tie.Need-write-words-requires-9
-write-words-requires-9 c κs = search needs
-
-enum-known-answer-8 : tie.Need-enum-known-answer-8
-enum-known-answer-8 c = search needs
-
-write-words-requires-10 : tie.Need-write-words-requires-10
-write-words-requires-10 c κs = search needs
-
-enum-known-answer-9 : tie.Need-enum-known-answer-9
-enum-known-answer-9 c = search needs
-
-write-words-requires-11 : tie.Need-write-words-requires-11
-write-words-requires-11 c κs = search needs
-
-same-length : tie.Need-same-length
-same-length c = search needs
-
 returns : tie.Need-returns
 returns c = by-answer _ _ _ (to-enum-told c .enum-told .given .1) (c .before .before .write-words .ensures)
-
-same-length-2 : tie.Need-same-length-2
-same-length-2 c = search needs
 
 returns-2 : tie.Need-returns-2
 returns-2 c = by-answer _ _ _ (to-answer c .answer .given .1) (c .before .before .write-words2 .ensures)
@@ -189,49 +117,11 @@ returns-11 c = by-answer _ _ _ (to-answer9 c .answer9 .given .1) (c .before .bef
 
 pub write-answer-spec : {M : Type 1} → statement M
 write-answer-spec =
-    tie.close
-    (tie.spec
-    enum-told
-    write-words-requires
-    enum-known-answer
-    write-words-requires-2
-    enum-known-answer-2
-    write-words-requires-3
-    enum-known-answer-3
-    write-words-requires-4
-    enum-known-answer-4
-    write-words-requires-5
-    enum-known-answer-5
-    write-words-requires-6
-    enum-known-answer-6
-    write-words-requires-7
-    enum-told-2
-    write-words-requires-8
-    enum-known-answer-7
-    write-words-requires-9
-    enum-known-answer-8
-    write-words-requires-10
-    enum-known-answer-9
-    write-words-requires-11
-    same-length
-    returns
-    same-length-2
-    returns-2
-    same-length-3
-    returns-3
-    same-length-4
-    returns-4
-    same-length-5
-    returns-5
-    same-length-6
-    returns-6
-    same-length-7
-    returns-7
-    same-length-8
-    returns-8
-    same-length-9
-    returns-9
-    same-length-10
-    returns-10
-    same-length-11
+    tie.close (tie.spec (λ c. search needs) (λ c κs. search needs) (λ c. search needs) (λ c κs. search needs)
+    (λ c. search needs) (λ c κs. search needs) (λ c. search needs) (λ c κs. search needs) (λ c. search needs)
+    (λ c κs. search needs) (λ c. search needs) (λ c κs. search needs) (λ c. search needs) (λ c κs. search needs)
+    (λ c. search needs) (λ c κs. search needs) (λ c. search needs) (λ c κs. search needs) (λ c. search needs)
+    (λ c κs. search needs) (λ c. search needs) (λ c κs. search needs) (λ c. search needs) returns (λ c. search needs)
+    returns-2 same-length-3 returns-3 same-length-4 returns-4 same-length-5 returns-5 same-length-6 returns-6
+    same-length-7 returns-7 same-length-8 returns-8 same-length-9 returns-9 same-length-10 returns-10 same-length-11
     returns-11)

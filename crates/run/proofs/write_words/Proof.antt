@@ -6,53 +6,17 @@ use Rattle.run.proofs.laws.Groups.{six-written}
 use Rattle.run.proofs.write_words.Statement.{statement}
 use Rattle.run.proofs.write_words.Tie as tie
 
-mul-to : tie.Need-mul-to
-mul-to c = search needs
-
-slice-write-to : tie.Need-slice-write-to
-slice-write-to c = search needs
-
-add-to : tie.Need-add-to
-add-to c = search needs
-
-mul-to-2 : tie.Need-mul-to-2
-mul-to-2 c = search needs
-
 slice-write-to-2 : tie.Need-slice-write-to-2
 slice-write-to-2 c = simp length-set (omega arith)
-
-add-to-2 : tie.Need-add-to-2
-add-to-2 c = search needs
-
-mul-to-3 : tie.Need-mul-to-3
-mul-to-3 c = search needs
 
 slice-write-to-3 : tie.Need-slice-write-to-3
 slice-write-to-3 c = simp length-set (omega arith)
 
-add-to-3 : tie.Need-add-to-3
-add-to-3 c = search needs
-
-mul-to-4 : tie.Need-mul-to-4
-mul-to-4 c = search needs
-
 slice-write-to-4 : tie.Need-slice-write-to-4
 slice-write-to-4 c = simp length-set (omega arith)
 
-add-to-4 : tie.Need-add-to-4
-add-to-4 c = search needs
-
-mul-to-5 : tie.Need-mul-to-5
-mul-to-5 c = search needs
-
 slice-write-to-5 : tie.Need-slice-write-to-5
 slice-write-to-5 c = simp length-set (omega arith)
-
-add-to-5 : tie.Need-add-to-5
-add-to-5 c = search needs
-
-mul-to-6 : tie.Need-mul-to-6
-mul-to-6 c = search needs
 
 slice-write-to-6 : tie.Need-slice-write-to-6
 slice-write-to-6 c = simp length-set (omega arith)
@@ -67,24 +31,7 @@ returns c =
 
 pub write-words-spec : {M : Type 1} → statement M
 write-words-spec =
-    tie.close
-    (tie.spec
-    mul-to
-    slice-write-to
-    add-to
-    mul-to-2
-    slice-write-to-2
-    add-to-2
-    mul-to-3
-    slice-write-to-3
-    add-to-3
-    mul-to-4
-    slice-write-to-4
-    add-to-4
-    mul-to-5
-    slice-write-to-5
-    add-to-5
-    mul-to-6
-    slice-write-to-6
-    same-length
-    returns)
+    tie.close (tie.spec (λ c. search needs) (λ c. search needs) (λ c. search needs) (λ c. search needs) slice-write-to-2
+    (λ c. search needs) (λ c. search needs) slice-write-to-3 (λ c. search needs) (λ c. search needs) slice-write-to-4
+    (λ c. search needs) (λ c. search needs) slice-write-to-5 (λ c. search needs) (λ c. search needs) slice-write-to-6
+    same-length returns)

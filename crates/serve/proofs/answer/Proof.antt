@@ -19,7 +19,7 @@ Inv-loop limits got line₀ values₀ deadlines₀ nexts₀ prevs₀ turns₀ ma
     marks out n state heads fine i =
     (n ≤ 81)
     × Passes (LineAnswered limits) (length line₀) (take n₀ line₀) got (words state₀ (heads₀ .heads) values₀ deadlines₀ nexts₀ prevs₀ turns₀ marks₀)
-        (take n line)
+    (take n line)
     (drop i got)
     (words state (heads .heads) values deadlines nexts prevs turns marks)
     × (length line ≡ length line₀)
@@ -64,23 +64,14 @@ to-start c =
     let b = a .before .before .before .before in
     b .before .before
 
-room-requires : tie.Need-room-requires Inv-loop μ-loop
-room-requires c κs = search needs
-
 loop-holds : tie.Need-loop-holds Inv-loop μ-loop
 loop-holds c = (search needs, passes-none, refl, refl, refl, refl, refl, refl, refl, refl)
-
-slice-relend-prefix-answer-lines : tie.Need-slice-relend-prefix-answer-lines Inv-loop μ-loop
-slice-relend-prefix-answer-lines c = search needs
 
 slice-aggregate-answer-lines : tie.Need-slice-aggregate-answer-lines Inv-loop μ-loop
 slice-aggregate-answer-lines c =
     let at-loop = to-loop c in
     let at-room = to-room at-loop in
     simp length-take (omega (arith, at-room .room .ensures .3, at-loop .before .loop .inv .9, to-start at-room .pre .2))
-
-answer-lines-requires : tie.Need-answer-lines-requires Inv-loop μ-loop
-answer-lines-requires c κs = search needs
 
 put-requires : tie.Need-put-requires Inv-loop μ-loop
 put-requires c κs =
@@ -156,24 +147,6 @@ returns c = let I = c .before .loop .inv in (I .0, calls-used _ (c .loop-test .l
 
 pub answer-spec : {M : Type 1} → statement M
 answer-spec =
-    tie.close
-    (tie.spec
-    Inv-loop
-    μ-loop
-    room-requires
-    loop-holds
-    slice-relend-prefix-answer-lines
-    slice-aggregate-answer-lines
-    answer-lines-requires
-    put-requires
-    loop-less
-    loop-again
-    same-length
-    same-length-2
-    same-length-3
-    same-length-4
-    same-length-5
-    same-length-6
-    same-length-7
-    same-length-8
-    returns)
+    tie.close (tie.spec Inv-loop μ-loop (λ c κs. search needs) loop-holds (λ c. search needs)
+    slice-aggregate-answer-lines (λ c κs. search needs) put-requires loop-less loop-again same-length same-length-2
+    same-length-3 same-length-4 same-length-5 same-length-6 same-length-7 same-length-8 returns)

@@ -36,47 +36,14 @@ to-start c =
 abbrev failed : tie.After-write-all → tie.Then1
 failed c = c .before .before
 
-at-end-requires : tie.Need-at-end-requires
-at-end-requires c κs = search needs
-
-slice-aggregate-write-all : tie.Need-slice-aggregate-write-all
-slice-aggregate-write-all c = search needs
-
-write-all-requires : tie.Need-write-all-requires
-write-all-requires c κs = search needs
-
 returns : tie.Need-returns
 returns c = let f = failed c in breaks-off (sym (f .before .at-end .ensures) ∙ not-true _ (f .if1 .taken))
 
 slice-aggregate-answer-last : tie.Need-slice-aggregate-answer-last
 slice-aggregate-answer-last c = let R = to-start (arg-else c) .pre in simp length-take (omega (arith, R .0, R .1))
 
-answer-last-requires : tie.Need-answer-last-requires
-answer-last-requires c κs = search needs
-
 put-requires : tie.Need-put-requires
 put-requires c κs = let A = to-answer-last c .answer-last in omega (arith, last-room (A .ensures), A .kept)
-
-same-length : tie.Need-same-length
-same-length c = search needs
-
-same-length-2 : tie.Need-same-length-2
-same-length-2 c = search needs
-
-same-length-3 : tie.Need-same-length-3
-same-length-3 c = search needs
-
-same-length-4 : tie.Need-same-length-4
-same-length-4 c = search needs
-
-same-length-5 : tie.Need-same-length-5
-same-length-5 c = search needs
-
-same-length-6 : tie.Need-same-length-6
-same-length-6 c = search needs
-
-same-length-7 : tie.Need-same-length-7
-same-length-7 c = search needs
 
 returns-2 : tie.Need-returns-2
 returns-2 c =
@@ -89,20 +56,6 @@ returns-2 c =
 
 pub finish-spec : {M : Type 1} → statement M
 finish-spec =
-    tie.close
-    (tie.spec
-    at-end-requires
-    slice-aggregate-write-all
-    write-all-requires
-    returns
-    slice-aggregate-answer-last
-    answer-last-requires
-    put-requires
-    same-length
-    same-length-2
-    same-length-3
-    same-length-4
-    same-length-5
-    same-length-6
-    same-length-7
-    returns-2)
+    tie.close (tie.spec (λ c κs. search needs) (λ c. search needs) (λ c κs. search needs) returns
+    slice-aggregate-answer-last (λ c κs. search needs) put-requires (λ c. search needs) (λ c. search needs)
+    (λ c. search needs) (λ c. search needs) (λ c. search needs) (λ c. search needs) (λ c. search needs) returns-2)

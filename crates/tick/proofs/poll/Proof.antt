@@ -18,33 +18,6 @@ to-poll c =
 abbrev to-read : tie.After-enum-told → tie.After-read
 to-read c = c .before .before .before
 
-read-requires : tie.Need-read-requires
-read-requires c κs = search needs
-
-enum-told : tie.Need-enum-told
-enum-told c = search needs
-
-poll-requires : tie.Need-poll-requires
-poll-requires c κs = search needs
-
-unchanged-requires : tie.Need-unchanged-requires
-unchanged-requires c κs = search needs
-
-same-length : tie.Need-same-length
-same-length c = search needs
-
-same-length-2 : tie.Need-same-length-2
-same-length-2 c = search needs
-
-same-length-3 : tie.Need-same-length-3
-same-length-3 c = search needs
-
-same-length-4 : tie.Need-same-length-4
-same-length-4 c = search needs
-
-same-length-5 : tie.Need-same-length-5
-same-length-5 c = search needs
-
 returns : tie.Need-returns
 returns c =
     let at-poll = to-poll c in
@@ -58,16 +31,6 @@ returns-2 c =
 
 pub poll-spec : {M : Type 1} → statement M
 poll-spec =
-    tie.close
-    (tie.spec
-    read-requires
-    enum-told
-    poll-requires
-    unchanged-requires
-    same-length
-    same-length-2
-    same-length-3
-    same-length-4
-    same-length-5
-    returns
+    tie.close (tie.spec (λ c κs. search needs) (λ c. search needs) (λ c κs. search needs) (λ c κs. search needs)
+    (λ c. search needs) (λ c. search needs) (λ c. search needs) (λ c. search needs) (λ c. search needs) returns
     returns-2)

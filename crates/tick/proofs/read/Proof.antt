@@ -5,20 +5,11 @@ use Rattle.tick.proofs.laws.Reading.{read-past, read-taken}
 use Rattle.tick.proofs.read.Statement.{statement}
 use Rattle.tick.proofs.read.Tie as tie
 
-difference-requires : tie.Need-difference-requires
-difference-requires c κs = search needs
-
-sub-if1 : tie.Need-sub-if1
-sub-if1 c = search needs
-
 returns : tie.Need-returns
 returns c = read-past _ _ (omega (arith, c .before .difference .ensures, c .if1 .taken))
-
-add-t8 : tie.Need-add-t8
-add-t8 c = search needs
 
 returns-2 : tie.Need-returns-2
 returns-2 c = read-taken _ _ (λ p. omega (arith, c .before .difference .ensures, c .if1 .left)) (c .before .difference .ensures)
 
 pub read-spec : {M : Type 1} → statement M
-read-spec = tie.close (tie.spec difference-requires sub-if1 returns add-t8 returns-2)
+read-spec = tie.close (tie.spec (λ c κs. search needs) (λ c. search needs) returns (λ c. search needs) returns-2)

@@ -5,9 +5,6 @@ use Rattle.times.specs.Times.{blockEnd}
 use Rattle.times.proofs.block_end.Statement.{statement}
 use Rattle.times.proofs.block_end.Tie as tie
 
-add-result : tie.Need-add-result
-add-result c = search needs
-
 mul-result : tie.Need-mul-result
 unfolding blockEnd
 mul-result c = record { fits = c .pre }
@@ -17,4 +14,4 @@ unfolding blockEnd
 returns c = refl
 
 pub block-end-spec : {M : Type 1} → statement M
-block-end-spec = tie.close (tie.spec add-result mul-result returns)
+block-end-spec = tie.close (tie.spec (λ c. search needs) mul-result returns)

@@ -5,12 +5,9 @@ use Rattle.times.specs.Times.{width, floor}
 use Rattle.times.proofs.block_start.Statement.{statement}
 use Rattle.times.proofs.block_start.Tie as tie
 
-mul-result : tie.Need-mul-result
-mul-result c = search needs
-
 returns : tie.Need-returns
 unfolding floor width
 returns c = refl
 
 pub block-start-spec : {M : Type 1} → statement M
-block-start-spec = tie.close (tie.spec mul-result returns)
+block-start-spec = tie.close (tie.spec (λ c. search needs) returns)

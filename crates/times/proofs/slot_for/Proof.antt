@@ -7,15 +7,9 @@ use Rattle.times.proofs.laws.Quotients.{quotient-shr}
 use Rattle.times.proofs.slot_for.Statement.{statement}
 use Rattle.times.proofs.slot_for.Tie as tie
 
-mul-result : tie.Need-mul-result
-mul-result c = search needs
-
-shr-result : tie.Need-shr-result
-shr-result c = search needs
-
 returns : tie.Need-returns
 unfolding slotOf
 returns c = ap (λ (n : ℕ). n % 64) (sym (quotient-shr (c .args .when) (c .args .level)))
 
 pub slot-for-spec : {M : Type 1} → statement M
-slot-for-spec = tie.close (tie.spec mul-result shr-result returns)
+slot-for-spec = tie.close (tie.spec (λ c. search needs) (λ c. search needs) returns)

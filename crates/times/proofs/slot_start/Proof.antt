@@ -5,23 +5,11 @@ use Rattle.times.proofs.laws.Starts.{start-laps, start-lt, slots-lt}
 use Rattle.times.proofs.slot_start.Statement.{statement}
 use Rattle.times.proofs.slot_start.Tie as tie
 
-mul-laps : tie.Need-mul-laps
-mul-laps c = search needs
-
-add-laps : tie.Need-add-laps
-add-laps c = search needs
-
-shr-laps : tie.Need-shr-laps
-shr-laps c = search needs
-
 mul-result : tie.Need-mul-result
 mul-result c = omega (arith, slots-lt _ _ _ (c .pre .0) (c .pre .1) (c .fits .elapsed .fits))
 
 add-result : tie.Need-add-result
 add-result c = record { fits = slots-lt _ _ _ (c .pre .0) (c .pre .1) (c .fits .elapsed .fits) }
-
-slot-range-requires : tie.Need-slot-range-requires
-slot-range-requires c κs = search needs
 
 mul-result-2 : tie.Need-mul-result-2
 mul-result-2 c =
@@ -32,13 +20,5 @@ returns c = rw (c .slot-range .ensures) (start-laps _ _ _)
 
 pub slot-start-spec : {M : Type 1} → statement M
 slot-start-spec =
-    tie.close
-    (tie.spec
-    mul-laps
-    add-laps
-    shr-laps
-    mul-result
-    add-result
-    slot-range-requires
-    mul-result-2
-    returns)
+    tie.close (tie.spec (λ c. search needs) (λ c. search needs) (λ c. search needs) mul-result add-result
+    (λ c κs. search needs) mul-result-2 returns)

@@ -11,11 +11,5 @@ use Rattle.times.proofs.too_far.Tie as tie
 returns : tie.Need-returns
 returns c = sym (le-ltb maxDuration (c .before .args .when - c .before .args .elapsed) (omega arith))
 
-sub-result : tie.Need-sub-result
-sub-result c = search needs
-
-returns-2 : tie.Need-returns-2
-returns-2 c = search needs
-
 pub too-far-spec : {M : Type 1} → statement M
-too-far-spec = tie.close (tie.spec returns sub-result returns-2)
+too-far-spec = tie.close (tie.spec returns (λ c. search needs) (λ c. search needs))

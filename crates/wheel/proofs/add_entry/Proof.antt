@@ -15,35 +15,11 @@ pushed c =
     let a = c .before .before .before .before in
     a .before .before .before
 
-slot-for-requires : tie.Need-slot-for-requires
-slot-for-requires c κs = search needs
-
 push-slot-requires : tie.Need-push-slot-requires
 push-slot-requires c κs = add-push (start (slotted c) .pre) _ _ (slotted c .slot-for .ensures)
 
-mul-set : tie.Need-mul-set
-mul-set c = search needs
-
-element-copy-out-set : tie.Need-element-copy-out-set
-element-copy-out-set c = search needs
-
 set-requires : tie.Need-set-requires
 set-requires c κs = let s = slotted (pushed c .before) in add-slot (start s .pre) _ _ (s .slot-for .ensures) .1
-
-mul-occupied : tie.Need-mul-occupied
-mul-occupied c = search needs
-
-element-write-occupied : tie.Need-element-write-occupied
-element-write-occupied c = search needs
-
-same-length : tie.Need-same-length
-same-length c = search needs
-
-same-length-2 : tie.Need-same-length-2
-same-length-2 c = search needs
-
-same-length-3 : tie.Need-same-length-3
-same-length-3 c = search needs
 
 returns : tie.Need-returns
 returns c =
@@ -53,16 +29,5 @@ returns c =
 
 pub add-entry-spec : {M : Type 1} → statement M
 add-entry-spec =
-    tie.close
-    (tie.spec
-    slot-for-requires
-    push-slot-requires
-    mul-set
-    element-copy-out-set
-    set-requires
-    mul-occupied
-    element-write-occupied
-    same-length
-    same-length-2
-    same-length-3
-    returns)
+    tie.close (tie.spec (λ c κs. search needs) push-slot-requires (λ c. search needs) (λ c. search needs) set-requires
+    (λ c. search needs) (λ c. search needs) (λ c. search needs) (λ c. search needs) (λ c. search needs) returns)

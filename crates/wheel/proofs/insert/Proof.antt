@@ -23,19 +23,10 @@ level-for-requires c κs = c .before .before .before .pre .near
 add-entry-requires : tie.Need-add-entry-requires
 add-entry-requires c κs = insert-adds (start (levelled c) .pre) _ (levelled c .level-for .ensures)
 
-same-length : tie.Need-same-length
-same-length c = search needs
-
-same-length-2 : tie.Need-same-length-2
-same-length-2 c = search needs
-
-same-length-3 : tie.Need-same-length-3
-same-length-3 c = search needs
-
 returns : tie.Need-returns
 returns c = inserted _ _ _ _ (levelled (added c .before) .level-for .ensures) (added c .add-entry .ensures)
 
 pub insert-spec : {M : Type 1} → statement M
 insert-spec =
-    tie.close
-    (tie.spec level-for-requires add-entry-requires same-length same-length-2 same-length-3 returns)
+    tie.close (tie.spec level-for-requires add-entry-requires (λ c. search needs) (λ c. search needs)
+    (λ c. search needs) returns)

@@ -22,31 +22,13 @@ start c =
 abbrev given : tie.After-struct-known Inv-loop μ-loop → tie.After-walk Inv-loop μ-loop
 given c = c .before .before .before
 
-count-of-requires : tie.Need-count-of-requires Inv-loop μ-loop
-count-of-requires c κs = search needs
-
 loop-holds : tie.Need-loop-holds Inv-loop μ-loop
 loop-holds c = rw (c .count-of .ensures) (judge-begun _)
-
-walk-level-requires : tie.Need-walk-level-requires Inv-loop μ-loop
-walk-level-requires c κs = search needs
-
-enum-known-walk : tie.Need-enum-known-walk Inv-loop μ-loop
-enum-known-walk c = search needs
-
-enum-told : tie.Need-enum-told Inv-loop μ-loop
-enum-told c = search needs
 
 returns : tie.Need-returns Inv-loop μ-loop
 returns c =
     let w = c .before .before in
     judge-wrong (w .before .before .loop .inv) (w .before .loop-test .taken) (w .walk-level .ensures) (c .enum-told .given .1)
-
-mul-if1 : tie.Need-mul-if1 Inv-loop μ-loop
-mul-if1 c = search needs
-
-element-copy-out-if1 : tie.Need-element-copy-out-if1 Inv-loop μ-loop
-element-copy-out-if1 c = search needs
 
 returns-2 : tie.Need-returns-2 Inv-loop μ-loop
 returns-2 c =
@@ -54,20 +36,11 @@ returns-2 c =
     let w = g .before .before in
     judge-other (w .before .before .loop .inv) (w .before .loop-test .taken) (w .walk-level .ensures) _ (g .walk .given .1) (c .if1 .taken)
 
-add-level : tie.Need-add-level Inv-loop μ-loop
-add-level c = search needs
-
-loop-less : tie.Need-loop-less Inv-loop μ-loop
-loop-less c = search needs
-
 loop-again : tie.Need-loop-again Inv-loop μ-loop
 loop-again c =
     let g = given (c .before) in
     let w = g .before .before in
     judge-next (w .before .before .loop .inv) (w .before .loop-test .taken) (w .walk-level .ensures) _ (g .walk .given .1) (c .if1 .left)
-
-walk-rest-requires : tie.Need-walk-rest-requires Inv-loop μ-loop
-walk-rest-requires c κs = search needs
 
 returns-3 : tie.Need-returns-3 Inv-loop μ-loop
 returns-3 c =
@@ -76,21 +49,6 @@ returns-3 c =
 
 pub is-whole-spec : {M : Type 1} → statement M
 is-whole-spec =
-    tie.close
-    (tie.spec
-    Inv-loop
-    μ-loop
-    count-of-requires
-    loop-holds
-    walk-level-requires
-    enum-known-walk
-    enum-told
-    returns
-    mul-if1
-    element-copy-out-if1
-    returns-2
-    add-level
-    loop-less
-    loop-again
-    walk-rest-requires
-    returns-3)
+    tie.close (tie.spec Inv-loop μ-loop (λ c κs. search needs) loop-holds (λ c κs. search needs) (λ c. search needs)
+    (λ c. search needs) returns (λ c. search needs) (λ c. search needs) returns-2 (λ c. search needs)
+    (λ c. search needs) loop-again (λ c κs. search needs) returns-3)

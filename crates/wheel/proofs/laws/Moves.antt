@@ -374,7 +374,7 @@ module _ {t₀ : WheelWords} {ds : List ℕ} {hand now : ℕ} (C : CanPoll t₀ 
           → PollsTo d now limit hand t₀ nobody place count drains (wheelWords now (t .occupied) (t .places))
       rest r p =
           ends {item = nobody} r p (record { places = S .whole .places; occupied = S .whole .occupied }) (place-laws.kept-refl (t .places))
-              (λ h. absurd (h refl))
+          (λ h. absurd (h refl))
 
       -- an empty wheel
       pub poll-idle : NextIs (t .elapsed) (lists t) Nothing

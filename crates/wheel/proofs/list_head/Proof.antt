@@ -7,23 +7,8 @@ use Rattle.places.proofs.laws.Heads.{slot-head, head-parking}
 use Rattle.wheel.proofs.list_head.Statement.{statement}
 use Rattle.wheel.proofs.list_head.Tie as tie
 
-mul-result : tie.Need-mul-result
-mul-result c = search needs
-
-mul-result-2 : tie.Need-mul-result-2
-mul-result-2 c = search needs
-
-index-1-result : tie.Need-index-1-result
-index-1-result c = search needs
-
-index-2-result : tie.Need-index-2-result
-index-2-result c = search needs
-
 returns : tie.Need-returns
 returns c = slot-head _ _ (c .before .if1 .taken) (c .before .before .pre .0) _ _
-
-first-parked-requires : tie.Need-first-parked-requires
-first-parked-requires c κs = search needs
 
 returns-2 : tie.Need-returns-2
 returns-2 c =
@@ -33,12 +18,5 @@ returns-2 c =
 
 pub list-head-spec : {M : Type 1} → statement M
 list-head-spec =
-    tie.close
-    (tie.spec
-    mul-result
-    mul-result-2
-    index-1-result
-    index-2-result
-    returns
-    first-parked-requires
-    returns-2)
+    tie.close (tie.spec (λ c. search needs) (λ c. search needs) (λ c. search needs) (λ c. search needs) returns
+    (λ c κs. search needs) returns-2)

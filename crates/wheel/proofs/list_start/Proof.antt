@@ -13,12 +13,6 @@ block-end-requires c κs = parking-fits _ _ _ (c .if1 .taken) (c .before .pre .1
 returns : tie.Need-returns
 returns c = c .block-end .ensures ∙ sym (start-parking _) ∙ ap (start _) (sym (c .before .if1 .taken))
 
-level-of-requires : tie.Need-level-of-requires
-level-of-requires c κs = search needs
-
-slot-of-requires : tie.Need-slot-of-requires
-slot-of-requires c κs = search needs
-
 slot-start-requires : tie.Need-slot-start-requires
 slot-start-requires c κs = omega (arith, c .before .before .before .pre .0, c .before .before .if1 .left, c .before .level-of .ensures, c .slot-of .ensures)
 
@@ -29,11 +23,5 @@ returns-2 c =
 
 pub list-start-spec : {M : Type 1} → statement M
 list-start-spec =
-    tie.close
-    (tie.spec
-    block-end-requires
-    returns
-    level-of-requires
-    slot-of-requires
-    slot-start-requires
+    tie.close (tie.spec block-end-requires returns (λ c κs. search needs) (λ c κs. search needs) slot-start-requires
     returns-2)

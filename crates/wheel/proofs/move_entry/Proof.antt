@@ -26,26 +26,8 @@ added c =
     let a = c .before .before .before .before in
     a .before .before
 
-take-entry-requires : tie.Need-take-entry-requires
-take-entry-requires c κs = search needs
-
-same-length : tie.Need-same-length
-same-length c = search needs
-
-same-length-2 : tie.Need-same-length-2
-same-length-2 c = search needs
-
-same-length-3 : tie.Need-same-length-3
-same-length-3 c = search needs
-
 returns : tie.Need-returns
 returns c = let p = popped (c .before) in moved-none (start (p .before) .pre) (p .take-entry .ensures) (c .if1 .taken)
-
-cast-when : tie.Need-cast-when
-cast-when c = search needs
-
-mul-when : tie.Need-mul-when
-mul-when c = search needs
 
 shared-slice-read-when : tie.Need-shared-slice-read-when
 shared-slice-read-when c =
@@ -53,23 +35,11 @@ shared-slice-read-when c =
     let p = popped (e .before) in
     move-deadline (start (p .before) .pre) (p .take-entry .ensures) (e .if1 .left)
 
-sub-add-entry : tie.Need-sub-add-entry
-sub-add-entry c = search needs
-
 add-entry-requires : tie.Need-add-entry-requires
 add-entry-requires c κs =
     let e = some c in
     let p = popped (e .before) in
     move-adds (start (p .before) .pre) (p .take-entry .ensures) (e .if1 .left)
-
-same-length-4 : tie.Need-same-length-4
-same-length-4 c = search needs
-
-same-length-5 : tie.Need-same-length-5
-same-length-5 c = search needs
-
-same-length-6 : tie.Need-same-length-6
-same-length-6 c = search needs
 
 returns-2 : tie.Need-returns-2
 returns-2 c =
@@ -80,19 +50,6 @@ returns-2 c =
 
 pub move-entry-spec : {M : Type 1} → statement M
 move-entry-spec =
-    tie.close
-    (tie.spec
-    take-entry-requires
-    same-length
-    same-length-2
-    same-length-3
-    returns
-    cast-when
-    mul-when
-    shared-slice-read-when
-    sub-add-entry
-    add-entry-requires
-    same-length-4
-    same-length-5
-    same-length-6
-    returns-2)
+    tie.close (tie.spec (λ c κs. search needs) (λ c. search needs) (λ c. search needs) (λ c. search needs) returns
+    (λ c. search needs) (λ c. search needs) shared-slice-read-when (λ c. search needs) add-entry-requires
+    (λ c. search needs) (λ c. search needs) (λ c. search needs) returns-2)

@@ -31,12 +31,6 @@ row-of c = c .before .before .before
 loop-holds : tie.Need-loop-holds Inv-loop μ-loop
 loop-holds c = (omega arith, λ j h. absurd (omega arith))
 
-mul-row : tie.Need-mul-row Inv-loop μ-loop
-mul-row c = search needs
-
-element-copy-out-row : tie.Need-element-copy-out-row Inv-loop μ-loop
-element-copy-out-row c = search needs
-
 first-slot-requires : tie.Need-first-slot-requires Inv-loop μ-loop
 first-slot-requires c κs = omega (arith, c .if1 .taken)
 
@@ -49,26 +43,14 @@ returns c =
     λ L S. next-found (S .occupied) _ _ _ _ (omega arith) (at-loop .loop .inv .1) (start at-loop .pre .occupied) (c .before .first-slot .ensures)
     (c .slot-start .ensures)
 
-add-level : tie.Need-add-level Inv-loop μ-loop
-add-level c = search needs
-
-loop-less : tie.Need-loop-less Inv-loop μ-loop
-loop-less c = search needs
-
 loop-again : tie.Need-loop-again Inv-loop μ-loop
 loop-again c = (omega arith, below-more _ _ (step (c .before) .loop .inv .1) (c .if1 .left))
 
 returns-2 : tie.Need-returns-2 Inv-loop μ-loop
 returns-2 c = λ L S. none-found S (λ j h. c .before .before .loop .inv .1 j (omega arith)) (c .if2 .taken)
 
-mul-block-start : tie.Need-mul-block-start Inv-loop μ-loop
-mul-block-start c = search needs
-
 shared-slice-read-block-start : tie.Need-shared-slice-read-block-start Inv-loop μ-loop
 shared-slice-read-block-start c = let e = c .before in start (e .before .before) .pre .deadline (e .if2 .left)
-
-block-start-requires : tie.Need-block-start-requires Inv-loop μ-loop
-block-start-requires c κs = search needs
 
 returns-3 : tie.Need-returns-3 Inv-loop μ-loop
 returns-3 c =
@@ -77,21 +59,6 @@ returns-3 c =
 
 pub next-expiration-spec : {M : Type 1} → statement M
 next-expiration-spec =
-    tie.close
-    (tie.spec
-    Inv-loop
-    μ-loop
-    loop-holds
-    mul-row
-    element-copy-out-row
-    first-slot-requires
-    slot-start-requires
-    returns
-    add-level
-    loop-less
-    loop-again
-    returns-2
-    mul-block-start
-    shared-slice-read-block-start
-    block-start-requires
-    returns-3)
+    tie.close (tie.spec Inv-loop μ-loop loop-holds (λ c. search needs) (λ c. search needs) first-slot-requires
+    slot-start-requires returns (λ c. search needs) (λ c. search needs) loop-again returns-2 (λ c. search needs)
+    shared-slice-read-block-start (λ c κs. search needs) returns-3)

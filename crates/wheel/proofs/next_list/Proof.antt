@@ -11,12 +11,6 @@ returns c =
     let a = c .before in
     record { free = λ z. c .next-expiration .ensures; held = λ z. absurd (z (a .if1 .taken)) }
 
-level-of-requires : tie.Need-level-of-requires
-level-of-requires c κs = search needs
-
-slot-of-requires : tie.Need-slot-of-requires
-slot-of-requires c κs = search needs
-
 list-start-requires : tie.Need-list-start-requires
 list-start-requires c κs =
     let l = c .before in
@@ -30,11 +24,5 @@ returns-2 c =
 
 pub next-list-spec : {M : Type 1} → statement M
 next-list-spec =
-    tie.close
-    (tie.spec
-    next-expiration-requires
-    returns
-    level-of-requires
-    slot-of-requires
-    list-start-requires
-    returns-2)
+    tie.close (tie.spec next-expiration-requires returns (λ c κs. search needs) (λ c κs. search needs)
+    list-start-requires returns-2)

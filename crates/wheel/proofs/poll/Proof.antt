@@ -62,19 +62,10 @@ headed c = c .before .before .before
 loop-holds : tie.Need-loop-holds Inv-loop μ-loop
 loop-holds c = poll-start (c .before .before .before .before .pre) _
 
-first-parked-requires : tie.Need-first-parked-requires Inv-loop μ-loop
-first-parked-requires c κs = search needs
-
 next-list-requires : tie.Need-next-list-requires Inv-loop μ-loop
 next-list-requires c κs =
     let t = c .before .before .before in
     rw (c .first-parked .ensures) (next-asks (start t .pre) _ (t .loop .inv) (start t .fits .time .fits))
-
-enum-known-next : tie.Need-enum-known-next Inv-loop μ-loop
-enum-known-next c = search needs
-
-enum-told : tie.Need-enum-told Inv-loop μ-loop
-enum-told c = search needs
 
 pop-entry-requires : tie.Need-pop-entry-requires Inv-loop μ-loop
 pop-entry-requires c κs =
@@ -220,36 +211,8 @@ same-length-12 c = returns-4 c .kept .links .marks .size
 
 pub poll-spec : {M : Type 1} → statement M
 poll-spec =
-    tie.close
-    (tie.spec
-    Inv-loop
-    μ-loop
-    loop-holds
-    first-parked-requires
-    next-list-requires
-    enum-known-next
-    enum-told
-    pop-entry-requires
-    poll-expiration-requires
-    sub-moves
-    list-head-requires
-    list-place-requires
-    add-drains
-    loop-less
-    loop-again
-    same-length
-    same-length-2
-    same-length-3
-    returns
-    same-length-4
-    same-length-5
-    same-length-6
-    returns-2
-    same-length-7
-    same-length-8
-    same-length-9
-    returns-3
-    same-length-10
-    same-length-11
-    same-length-12
-    returns-4)
+    tie.close (tie.spec Inv-loop μ-loop loop-holds (λ c κs. search needs) next-list-requires (λ c. search needs)
+    (λ c. search needs) pop-entry-requires poll-expiration-requires sub-moves list-head-requires list-place-requires
+    add-drains loop-less loop-again same-length same-length-2 same-length-3 returns same-length-4 same-length-5
+    same-length-6 returns-2 same-length-7 same-length-8 same-length-9 returns-3 same-length-10 same-length-11
+    same-length-12 returns-4)

@@ -6,15 +6,6 @@ use Rattle.wheel.proofs.laws.Expiration.{wake-at}
 use Rattle.wheel.proofs.poll_at.Statement.{statement}
 use Rattle.wheel.proofs.poll_at.Tie as tie
 
-next-expiration-requires : tie.Need-next-expiration-requires
-next-expiration-requires c κs = search needs
-
-enum-known-next : tie.Need-enum-known-next
-enum-known-next c = search needs
-
-enum-told : tie.Need-enum-told
-enum-told c = search needs
-
 returns : tie.Need-returns
 returns c = λ L R. wake-at _ (subst (NextIs _ L) (c .before .next .given .1) (c .before .before .before .next-expiration .ensures L R))
 
@@ -22,5 +13,4 @@ returns-2 : tie.Need-returns-2
 returns-2 c = λ L R. subst (NextIs _ L) (c .enum-told .given .1) (c .before .before .next-expiration .ensures L R)
 
 pub poll-at-spec : {M : Type 1} → statement M
-poll-at-spec =
-    tie.close (tie.spec next-expiration-requires enum-known-next enum-told returns returns-2)
+poll-at-spec = tie.close (tie.spec (λ c κs. search needs) (λ c. search needs) (λ c. search needs) returns returns-2)

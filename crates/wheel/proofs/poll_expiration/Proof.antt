@@ -79,20 +79,5 @@ loop-again c =
 
 pub poll-expiration-spec : {M : Type 1} → statement M
 poll-expiration-spec =
-    tie.close
-    (tie.spec
-    Inv-loop
-    μ-loop
-    loop-holds
-    same-length
-    same-length-2
-    same-length-3
-    returns
-    move-entry-requires
-    same-length-4
-    same-length-5
-    same-length-6
-    returns-2
-    sub-left
-    loop-less
-    loop-again)
+    tie.close (tie.spec Inv-loop μ-loop loop-holds same-length same-length-2 same-length-3 returns move-entry-requires
+    same-length-4 same-length-5 same-length-6 returns-2 sub-left loop-less loop-again)

@@ -18,15 +18,6 @@ popped c =
 pop-requires : tie.Need-pop-requires
 pop-requires c κs = can-pop (start c .pre .0 .places) _ (start c .pre .2)
 
-same-length : tie.Need-same-length
-same-length c = search needs
-
-same-length-2 : tie.Need-same-length-2
-same-length-2 c = search needs
-
-same-length-3 : tie.Need-same-length-3
-same-length-3 c = search needs
-
 returns : tie.Need-returns
 returns c =
     let p = popped c in
@@ -34,4 +25,4 @@ returns c =
     pops-aside (pre .0) _ _ (p .pop .ensures .0) (p .pop .ensures .1) (pre .1)
 
 pub pop-spec : {M : Type 1} → statement M
-pop-spec = tie.close (tie.spec pop-requires same-length same-length-2 same-length-3 returns)
+pop-spec = tie.close (tie.spec pop-requires (λ c. search needs) (λ c. search needs) (λ c. search needs) returns)

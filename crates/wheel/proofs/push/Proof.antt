@@ -17,17 +17,8 @@ pushed c =
 push-requires : tie.Need-push-requires
 push-requires c κs = push-asks (start c .pre)
 
-same-length : tie.Need-same-length
-same-length c = search needs
-
-same-length-2 : tie.Need-same-length-2
-same-length-2 c = search needs
-
-same-length-3 : tie.Need-same-length-3
-same-length-3 c = search needs
-
 returns : tie.Need-returns
 returns c = push-aside (start (pushed c .before) .pre) (pushed c .push .ensures)
 
 pub push-spec : {M : Type 1} → statement M
-push-spec = tie.close (tie.spec push-requires same-length same-length-2 same-length-3 returns)
+push-spec = tie.close (tie.spec push-requires (λ c. search needs) (λ c. search needs) (λ c. search needs) returns)

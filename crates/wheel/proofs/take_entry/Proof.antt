@@ -28,30 +28,6 @@ start c = c .before .before .before .before
 pop-entry-requires : tie.Need-pop-entry-requires
 pop-entry-requires c κs = take-slot (begun (slotted c) .pre) (slotted c .if1 .taken)
 
-same-length : tie.Need-same-length
-same-length c = search needs
-
-same-length-2 : tie.Need-same-length-2
-same-length-2 c = search needs
-
-same-length-3 : tie.Need-same-length-3
-same-length-3 c = search needs
-
-returns : tie.Need-returns
-returns c = search needs
-
-pop-requires : tie.Need-pop-requires
-pop-requires c κs = search needs
-
-same-length-4 : tie.Need-same-length-4
-same-length-4 c = search needs
-
-same-length-5 : tie.Need-same-length-5
-same-length-5 c = search needs
-
-same-length-6 : tie.Need-same-length-6
-same-length-6 c = search needs
-
 returns-2 : tie.Need-returns-2
 returns-2 c =
     let p = popped c in
@@ -60,15 +36,5 @@ returns-2 c =
 
 pub take-entry-spec : {M : Type 1} → statement M
 take-entry-spec =
-    tie.close
-    (tie.spec
-    pop-entry-requires
-    same-length
-    same-length-2
-    same-length-3
-    returns
-    pop-requires
-    same-length-4
-    same-length-5
-    same-length-6
-    returns-2)
+    tie.close (tie.spec pop-entry-requires (λ c. search needs) (λ c. search needs) (λ c. search needs)
+    (λ c. search needs) (λ c κs. search needs) (λ c. search needs) (λ c. search needs) (λ c. search needs) returns-2)

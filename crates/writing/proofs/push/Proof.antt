@@ -21,14 +21,8 @@ loop-holds c = (push-start, omega arith, refl)
 shared-slice-read-out : tie.Need-shared-slice-read-out Inv-loop μ-loop
 shared-slice-read-out c = omega (arith, c .before .loop-test .taken)
 
-add-out : tie.Need-add-out Inv-loop μ-loop
-add-out c = search needs
-
 slice-write-out : tie.Need-slice-write-out Inv-loop μ-loop
 slice-write-out c = omega (arith, c .before .loop-test .taken, c .before .before .loop .inv .2, c .before .before .before .pre)
-
-add-i : tie.Need-add-i Inv-loop μ-loop
-add-i c = search needs
 
 loop-less : tie.Need-loop-less Inv-loop μ-loop
 loop-less c = omega (arith, c .before .loop-test .taken)
@@ -42,9 +36,6 @@ loop-again c =
       length-set {A = ℕ} (c .before .before .loop .out) _ _ ∙ I .2,
     )
 
-add-result : tie.Need-add-result Inv-loop μ-loop
-add-result c = search needs
-
 same-length : tie.Need-same-length Inv-loop μ-loop
 same-length c = c .before .loop .inv .2
 
@@ -53,17 +44,5 @@ returns c = push-end _ _ (c .before .loop .inv .0) (c .loop-test .left)
 
 pub push-spec : {M : Type 1} → statement M
 push-spec =
-    tie.close
-    (tie.spec
-    Inv-loop
-    μ-loop
-    loop-holds
-    shared-slice-read-out
-    add-out
-    slice-write-out
-    add-i
-    loop-less
-    loop-again
-    add-result
-    same-length
-    returns)
+    tie.close (tie.spec Inv-loop μ-loop loop-holds shared-slice-read-out (λ c. search needs) slice-write-out
+    (λ c. search needs) loop-less loop-again (λ c. search needs) same-length returns)
