@@ -3,13 +3,23 @@ use mathlib.Core.Path.{_≡_}
 use mathlib.Core.Logic.{_≢_}
 use mathlib.Core.List.{List}
 use Prim.Native.Nat.{ℕ, suc, _%_, _^_, _≤_, _<_}
+use lib.ListN.{length}
 use Rattle.times.specs.Times.{width}
 use Rattle.links.specs.Lists.{nobody}
 use Rattle.links.specs.Links.{at}
+use Rattle.places.specs.Heads.{Shape}
 use Rattle.places.specs.Places.{slots, parking, expired, places, retired, levelAt}
 use Rattle.wheel.specs.Limited.{start}
 use Rattle.wheel.specs.Midway.{Belongs, Parked}
 use Rattle.records.specs.Records.{lastTurn}
+
+-- ---- what types say
+
+-- what the types of n, of occupied and of the heads say, which a contract over what is lent does not know
+pub record Typed (n : ℕ) (occupied : List ℕ) (heads : List (List ℕ)) : Type 0 where
+  pub few : n ≤ nobody
+  pub six : length occupied ≡ 6
+  pub shape : Shape heads
 
 -- ---- the records
 

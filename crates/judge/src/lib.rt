@@ -5,13 +5,14 @@ ghost use lib.ListN.{length};
 ghost use Rattle.contracts.specs.Lent.{old};
 ghost use Rattle.contracts.specs.Tells.{Tells};
 ghost use Rattle.records.specs.Slices.{Room, before as slices};
-ghost use Rattle.records.specs.Words.{Sound};
+ghost use Rattle.records.specs.Words.{Sound, before as given, holding};
 ghost use Rattle.records.specs.Store.{before};
 ghost use Rattle.places.specs.Words.{topsOf};
+ghost use Rattle.links.specs.Links.{at};
 ghost use Rattle.places.specs.Heads.{headOf};
 ghost use Rattle.places.specs.Places.{parking, expired};
 ghost use Rattle.wheel.specs.Midway.{Belongs, Parked};
-ghost use Rattle.judge.specs.Judge.{RecordAgrees, RecordsAgree, OwnStart, CanHold};
+ghost use Rattle.judge.specs.Judge.{Typed, RecordAgrees, RecordsAgree, OwnStart, CanHold};
 
 // Whether the slices are long enough for n records, of which each has two words of `values`.
 pub fn has_room(
@@ -183,6 +184,56 @@ fn can_hold(elapsed: u64, tops: &[u16; 4], heads: &[[u16; 64]; 6], hand: u16, un
     elapsed < start
 }
 
+// Whether the store in its parts is sound, where they stand.
+pub fn is_sound_here(
+    elapsed: u64,
+    occupied: &[u64; 6],
+    tops: &[u16; 4],
+    heads: &[[u16; 64]; 6],
+    values: &[u64],
+    deadlines: &[u64],
+    nexts: &[u16],
+    prevs: &[u16],
+    turns: &[u64],
+    marks: &[u16],
+    hand: u16,
+    until: u64,
+) -> bool
+    requires { ⌜ Typed (at (now tops) 0) (now occupied) (now heads) ⌝ }
+    ensures { λ r. ⌜
+        Tells (Sound (holding hand until (given elapsed occupied tops heads values deadlines nexts prevs turns marks)))
+        r ⌝ }
+{
+    // no u16 is over the limit
+    let n = tops[0];
+    if n == 0 {
+        return false;
+    }
+    if !has_room(n, values, deadlines, nexts, prevs, turns, marks) {
+        return false;
+    }
+    if !wheel::is_whole(elapsed, occupied, tops, heads, nexts, prevs, marks) {
+        return false;
+    }
+    if hand == links::NOBODY {
+        if until != 0 {
+            return false;
+        }
+        return records_agree(0, hand, elapsed, n, deadlines, turns, marks);
+    }
+    if !can_hold(elapsed, tops, heads, hand, until) {
+        return false;
+    }
+    let level = places::level_of(hand);
+    let start = wheel::list_start(elapsed, hand);
+    records_agree(level - 1, hand, start, n, deadlines, turns, marks)
+}
+
+// What the types say. It does nothing: a contract over what is lent does not know it.
+pub fn seen(n: u16, occupied: [u64; 6], heads: [[u16; 64]; 6])
+    ensures { λ _. ⌜ Typed n occupied heads ⌝ }
+{}
+
 // Whether the store is sound.
 pub fn is_sound(
     state: Wheel,
@@ -196,33 +247,21 @@ pub fn is_sound(
 ) -> bool
     ensures { λ r. ⌜ Tells (Sound (before state heads values deadlines nexts prevs turns marks)) r ⌝ }
 {
-    let top = state.tops;
-    // no u16 is over the limit
-    let n = top.n;
-    if n == 0 {
-        return false;
-    }
-    if !has_room(n, values, deadlines, nexts, prevs, turns, marks) {
-        return false;
-    }
     let occupied = state.occupied;
-    let tops = places::tops_in(top);
-    let e = state.elapsed;
-    if !wheel::is_whole(e, &occupied, &tops, &heads, nexts, prevs, marks) {
-        return false;
-    }
-    let hand = state.hand;
-    let until = state.until;
-    if hand == links::NOBODY {
-        if until != 0 {
-            return false;
-        }
-        return records_agree(0, hand, e, n, deadlines, turns, marks);
-    }
-    if !can_hold(e, &tops, &heads, hand, until) {
-        return false;
-    }
-    let level = places::level_of(hand);
-    let start = wheel::list_start(e, hand);
-    records_agree(level - 1, hand, start, n, deadlines, turns, marks)
+    let tops = places::tops_in(state.tops);
+    seen(tops[0], occupied, heads);
+    is_sound_here(
+        state.elapsed,
+        &occupied,
+        &tops,
+        &heads,
+        values,
+        deadlines,
+        nexts,
+        prevs,
+        turns,
+        marks,
+        state.hand,
+        state.until,
+    )
 }

@@ -1,129 +1,21 @@
--- `is_sound` meets its contract: the parts together are soundness (`sound-judged`, `judged-sound`).
+-- `is_sound` tells what `is_sound_here` does: the tops that it lends are those of the state (`stacked-same`).
 use borrow.Author.Needs.{needs}
-use native.Mathlib.Omega.{arith}
-use borrow.Author.Tests.{not-true, not-false}
-use Rattle.contracts.proofs.laws.Tells.{tells-no}
-use Rattle.judge.proofs.laws.Judge.{sound-judged, judged-rest, judged-mid}
-use Rattle.judge.proofs.laws.Lent.{can-judge, tells-whole, tells-hold}
-use Rattle.judge.proofs.Shapes.{shaped}
+use mathlib.Core.Path.{subst}
+use Rattle.contracts.specs.Tells.{Tells}
+use Rattle.records.specs.Words.{QueueWords, Sound}
+use Rattle.records.proofs.laws.Lent.{stacked-same}
 use Rattle.judge.proofs.is_sound.Statement.{statement}
 use Rattle.judge.proofs.is_sound.Tie as tie
 
-abbrev start : tie.After-top → tie.Start
-start c =
-    let a = c .before .before .before .before in
-    a .before .before .before
-
-abbrev lent : tie.After-heads → tie.After-tops-in
-lent c = c .before .before .before
-
-abbrev held : tie.After-can-hold → tie.After-heads
-held c =
-    let a = c .before .before .before .before in
-    a .before .before
-
-abbrev roomed : tie.After-heads → tie.Else2
-roomed c =
-    let a = c .before .before .before .before in
-    a .before
+is-sound-here-requires : tie.Need-is-sound-here-requires
+is-sound-here-requires c κs = c .before .before .before .seen .ensures
 
 returns : tie.Need-returns
-returns c = tells-no (λ S. omega (arith, S .standing .fits .some))
-
-returns-2 : tie.Need-returns-2
-returns-2 c = tells-no (λ S. c .before .has-room .ensures .no (not-true _ (c .if2 .taken)) (S .standing .fits .room))
-
-is-whole-requires : tie.Need-is-whole-requires
-is-whole-requires c κs =
-    let e = roomed c in
-    let s = start (e .before .before .before) in
-    can-judge (lent c .tops-in .ensures) (record {
-      six = search needs;
-      shape = shaped (s .args .t2) (s .good .1 .0 .0) (s .good .1 .0 .1 .0 .1) (s .good .1 .0 .1 .1);
-      room = e .before .has-room .ensures .yes (not-false _ (e .if2 .left)) .links;
-      few = omega (arith, s .good .0);
-    })
-
-returns-3 : tie.Need-returns-3
-returns-3 c =
-    let w = c .before in
-    tells-no (λ S. tells-whole (lent (w .before) .tops-in .ensures) (w .is-whole .ensures) .no (not-true _ (c .if3 .taken)) (S .standing .whole))
-
--- no poll is in hand
-
-returns-4 : tie.Need-returns-4
-returns-4 c = tells-no (λ S. c .if5 .taken (S .no-now (c .before .if4 .taken)))
-
-records-agree-requires : tie.Need-records-agree-requires
-records-agree-requires c κs =
-    let e = roomed (c .before .before .before .before) in
-    let R = e .before .has-room .ensures .yes (not-false _ (e .if2 .left)) in
-    (omega arith, R .deadlines, R .turns, R .links .marks)
-
-returns-5 : tie.Need-returns-5
-returns-5 c =
-    let u = c .before in
-    let g = u .before in
-    let w = g .before .before in
-    let e = roomed (w .before) in
-    judged-rest (record {
-      some = omega arith;
-      few = omega (arith, start (e .before .before .before) .good .0);
-      room = e .before .has-room .ensures .yes (not-false _ (e .if2 .left));
-    })
-    (tells-whole (lent (w .before) .tops-in .ensures) (w .is-whole .ensures) .yes (not-false _ (g .before .if3 .left))) _ (g .if4 .taken) (g .if4 .taken)
-    (u .if5 .left) (c .records-agree .ensures)
-
--- a poll is in hand
-
-returns-6 : tie.Need-returns-6
-returns-6 c =
-    let h = c .before in
-    tells-no (λ S.
-    tells-hold (lent (held h) .tops-in .ensures) _ (h .can-hold .ensures) .no (not-true _ (c .if6 .taken))
-    (sound-judged S .mid (h .before .before .before .if4 .left) .0))
-
-list-start-requires : tie.Need-list-start-requires
-list-start-requires c κs =
-    let h = c .before in
-    let H = h .before .can-hold .ensures .yes (not-false _ (h .if6 .left)) in
-    let f = h .before .before .before .before in
-    let e = roomed (f .before .before .before) in
-    (H .below, omega (arith, H .due, start (e .before .before .before) .good .0))
-
-sub-records-agree : tie.Need-sub-records-agree
-sub-records-agree c =
-    let h = c .before .before in
-    let H = h .before .can-hold .ensures .yes (not-false _ (h .if6 .left)) in
-    omega (arith, H .high, c .before .level-of .ensures)
-
-records-agree-requires-2 : tie.Need-records-agree-requires-2
-records-agree-requires-2 c κs =
-    let h = c .before .before in
-    let H = h .before .can-hold .ensures .yes (not-false _ (h .if6 .left)) in
-    let g = h .before .before .before .before in
-    let e = roomed (g .before .before .before) in
-    let R = e .before .has-room .ensures .yes (not-false _ (e .if2 .left)) in
-    (omega (arith, H .below, c .before .level-of .ensures), R .deadlines, R .turns, R .links .marks)
-
-returns-7 : tie.Need-returns-7
-returns-7 c =
-    let o = c .before in
-    let h = o .before .before in
-    let g = h .before .before .before .before in
-    let w = g .before .before in
-    let e = roomed (w .before) in
-    judged-mid (record {
-      some = omega arith;
-      few = omega (arith, start (e .before .before .before) .good .0);
-      room = e .before .has-room .ensures .yes (not-false _ (e .if2 .left));
-    })
-    (tells-whole (lent (w .before) .tops-in .ensures) (w .is-whole .ensures) .yes (not-false _ (g .before .if3 .left))) (g .if4 .left)
-    (tells-hold (lent (held (h .before)) .tops-in .ensures) _ (h .before .can-hold .ensures) .yes (not-false _ (h .if6 .left))) _ _
-    (o .before .level-of .ensures) (o .list-start .ensures) (c .records-agree2 .ensures)
+returns c =
+    let lent = c .before .before .before .before .before in
+    subst (λ (s : QueueWords). Tells (Sound s) (c .is-sound-here .result)) (stacked-same (lent .tops-in .ensures)) (c .is-sound-here .ensures)
 
 pub is-sound-spec : {M : Type 1} → statement M
 is-sound-spec =
-    tie.close (tie.spec returns (λ c κs. search needs) returns-2 (λ c κs. search needs) is-whole-requires returns-3
-    returns-4 records-agree-requires returns-5 (λ c κs. search needs) returns-6 (λ c κs. search needs)
-    list-start-requires sub-records-agree records-agree-requires-2 returns-7)
+    tie.close (tie.spec (λ c κs. search needs) (λ c. search needs) (λ c κs. search needs) is-sound-here-requires
+    returns)
