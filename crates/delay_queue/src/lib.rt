@@ -151,7 +151,7 @@ fn fill(words: &mut [u64], n: usize, x: u64)
 }
 
 // 1 or 8 for a format that is refused, 0 for one that is taken.
-fn format_no(
+pub fn format_no(
     values: &[u64],
     deadlines: &[u64],
     nexts: &[u16],
@@ -183,7 +183,7 @@ fn format_no(
 }
 
 // A fresh store of n records in what is lent: values, periods and deadlines are 0, as elapsed and the occupied rows are.
-fn make(
+pub fn make(
     tops: &mut [u16; 4],
     heads: &mut [[u16; 64]; 6],
     values: &mut [u64],

@@ -49,7 +49,7 @@ fn is_unwritten(answer: Answer) -> bool
 }
 
 // The bytes of a step with its answer.
-fn note(step: Step, answer: Answer) -> Bytes
+pub fn note(step: Step, answer: Answer) -> Bytes
     ensures { λ r. ⌜ Wrote blank 0 (written step (told answer)) (r .size) (r .bytes) ⌝ }
 {
     if is_unwritten(answer) {
@@ -59,7 +59,7 @@ fn note(step: Step, answer: Answer) -> Bytes
 }
 
 // The answer to an open or a close: 13 where a patch is open already, or none is.
-fn patched(refused: bool) -> Answer
+pub fn patched(refused: bool) -> Answer
     ensures { λ r. ⌜ told r ≡ cond refused (T.no 13) T.ok ⌝ }
 {
     if refused {

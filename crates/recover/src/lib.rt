@@ -56,11 +56,11 @@ struct Held {
 }
 
 // How many bytes were used, and elapsed and the poll in hand of the store behind them.
-struct AppliedParts {
-    used: usize,
-    elapsed: u64,
-    hand: u16,
-    until: u64,
+pub struct AppliedParts {
+    pub used: usize,
+    pub elapsed: u64,
+    pub hand: u16,
+    pub until: u64,
 }
 
 // How many bytes a call has.
@@ -407,7 +407,7 @@ fn one(
 }
 
 // The steps that the bytes begin with, one after the other, as many as are whole. The store is not judged.
-fn apply_parts(
+pub fn apply_parts(
     bytes: &[u8],
     sound: bool,
     elapsed: u64,

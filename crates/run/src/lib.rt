@@ -22,7 +22,7 @@ ghost use Rattle.run.specs.Groups.{commandWords, answerWords, GroupIs, B
 ghost use Rattle.run.specs.Run.{MustWait, Knows, RunClaim, RunKnown};
 
 // What four words ask: a call, or nothing that is one.
-enum Group {
+pub enum Group {
     Asks(Call),
     Not,
 }
@@ -83,7 +83,7 @@ fn if_blank(x: u64, y: u64, z: u64, call: Call) -> Group
 
 // What four words ask: a kind, and the numbers of a call in the papers' order with 0 behind them. The kinds are those of the
 // journal, and 12 and 13 for the calls that change nothing.
-fn call_of(kind: u64, a: u64, b: u64, c: u64) -> Group
+pub fn call_of(kind: u64, a: u64, b: u64, c: u64) -> Group
     ensures { λ r. ⌜ GroupIs (kind ∷ a ∷ b ∷ c ∷ []) r ⌝ }
 {
     match kind {
@@ -168,7 +168,7 @@ fn write_answer(to: &mut [u64], at: usize, answer: Answer)
     }
 }
 
-// Format, of the parts: they are put together and taken apart again, which is little beside what it writes.
+// Format, of the parts.
 fn formats(
     elapsed: u64,
     occupied: &mut [u64; 6],
@@ -190,34 +190,33 @@ fn formats(
         n turn (r .answer) (holding (r .hand) (r .until)
         (after (r .elapsed) occupied tops heads values deadlines nexts prevs turns marks)) ⌝ }
 {
-    let state = records::wheel_of(elapsed, *occupied, *tops, hand, until);
-    let reply = delay_queue::format(
-        state,
-        *heads,
+    let number = delay_queue::format_no(values, deadlines, nexts, prevs, turns, marks, n, turn);
+    if number != 0 {
+        return ReplyParts {
+            answer: Answer::No(number),
+            elapsed,
+            hand,
+            until,
+        };
+    }
+    delay_queue::make(
+        tops,
+        heads,
         values,
         deadlines,
         nexts,
         prevs,
         turns,
         marks,
-        n,
+        n as u16,
         turn,
     );
-    let made = reply.state;
-    let fresh = reply.heads;
-    let answer = reply.answer;
-    let bits = made.occupied;
-    *occupied = bits;
-    *tops = places::tops_in(made.tops);
-    *heads = delay_queue::heads_in(fresh);
-    let e = made.elapsed;
-    let h = made.hand;
-    let u = made.until;
+    *occupied = [0; 6];
     ReplyParts {
-        answer,
-        elapsed: e,
-        hand: h,
-        until: u,
+        answer: Answer::Done,
+        elapsed: 0,
+        hand: links::NOBODY,
+        until: 0,
     }
 }
 

@@ -105,7 +105,7 @@ pub fn poll(
 }
 
 // The now to poll with: that of the poll in hand, if there is one, which no other now goes on with, and else the time.
-fn now_of(time: u64, hand: u16, until: u64) -> u64
+pub fn now_of(time: u64, hand: u16, until: u64) -> u64
     ensures { λ r. ⌜ r ≡ nowOf time hand until ⌝ }
 {
     if hand == links::NOBODY {

@@ -183,7 +183,7 @@ module _ (s : QueueWords) {n turn : ℕ} (F : Fits (slices s) n) (T : InRange tu
 -- ---- the call
 
 module _ (s : QueueWords) (n turn : ℕ) where
-  format-no : {r : ℕ} {a : Answer} {s′ : QueueWords} → FormatNo (Fits (slices s) n) (InRange turn) r → r ≢ 0 → a ≡ A.No r → s′ ≡ s
+  pub format-no : {r : ℕ} {a : Answer} {s′ : QueueWords} → FormatNo (Fits (slices s) n) (InRange turn) r → r ≢ 0 → a ≡ A.No r → s′ ≡ s
       → FormatClaim s n turn a s′
   format-no {r} N d e q =
       record {

@@ -7,13 +7,12 @@ use native.Mathlib.Omega.{arith}
 use lib.ListN.{length, getD, take, drop, length-append, length-take, length-drop, take-append-drop}
 use lib.Seq.{take-at, drop-append-add, drop-drop, drop-cons}
 use Rattle.places.specs.declared.Tops.{Tops}
-use Rattle.wheel.specs.declared.Wheel.{Wheel}
 use Rattle.queue.specs.declared.Answer.{Answer}
 use Rattle.queue.specs.Told.{told}
-use Rattle.records.specs.Words.{QueueWords, words}
+use Rattle.records.specs.Words.{QueueWords}
 use Rattle.records.proofs.laws.Lent.{placeWordsOf, stacked-same}
 use Rattle.delay_queue.specs.declared.Call.{Call}
-use Rattle.delay_queue.specs.Claims.{FormatClaim, CallClaim}
+use Rattle.delay_queue.specs.Claims.{CallClaim}
 use Rattle.promises.specs.Runs.{Asked, Runs, rest, next}
 use Rattle.run.specs.declared.Group.{Group}
 use Rattle.run.specs.declared.Group.the-variants as G
@@ -140,13 +139,8 @@ module _ {s t : QueueWords} {cs out out₁ : List ℕ} {i : ℕ} (A : CommandsDo
     pub stops-full : {c : Call} → r ≡ G.Asks c → length out < 6 * i + 6 → RunClaim s cs out i W.NoRoom t out₁
     stops-full {c} g h = record { answered = A; stops = (h, (c, sym (four-words cs (4 * i) four) ∙ I .asks c g)) }
 
--- ---- stacks that are lent, and a state that is put together
+-- ---- stacks that are lent
 
 pub run-lent : {s s′ : QueueWords} {cs out out′ : List ℕ} {n : ℕ} {why : Why} {st : Tops} → st ≡ s .wheel .places .tops
     → RunClaim (placeWordsOf st s) cs out n why s′ out′ → RunClaim s cs out n why s′ out′
 run-lent {s′ = s′} {cs} {out} {out′} {n} {why} q R = subst (λ s. RunClaim s cs out n why s′ out′) (stacked-same q) R
-
-pub format-made : {w w′ : Wheel} {hh : List (List ℕ)} {vs ds ns ps ts ms : List ℕ} {n turn : ℕ} {a : Answer} {s′ : QueueWords} → w ≡ w′
-    → FormatClaim (words w hh vs ds ns ps ts ms) n turn a s′ → FormatClaim (words w′ hh vs ds ns ps ts ms) n turn a s′
-format-made {hh = hh} {vs} {ds} {ns} {ps} {ts} {ms} {n} {turn} {a} {s′} q x =
-    subst (λ w. FormatClaim (words w hh vs ds ns ps ts ms) n turn a s′) q x
