@@ -140,9 +140,9 @@ pub run-met : (s : QueueWords) (cs out : List ℕ)
     → (n : ℕ) × (why : Why) × (t : QueueWords) × (o : List ℕ) × RunClaim s cs out n why t o
 run-met s cs out = from (length out) answered-none (omega arith)
 
--- a run of one command is its call
+-- a run of one command is its call, with the words of its answer at the front
 pub one-run : {s t : QueueWords} {out o : List ℕ} {n : ℕ} {why : Why} (c : Call) → RunClaim s (commandWords c) out n why t o → 6 ≤ length out
-    → (a : Answer) × CallClaim c s a t
+    → (a : Answer) × CallClaim c s a t × (o ≡ answerWords (told a) ++ drop 6 out)
 one-run {s} {t} {out} {o} {n} {why} c A h =
     let m = call-met c s in
     let x : Asked = record { call = c; answer = m .0 } in
@@ -155,4 +155,5 @@ one-run {s} {t} {out} {o} {n} {why} c A h =
     let w : commandsOf (x ∷ []) ≡ take (4 * n) (commandWords c)
     = append-nil (commandWords c) ∙ sym four ∙ ap (λ (j : ℕ). take (4 * j) (commandWords c)) (sym k) in
     let u = run-same A R w in
-    (m .0, subst (λ (z : QueueWords). CallClaim c s (m .0) z) (u .0) (m .2))
+    let front = ap₂ (λ (p q : List ℕ). p ++ q) (append-nil (answerWords (told (m .0)))) (ap (λ (j : ℕ). drop (6 * j) out) k) in
+    (m .0, subst (λ (z : QueueWords). CallClaim c s (m .0) z) (u .0) (m .2), sym (u .1) ∙ front)
