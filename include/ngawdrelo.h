@@ -203,16 +203,19 @@ typedef enum ngw_light {
 
 /* What every call that may change a store takes of it. */
 #define NGW_LENT                                                                                                                        \
-  uint64_t *elapsed, uint64_t rows[6], uint16_t tops[4], uint16_t *hand, uint64_t *until, uint16_t heads[6][64], uint64_t *values,      \
+  uint64_t *elapsed, uint64_t occupied[6], uint16_t tops[4], uint16_t *hand, uint64_t *until, uint16_t heads[6][64], uint64_t *values,  \
       uint64_t values_length, uint64_t *deadlines, uint64_t deadlines_length, uint16_t *nexts, uint64_t nexts_length, uint16_t *prevs,  \
       uint64_t prevs_length, uint64_t *turns, uint64_t turns_length, uint16_t *marks, uint64_t marks_length
 
 /* The same of one that changes nothing. */
 #define NGW_SHOWN                                                                                                                         \
-  const uint64_t *elapsed, const uint64_t rows[6], const uint16_t tops[4], const uint16_t *hand, const uint64_t *until,                   \
+  const uint64_t *elapsed, const uint64_t occupied[6], const uint16_t tops[4], const uint16_t *hand, const uint64_t *until,               \
       const uint16_t heads[6][64], const uint64_t *values, uint64_t values_length, const uint64_t *deadlines, uint64_t deadlines_length,  \
       const uint16_t *nexts, uint64_t nexts_length, const uint16_t *prevs, uint64_t prevs_length, const uint64_t *turns,                  \
       uint64_t turns_length, const uint16_t *marks, uint64_t marks_length
+
+/* The version as one number: 14000 is 0.14.0. */
+uint64_t ngawdrelo_version(void);
 
 /* A fresh store of n records, each with the first turn `turn`. What the store was before does not matter. */
 void ngawdrelo_format(NGW_LENT, uint64_t n, uint64_t turn, uint64_t answer[6]);
@@ -220,16 +223,17 @@ void ngawdrelo_format(NGW_LENT, uint64_t n, uint64_t turn, uint64_t answer[6]);
 /* A timer with the value, at the deadline `when` and then after each period, if it is not 0. */
 void ngawdrelo_insert(NGW_LENT, uint64_t value, uint64_t when, uint64_t period, uint64_t answer[6]);
 
-/* A pending timer gets another deadline. */
+/* The pending timer that the key names gets the deadline `when`. */
 void ngawdrelo_reset(NGW_LENT, uint64_t key, uint64_t when, uint64_t answer[6]);
 
-/* A pending timer is taken out. */
+/* The pending timer that the key names is taken out: its value and its deadline. */
 void ngawdrelo_remove(NGW_LENT, uint64_t key, uint64_t answer[6]);
 
 /* Hands out a timer that is due at `time`, or none. */
 void ngawdrelo_poll(NGW_LENT, uint64_t time, uint64_t answer[6]);
 
-/* The same with a limit on moves. */
+/* A poll of at most `limit` moves: it hands out a timer that is due at `time`, or none, or tells that it is not yet done and stays in
+   hand. */
 void ngawdrelo_poll_some(NGW_LENT, uint64_t time, uint64_t limit, uint64_t answer[6]);
 
 /* No timer is pending any more, and elapsed is 0. */
@@ -250,30 +254,31 @@ void ngawdrelo_run(NGW_LENT, const uint64_t *commands, uint64_t commands_length,
    are no command are told by the kind 11, and change nothing. */
 void ngawdrelo_act(NGW_LENT, uint64_t kind, uint64_t a, uint64_t b, uint64_t c, uint64_t answer[6], uint8_t bytes[36], uint64_t *size);
 
-/* Opens a patch: 13 where one is open already. It asks nothing of a store. */
+/* Opens a patch of the journal, with the bytes to be written before its answer is given: 13 where one is open already. It asks nothing
+   of a store. */
 void ngawdrelo_open(uint64_t *patch, uint64_t answer[6], uint8_t bytes[36], uint64_t *size);
 
-/* Closes the patch: 13 where none is open. */
+/* Closes the patch of the journal, with the bytes to be written before its answer is given: 13 where none is open. */
 void ngawdrelo_close(uint64_t *patch, uint64_t answer[6], uint8_t bytes[36], uint64_t *size);
 
 /* The store after the steps of a journal that are kept, from no store: the length kept, where reading stopped, and why. What the store
    was before does not matter. */
 void ngawdrelo_recover(NGW_LENT, const uint8_t *bytes, uint64_t bytes_length, uint64_t *kept, uint64_t *at, uint64_t ending[2]);
 
-/* The same where the caller keeps the gauge. Fresh it is all 0. */
+/* Notes in a gauge what a poll at `time` answered. A fresh gauge is all 0. */
 void ngawdrelo_gauge_note(double *smoothed, double *worst, uint64_t *any, uint64_t time, const uint64_t answer[6]);
 
-/* What the gauge reads at two limits. */
+/* What a gauge reads at two limits: the light in two words, and the lateness that it shows. */
 void ngawdrelo_gauge_read(const double *smoothed, const double *worst, const uint64_t *any, double slow, double late, uint64_t light[2],
     double *value);
 
-/* The 64-bit time moves on to the 32-bit tick of a board, or 10. It is 0 at the start. */
+/* The 64-bit time, 0 at the start, moves on to the 32-bit tick of a board: 10 where it would pass 2^64-1. */
 void ngawdrelo_tick_read(uint64_t *time, uint32_t tick, uint64_t answer[6]);
 
-/* A poll at the time that the tick tells. A reading that is refused asks nothing of the store. */
+/* A poll at the 64-bit time that moves on to the 32-bit tick of a board. Where that is refused, with 10, nothing is asked of the store. */
 void ngawdrelo_tick_poll(uint64_t *time, NGW_LENT, uint32_t tick, uint64_t answer[6]);
 
-/* The same with a limit on moves, or, while a poll is in hand, at its now. */
+/* A poll of at most `limit` moves at the time that moves on to the tick of a board or, while a poll is in hand, at that poll's own time. */
 void ngawdrelo_tick_poll_some(uint64_t *time, NGW_LENT, uint32_t tick, uint64_t limit, uint64_t answer[6]);
 
 /* One line more of another machine's log, without its newline. Keys and deadlines, of 1,024 words or more each, are the inspector's own;
@@ -311,14 +316,14 @@ static inline ngw_answer ngw_insert(ngawdrelo *q, uint64_t value, uint64_t when,
   return ngw_answer_of(answer);
 }
 
-/* A pending timer gets another deadline. */
+/* The pending timer that the key names gets the deadline `when`. */
 static inline ngw_answer ngw_reset(ngawdrelo *q, uint64_t key, uint64_t when) {
   uint64_t answer[6];
   ngawdrelo_reset(NGW_LEND(q), key, when, answer);
   return ngw_answer_of(answer);
 }
 
-/* A pending timer is taken out. */
+/* The pending timer that the key names is taken out: its value and its deadline. */
 static inline ngw_answer ngw_remove(ngawdrelo *q, uint64_t key) {
   uint64_t answer[6];
   ngawdrelo_remove(NGW_LEND(q), key, answer);
@@ -332,7 +337,8 @@ static inline ngw_answer ngw_poll(ngawdrelo *q, uint64_t time) {
   return ngw_answer_of(answer);
 }
 
-/* The same with a limit on moves. */
+/* A poll of at most `limit` moves: it hands out a timer that is due at `time`, or none, or tells that it is not yet done and stays in
+   hand. */
 static inline ngw_answer ngw_poll_some(ngawdrelo *q, uint64_t time, uint64_t limit) {
   uint64_t answer[6];
   ngawdrelo_poll_some(NGW_LEND(q), time, limit, answer);
@@ -375,14 +381,15 @@ static inline ngw_answer ngw_act(ngawdrelo *q, uint64_t kind, uint64_t a, uint64
   return ngw_answer_of(answer);
 }
 
-/* Opens a patch: 13 where one is open already. It asks nothing of a store. */
+/* Opens a patch of the journal, with the bytes to be written before its answer is given: 13 where one is open already. It asks nothing
+   of a store. */
 static inline ngw_answer ngw_open(uint64_t *patch, uint8_t bytes[36], uint64_t *size) {
   uint64_t answer[6];
   ngawdrelo_open(patch, answer, bytes, size);
   return ngw_answer_of(answer);
 }
 
-/* Closes the patch: 13 where none is open. */
+/* Closes the patch of the journal, with the bytes to be written before its answer is given: 13 where none is open. */
 static inline ngw_answer ngw_close(uint64_t *patch, uint8_t bytes[36], uint64_t *size) {
   uint64_t answer[6];
   ngawdrelo_close(patch, answer, bytes, size);
@@ -396,21 +403,21 @@ static inline void ngw_recover(ngawdrelo *q, const uint8_t *bytes, uint64_t byte
   ngawdrelo_recover(NGW_LEND(q), bytes, bytes_length, kept, at, ending);
 }
 
-/* The 64-bit time moves on to the 32-bit tick of a board, or 10. It is 0 at the start. */
+/* The 64-bit time, 0 at the start, moves on to the 32-bit tick of a board: 10 where it would pass 2^64-1. */
 static inline ngw_answer ngw_tick_read(uint64_t *time, uint32_t tick) {
   uint64_t answer[6];
   ngawdrelo_tick_read(time, tick, answer);
   return ngw_answer_of(answer);
 }
 
-/* A poll at the time that the tick tells. A reading that is refused asks nothing of the store. */
+/* A poll at the 64-bit time that moves on to the 32-bit tick of a board. Where that is refused, with 10, nothing is asked of the store. */
 static inline ngw_answer ngw_tick_poll(ngawdrelo *q, uint64_t *time, uint32_t tick) {
   uint64_t answer[6];
   ngawdrelo_tick_poll(time, NGW_LEND(q), tick, answer);
   return ngw_answer_of(answer);
 }
 
-/* The same with a limit on moves, or, while a poll is in hand, at its now. */
+/* A poll of at most `limit` moves at the time that moves on to the tick of a board or, while a poll is in hand, at that poll's own time. */
 static inline ngw_answer ngw_tick_poll_some(ngawdrelo *q, uint64_t *time, uint32_t tick, uint64_t limit) {
   uint64_t answer[6];
   ngawdrelo_tick_poll_some(time, NGW_LEND(q), tick, limit, answer);

@@ -488,7 +488,7 @@ def main():
 
 
 # the functions of these claim bounds alone, or they are programs
-LEFT_OUT = ["contents", "harness", "damaged", "morning", "rinse", "board", "light", "inspect", "replay", "replay_lists", "replay_paused", "promises"]
+LEFT_OUT = ["contents", "damaged", "morning", "rinse", "board", "light", "inspect", "replay", "replay_lists", "replay_paused", "promises"]
 
 if __name__ == "__main__":
     main()

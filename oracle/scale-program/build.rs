@@ -1,9 +1,9 @@
-//! Links the object that oracle/scale names: what crates/harness exports.
+//! Links the object that oracle/scale names: what crates/ngawdrelo exports.
 use std::env;
 
 fn main() {
-    println!("cargo:rerun-if-env-changed=NGAWDRELO_HARNESS");
-    let harness = env::var("NGAWDRELO_HARNESS").expect("NGAWDRELO_HARNESS names the object of crates/harness");
-    println!("cargo:rerun-if-changed={harness}");
-    println!("cargo:rustc-link-arg-bins={harness}");
+    println!("cargo:rerun-if-env-changed=NGAWDRELO_OBJECT");
+    let object = env::var("NGAWDRELO_OBJECT").expect("NGAWDRELO_OBJECT names the object of crates/ngawdrelo");
+    println!("cargo:rerun-if-changed={object}");
+    println!("cargo:rustc-link-arg-bins={object}");
 }

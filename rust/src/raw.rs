@@ -3,10 +3,13 @@
 use core::fmt;
 
 extern "C" {
+    /// The version as one number: 14000 is 0.14.0.
+    pub fn ngawdrelo_version(
+    ) -> u64;
     /// A fresh store of n records, each with the first turn `turn`. What the store was before does not matter.
     pub fn ngawdrelo_format(
         elapsed: *mut u64,
-        rows: *mut [u64; 6],
+        occupied: *mut [u64; 6],
         tops: *mut [u16; 4],
         hand: *mut u16,
         until: *mut u64,
@@ -30,7 +33,7 @@ extern "C" {
     /// A timer with the value, at the deadline `when` and then after each period, if it is not 0.
     pub fn ngawdrelo_insert(
         elapsed: *mut u64,
-        rows: *mut [u64; 6],
+        occupied: *mut [u64; 6],
         tops: *mut [u16; 4],
         hand: *mut u16,
         until: *mut u64,
@@ -52,10 +55,10 @@ extern "C" {
         period: u64,
         answer: *mut [u64; 6],
     );
-    /// A pending timer gets another deadline.
+    /// The pending timer that the key names gets the deadline `when`.
     pub fn ngawdrelo_reset(
         elapsed: *mut u64,
-        rows: *mut [u64; 6],
+        occupied: *mut [u64; 6],
         tops: *mut [u16; 4],
         hand: *mut u16,
         until: *mut u64,
@@ -76,10 +79,10 @@ extern "C" {
         when: u64,
         answer: *mut [u64; 6],
     );
-    /// A pending timer is taken out.
+    /// The pending timer that the key names is taken out: its value and its deadline.
     pub fn ngawdrelo_remove(
         elapsed: *mut u64,
-        rows: *mut [u64; 6],
+        occupied: *mut [u64; 6],
         tops: *mut [u16; 4],
         hand: *mut u16,
         until: *mut u64,
@@ -102,7 +105,7 @@ extern "C" {
     /// Hands out a timer that is due at `time`, or none.
     pub fn ngawdrelo_poll(
         elapsed: *mut u64,
-        rows: *mut [u64; 6],
+        occupied: *mut [u64; 6],
         tops: *mut [u16; 4],
         hand: *mut u16,
         until: *mut u64,
@@ -122,10 +125,10 @@ extern "C" {
         time: u64,
         answer: *mut [u64; 6],
     );
-    /// The same with a limit on moves.
+    /// A poll of at most `limit` moves: it hands out a timer that is due at `time`, or none, or tells that it is not yet done and stays in hand.
     pub fn ngawdrelo_poll_some(
         elapsed: *mut u64,
-        rows: *mut [u64; 6],
+        occupied: *mut [u64; 6],
         tops: *mut [u16; 4],
         hand: *mut u16,
         until: *mut u64,
@@ -149,7 +152,7 @@ extern "C" {
     /// No timer is pending any more, and elapsed is 0.
     pub fn ngawdrelo_clear(
         elapsed: *mut u64,
-        rows: *mut [u64; 6],
+        occupied: *mut [u64; 6],
         tops: *mut [u16; 4],
         hand: *mut u16,
         until: *mut u64,
@@ -171,7 +174,7 @@ extern "C" {
     /// The time of the next wake. Nothing is changed.
     pub fn ngawdrelo_next_wake(
         elapsed: *const u64,
-        rows: *const [u64; 6],
+        occupied: *const [u64; 6],
         tops: *const [u16; 4],
         hand: *const u16,
         until: *const u64,
@@ -193,7 +196,7 @@ extern "C" {
     /// How many timers are pending. Nothing is changed.
     pub fn ngawdrelo_length(
         elapsed: *const u64,
-        rows: *const [u64; 6],
+        occupied: *const [u64; 6],
         tops: *const [u16; 4],
         hand: *const u16,
         until: *const u64,
@@ -215,7 +218,7 @@ extern "C" {
     /// A run of commands, each of four words, on a store that is judged once: the answers, each of six words, how many there are, and why there are no more.
     pub fn ngawdrelo_run(
         elapsed: *mut u64,
-        rows: *mut [u64; 6],
+        occupied: *mut [u64; 6],
         tops: *mut [u16; 4],
         hand: *mut u16,
         until: *mut u64,
@@ -242,7 +245,7 @@ extern "C" {
     /// A call of four words, as a command of a run, with the bytes to be written before its answer is given: 0, 18 or 36 of them. Words that are no command are told by the kind 11, and change nothing.
     pub fn ngawdrelo_act(
         elapsed: *mut u64,
-        rows: *mut [u64; 6],
+        occupied: *mut [u64; 6],
         tops: *mut [u16; 4],
         hand: *mut u16,
         until: *mut u64,
@@ -267,14 +270,14 @@ extern "C" {
         bytes: *mut [u8; 36],
         size: *mut u64,
     );
-    /// Opens a patch: 13 where one is open already. It asks nothing of a store.
+    /// Opens a patch of the journal, with the bytes to be written before its answer is given: 13 where one is open already. It asks nothing of a store.
     pub fn ngawdrelo_open(
         patch: *mut u64,
         answer: *mut [u64; 6],
         bytes: *mut [u8; 36],
         size: *mut u64,
     );
-    /// Closes the patch: 13 where none is open.
+    /// Closes the patch of the journal, with the bytes to be written before its answer is given: 13 where none is open.
     pub fn ngawdrelo_close(
         patch: *mut u64,
         answer: *mut [u64; 6],
@@ -284,7 +287,7 @@ extern "C" {
     /// The store after the steps of a journal that are kept, from no store: the length kept, where reading stopped, and why. What the store was before does not matter.
     pub fn ngawdrelo_recover(
         elapsed: *mut u64,
-        rows: *mut [u64; 6],
+        occupied: *mut [u64; 6],
         tops: *mut [u16; 4],
         hand: *mut u16,
         until: *mut u64,
@@ -307,7 +310,7 @@ extern "C" {
         at: *mut u64,
         ending: *mut [u64; 2],
     );
-    /// The same where the caller keeps the gauge. Fresh it is all 0.
+    /// Notes in a gauge what a poll at `time` answered. A fresh gauge is all 0.
     pub fn ngawdrelo_gauge_note(
         smoothed: *mut f64,
         worst: *mut f64,
@@ -315,7 +318,7 @@ extern "C" {
         time: u64,
         answer: *const [u64; 6],
     );
-    /// What the gauge reads at two limits.
+    /// What a gauge reads at two limits: the light in two words, and the lateness that it shows.
     pub fn ngawdrelo_gauge_read(
         smoothed: *const f64,
         worst: *const f64,
@@ -325,17 +328,17 @@ extern "C" {
         light: *mut [u64; 2],
         value: *mut f64,
     );
-    /// The 64-bit time moves on to the 32-bit tick of a board, or 10. It is 0 at the start.
+    /// The 64-bit time, 0 at the start, moves on to the 32-bit tick of a board: 10 where it would pass 2^64-1.
     pub fn ngawdrelo_tick_read(
         time: *mut u64,
         tick: u32,
         answer: *mut [u64; 6],
     );
-    /// A poll at the time that the tick tells. A reading that is refused asks nothing of the store.
+    /// A poll at the 64-bit time that moves on to the 32-bit tick of a board. Where that is refused, with 10, nothing is asked of the store.
     pub fn ngawdrelo_tick_poll(
         time: *mut u64,
         elapsed: *mut u64,
-        rows: *mut [u64; 6],
+        occupied: *mut [u64; 6],
         tops: *mut [u16; 4],
         hand: *mut u16,
         until: *mut u64,
@@ -355,11 +358,11 @@ extern "C" {
         tick: u32,
         answer: *mut [u64; 6],
     );
-    /// The same with a limit on moves, or, while a poll is in hand, at its now.
+    /// A poll of at most `limit` moves at the time that moves on to the tick of a board or, while a poll is in hand, at that poll's own time.
     pub fn ngawdrelo_tick_poll_some(
         time: *mut u64,
         elapsed: *mut u64,
-        rows: *mut [u64; 6],
+        occupied: *mut [u64; 6],
         tops: *mut [u16; 4],
         hand: *mut u16,
         until: *mut u64,

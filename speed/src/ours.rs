@@ -1,5 +1,8 @@
-//! Our queue, through the functions that crates/harness exports. A slice crosses as its pointer and its length, every other part of a store by its
-//! address. oracle/scale-program takes this file too.
+//! Our queue, through the functions that crates/ngawdrelo exports, for C and Rust. oracle/scale-program takes this file too.
+
+#[allow(dead_code)]
+#[path = "../../rust/src/raw.rs"]
+pub mod raw;
 
 type Heads = [[u16; 64]; 6];
 
@@ -11,56 +14,21 @@ pub type Answer = [u64; 6];
 /// number that a step got there.
 pub type Told = [u64; 4];
 
-/// Kinds of calls.
-pub const FORMAT: u64 = 1;
-pub const INSERT: u64 = 2;
-pub const RESET: u64 = 3;
-pub const REMOVE: u64 = 4;
-pub const POLL: u64 = 5;
-pub const CLEAR: u64 = 6;
-pub const POLL_SOME: u64 = 11;
-pub const WAKE: u64 = 12;
-pub const LENGTH: u64 = 13;
-
-/// Numbers of answers.
-pub const OK: u64 = 0;
-pub const KEY: u64 = 1;
-pub const GONE: u64 = 2;
-pub const OUT: u64 = 3;
-pub const LAST: u64 = 4;
-pub const NOTHING: u64 = 5;
-pub const AT: u64 = 6;
-pub const NEVER: u64 = 7;
-pub const LEN: u64 = 8;
-pub const NO: u64 = 9;
-pub const NOT_YET: u64 = 10;
-
-/// Why a run stopped, in the order of `Why` in crates/run.
-pub const NO_WORDS: u64 = 0;
-pub const NO_COMMAND: u64 = 1;
-pub const NO_ROOM: u64 = 2;
+// the programs that take this file use some of them each
+#[allow(unused_imports)]
+pub use raw::{ASK_CLEAR as CLEAR, ASK_FORMAT as FORMAT, ASK_INSERT as INSERT, ASK_LENGTH as LENGTH, ASK_POLL as POLL};
+#[allow(unused_imports)]
+pub use raw::{ASK_POLL_SOME as POLL_SOME, ASK_REMOVE as REMOVE, ASK_RESET as RESET, ASK_WAKE as WAKE};
+#[allow(unused_imports)]
+pub use raw::{DONE as OK, GONE, KEY, LAST, LENGTH as LEN, NO, NOTHING, NOT_YET, NO_WAKE as NEVER, OUT, WAKE as AT};
+#[allow(unused_imports)]
+pub use raw::{WHY_NO_COMMAND as NO_COMMAND, WHY_NO_ROOM as NO_ROOM, WHY_NO_WORDS as NO_WORDS};
 
 /// Of `tops`.
 pub const N: usize = 0;
 pub const EXPIRED: usize = 1;
 pub const FREE: usize = 2;
 pub const PARKING: usize = 3;
-
-#[rustfmt::skip]
-extern "C" {
-    fn harness_call(elapsed: &mut u64, occupied: &mut [u64; 6], tops: &mut [u16; 4], hand: &mut u16, until: &mut u64, heads: &mut Heads,
-        values: *mut u64, v: usize, deadlines: *mut u64, d: usize, nexts: *mut u16, x: usize, prevs: *mut u16, p: usize, turns: *mut u64, t: usize,
-        marks: *mut u16, m: usize, kind: u64, a: u64, b: u64, c: u64, answer: &mut Answer) -> bool;
-    fn harness_run(elapsed: &mut u64, occupied: &mut [u64; 6], tops: &mut [u16; 4], hand: &mut u16, until: &mut u64, heads: &mut Heads,
-        values: *mut u64, v: usize, deadlines: *mut u64, d: usize, nexts: *mut u16, x: usize, prevs: *mut u16, p: usize, turns: *mut u64, t: usize,
-        marks: *mut u16, m: usize, commands: *const u64, words: usize, answers: *mut u64, room: usize, told: &mut [u64; 2]);
-    fn harness_judge(elapsed: &u64, occupied: &[u64; 6], tops: &[u16; 4], hand: &u16, until: &u64, heads: &Heads,
-        values: *const u64, v: usize, deadlines: *const u64, d: usize, nexts: *const u16, x: usize, prevs: *const u16, p: usize, turns: *const u64, t: usize,
-        marks: *const u16, m: usize) -> bool;
-    fn harness_replay(elapsed: &mut u64, occupied: &mut [u64; 6], tops: &mut [u16; 4], hand: &mut u16, until: &mut u64, heads: &mut Heads,
-        values: *mut u64, v: usize, deadlines: *mut u64, d: usize, nexts: *mut u16, x: usize, prevs: *mut u16, p: usize, turns: *mut u64, t: usize,
-        marks: *mut u16, m: usize, bytes: *const u8, size: usize, told: &mut Told);
-}
 
 /// A store, lent anew to each call.
 #[derive(Clone, PartialEq)]
@@ -87,11 +55,11 @@ macro_rules! lend {
     ($function:ident, $store:expr $(, $more:expr)*) => {{
         let s = $store;
         unsafe {
-            $function(
+            raw::$function(
                 &mut s.elapsed, &mut s.occupied, &mut s.tops, &mut s.hand, &mut s.until, &mut s.heads,
-                s.values.as_mut_ptr(), s.values.len(), s.deadlines.as_mut_ptr(), s.deadlines.len(),
-                s.nexts.as_mut_ptr(), s.nexts.len(), s.prevs.as_mut_ptr(), s.prevs.len(), s.turns.as_mut_ptr(), s.turns.len(),
-                s.marks.as_mut_ptr(), s.marks.len() $(, $more)*
+                s.values.as_mut_ptr(), s.values.len() as u64, s.deadlines.as_mut_ptr(), s.deadlines.len() as u64,
+                s.nexts.as_mut_ptr(), s.nexts.len() as u64, s.prevs.as_mut_ptr(), s.prevs.len() as u64,
+                s.turns.as_mut_ptr(), s.turns.len() as u64, s.marks.as_mut_ptr(), s.marks.len() as u64 $(, $more)*
             )
         }
     }};
@@ -123,31 +91,43 @@ impl Store {
         }
     }
 
+    /// Whether it is sound: next wake judges, and on a sound store does little more.
     pub fn judge(&mut self) -> bool {
-        lend!(harness_judge, self)
+        self.call([WAKE, 0, 0, 0])[..2] != [NO, 2]
     }
 
     /// One call, which judges first.
     pub fn call(&mut self, call: Call) -> Answer {
         let [kind, a, b, c] = call;
         let mut answer = [u64::MAX; 6];
-        assert!(lend!(harness_call, self, kind, a, b, c, &mut answer), "{call:?} is no call");
+        match kind {
+            FORMAT => lend!(ngawdrelo_format, self, a, b, &mut answer),
+            INSERT => lend!(ngawdrelo_insert, self, a, b, c, &mut answer),
+            RESET => lend!(ngawdrelo_reset, self, a, b, &mut answer),
+            REMOVE => lend!(ngawdrelo_remove, self, a, &mut answer),
+            POLL => lend!(ngawdrelo_poll, self, a, &mut answer),
+            POLL_SOME => lend!(ngawdrelo_poll_some, self, a, b, &mut answer),
+            WAKE => lend!(ngawdrelo_next_wake, self, &mut answer),
+            LENGTH => lend!(ngawdrelo_length, self, &mut answer),
+            CLEAR => lend!(ngawdrelo_clear, self, &mut answer),
+            _ => panic!("{call:?} is no call"),
+        }
         answer
     }
 
     /// A run of commands, which judges once: how many were answered, and why no more were.
     pub fn run(&mut self, commands: &[u64], answers: &mut [u64]) -> (usize, u64) {
-        let (from, words) = (commands.as_ptr(), commands.len());
-        let (to, room) = (answers.as_mut_ptr(), answers.len());
-        let mut told = [u64::MAX; 2];
-        lend!(harness_run, self, from, words, to, room, &mut told);
-        (told[0] as usize, told[1])
+        let (from, words) = (commands.as_ptr(), commands.len() as u64);
+        let (to, room) = (answers.as_mut_ptr(), answers.len() as u64);
+        let (mut done, mut why) = (u64::MAX, u64::MAX);
+        lend!(ngawdrelo_run, self, from, words, to, room, &mut done, &mut why);
+        (done as usize, why)
     }
 
     /// Recovery from the bytes of a journal, from no store.
     pub fn replay(&mut self, bytes: &[u8]) -> Told {
-        let mut told = [u64::MAX; 4];
-        lend!(harness_replay, self, bytes.as_ptr(), bytes.len(), &mut told);
-        told
+        let (mut kept, mut at, mut ending) = (u64::MAX, u64::MAX, [u64::MAX; 2]);
+        lend!(ngawdrelo_recover, self, bytes.as_ptr(), bytes.len() as u64, &mut kept, &mut at, &mut ending);
+        [kept, at, ending[0], ending[1]]
     }
 }

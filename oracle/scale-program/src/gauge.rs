@@ -3,8 +3,21 @@ use oracle::gauge::{lateness, limit, sequence, Gauge, Light};
 use oracle::rng::Rng;
 use std::time::Instant;
 
-extern "C" {
-    fn harness_gauge(times: *const u64, words: usize, slow: f64, late: f64, told: &mut [u64; 4]);
+use crate::ours::raw::{ngawdrelo_gauge_note, ngawdrelo_gauge_read, LIGHT_NO, OUT};
+
+/// Our gauge after hand-outs, each a poll's time and a deadline, read at two limits: 0 calm, 1 slow, 2 late or the number of the refusal; the bits of what the
+/// light carries, of smoothed and of worst.
+fn ours(times: &[[u64; 2]], slow: f64, late: f64) -> [u64; 4] {
+    let (mut smoothed, mut worst, mut any, mut light, mut value) = (0.0, 0.0, 0, [u64::MAX; 2], 0.0);
+    // SAFETY: every pointer is to a word, or words, of our own.
+    unsafe {
+        for &[time, deadline] in times {
+            ngawdrelo_gauge_note(&mut smoothed, &mut worst, &mut any, time, &[OUT, 0, 0, deadline, 0, 0]);
+        }
+        ngawdrelo_gauge_read(&smoothed, &worst, &any, slow, late, &mut light, &mut value);
+    }
+    let shown = if light[0] == LIGHT_NO { light[1] } else { light[0] };
+    [shown, value.to_bits(), smoothed.to_bits(), worst.to_bits()]
 }
 
 /// Sequences of the seeds FROM to TO, one each. Says whether all agree.
@@ -27,10 +40,7 @@ pub fn compare(from: u64, to: u64) -> bool {
             Err(number) => [number, 0],
         };
         let expected = [reading[0], reading[1], numbers.0.to_bits(), numbers.1.to_bits()];
-        let words = given.times.as_flattened();
-        let mut told = [u64::MAX; 4];
-        // SAFETY: a slice crosses as its pointer and its length, and is only read.
-        unsafe { harness_gauge(words.as_ptr(), words.len(), slow, late, &mut told) };
+        let told = ours(&given.times, slow, late);
         if told != expected {
             println!("gauge seed {seed}: limits {slow:?} {late:?}, times and deadlines {:?}", given.times);
             println!("  expected: {expected:x?}\n  got:      {told:x?}");
