@@ -1,3 +1,2 @@
 pub mod Face
-pub mod Fronts
 pub mod Once

@@ -1,3 +1,2 @@
--- What crosses to C. `Face` has the words of a store and what a call, a run, and the journal say over them, `Fronts` those of gauge and inspector.
+-- What C and Rust are told: the words of a store, and what a call, a run, the journal say over them.
 pub mod Face
-pub mod Fronts

@@ -2,34 +2,26 @@
 // the heads of three lists, the poll in hand and its time, the heads of the slots, and six slices, each a pointer and a length. Where n is 0
 // there is no store, so memory that is all 0 holds none. An answer is six words: a kind, and numbers.
 use delay_queue::Call;
-use entries::Ending;
 use entries::Step;
 use gauge::Gauge;
-use gauge::Light;
-use gauge::Reading;
-use inspector::State;
 use queue::Answer;
 use run::Group;
-use run::Why;
 use tick::Front;
 ghost use mathlib.Core.Path.{_≡_};
-ghost use mathlib.Core.Bool.{Bool};
 ghost use mathlib.Core.List.{_∷_, []};
 ghost use Rattle.contracts.specs.Lent.{old, new};
 ghost use Rattle.contracts.specs.Tells.{Tells};
-ghost use Rattle.queue.specs.Told.{told};
-ghost use Rattle.records.specs.Words.{QueueWords, Sound, before as given, holding};
+ghost use Rattle.records.specs.Words.{Sound, before as given, holding};
 ghost use Rattle.delay_queue.specs.Claims.{FormatClaim, InsertClaim, ResetClaim, RemoveClaim, PollClaim, PollSomeClaim};
 ghost use Rattle.delay_queue.specs.Claims.{WakeClaim, LengthClaim, ClearClaim, CallClaim};
-ghost use Rattle.run.specs.Groups.{answerWords};
 ghost use Rattle.run.specs.Run.{RunClaim};
-ghost use Rattle.journal.specs.Journal.{ActClaim};
 ghost use Rattle.recover.specs.Replay.{noHeads, noStore, found, ReplayClaim};
 ghost use Rattle.gauge.specs.Light.{readingOf};
-ghost use Rattle.tick.specs.Claims.{ReadClaim, TickPollClaim, TickSomeClaim, nowOf};
+ghost use Rattle.tick.specs.Claims.{ReadClaim, TickPollClaim, TickSomeClaim};
 ghost use Rattle.inspector.specs.Words.{InspectClaim};
-ghost use Rattle.ngawdrelo.specs.Face.{Says, Faced, Told, before, after, whyWord, isSet, WrittenAs, ActsOn, endingWords};
-ghost use Rattle.ngawdrelo.specs.Fronts.{gaugeOf, NoteClaim, lightWords, lightValue, stateOf, stateWords};
+ghost use Rattle.words.specs.Words.{whyWord, endingWords, FlagKept, gaugeOf, NoteClaim};
+ghost use Rattle.words.specs.Words.{lightWords, lightValue, stateOf, stateWords};
+ghost use Rattle.ngawdrelo.specs.Face.{Says, Faced, Told, before, after, ActsOn, Patches};
 
 // The version as one number: 14000 is 0.14.0.
 #[no_mangle]
@@ -37,41 +29,6 @@ pub extern "C" fn ngawdrelo_version() -> u64
     ensures { λ r. ⌜ r ≡ 14000 ⌝ }
 {
     14000
-}
-
-// ---- words
-
-// An answer as six words: its number, and its numbers in the papers' order, with 0 behind them.
-fn words_of(answer: Answer) -> [u64; 6]
-    ensures { λ r. ⌜ r ≡ answerWords (told answer) ⌝ }
-{
-    match answer {
-        Answer::Done => [0, 0, 0, 0, 0, 0],
-        Answer::Key(key) => [1, key, 0, 0, 0, 0],
-        Answer::Gone(value, deadline) => [2, value, deadline, 0, 0, 0],
-        Answer::Out(key, value, deadline, moves, drains) => [
-            3,
-            key,
-            value,
-            deadline,
-            moves,
-            drains,
-        ],
-        Answer::Last(key, value, deadline, moves, drains) => [
-            4,
-            key,
-            value,
-            deadline,
-            moves,
-            drains,
-        ],
-        Answer::Nothing(moves, drains) => [5, moves, drains, 0, 0, 0],
-        Answer::Wake(time) => [6, time, 0, 0, 0, 0],
-        Answer::NoWake => [7, 0, 0, 0, 0, 0],
-        Answer::Length(n) => [8, n, 0, 0, 0, 0],
-        Answer::No(number) => [9, number, 0, 0, 0, 0],
-        Answer::NotYet(moves, drains) => [10, moves, drains, 0, 0, 0],
-    }
 }
 
 // ---- the calls
@@ -95,7 +52,7 @@ fn judged(
         Tells (Sound (holding hand until (given elapsed occupied tops heads values deadlines nexts prevs turns marks)))
         r ⌝ }
 {
-    judge::seen(tops[0], *occupied, *heads);
+    judge::seen(places::count_of(tops), *occupied, *heads);
     judge::is_sound_here(
         elapsed,
         occupied,
@@ -189,7 +146,8 @@ fn wake_of(
     marks: &[u16],
 ) -> Answer
     ensures { λ r. ⌜
-        WakeClaim (holding hand until (given elapsed occupied tops heads values deadlines nexts prevs turns marks)) r ⌝ }
+        WakeClaim (holding hand until (given elapsed occupied tops heads values deadlines nexts prevs turns marks))
+        r ⌝ }
 {
     if !judged(
         elapsed,
@@ -586,7 +544,7 @@ pub extern "C" fn ngawdrelo_next_wake(
         turns,
         marks,
     );
-    *answer = words_of(a);
+    *answer = words::words_of(a);
 }
 
 // How many timers are pending. Nothing is changed.
@@ -624,21 +582,10 @@ pub extern "C" fn ngawdrelo_length(
         turns,
         marks,
     );
-    *answer = words_of(a);
+    *answer = words::words_of(a);
 }
 
 // ---- a run
-
-// Why a run stopped, as a number.
-fn why_of(why: Why) -> u64
-    ensures { λ r. ⌜ r ≡ whyWord why ⌝ }
-{
-    match why {
-        Why::NoWords => 0,
-        Why::NoCommand => 1,
-        Why::NoRoom => 2,
-    }
-}
 
 // A run of commands, each of four words, on a store that is judged once: the answers, each of six words, how many there are, and why there
 // are no more.
@@ -706,20 +653,10 @@ pub extern "C" fn ngawdrelo_run(
     *until = went.until;
     *done = went.done as u64;
     let w = went.why;
-    *why = why_of(w);
+    *why = words::why_of(w);
 }
 
 // ---- the journal
-
-// What of an answer decides whether its call is written, from its words: the number of a refusal.
-fn refusal_in(words: &[u64; 6]) -> Answer
-    ensures { λ r. ⌜ WrittenAs (old words) r ⌝ }
-{
-    if words[0] == 9 {
-        return Answer::No(words[1]);
-    }
-    Answer::Done
-}
 
 // A call of four words, as a command of a run, with the bytes to be written before its answer is given: 0, 18 or 36 of them. Words that are no
 // command are told by the kind 11, and change nothing.
@@ -776,7 +713,7 @@ pub extern "C" fn ngawdrelo_act(
         call,
         answer,
     );
-    let noted = journal::note(Step::Asks(call), refusal_in(answer));
+    let noted = journal::note(Step::Asks(call), words::refusal_in(answer));
     *size = noted.size as u64;
     let wrote = noted.bytes;
     *bytes = wrote;
@@ -792,14 +729,13 @@ pub extern "C" fn ngawdrelo_open(
     size: &mut u64,
 )
     ensures { λ _. ⌜
-        Told (λ a. (s : QueueWords) → ActClaim (isSet (old patch)) s Step.Open a (isSet (new patch)) s
-        (new size) (new bytes)) (new answer) ⌝ }
+        Patches Step.Open (old patch) (new patch) (new answer) (new size) (new bytes) ⌝ }
 {
     let open = *patch != 0;
     let said = journal::patched(open);
     let noted = journal::note(Step::Open, said);
-    *patch = 1;
-    *answer = words_of(said);
+    *patch = words::flag_word(*patch, true);
+    *answer = words::words_of(said);
     *size = noted.size as u64;
     let wrote = noted.bytes;
     *bytes = wrote;
@@ -814,30 +750,16 @@ pub extern "C" fn ngawdrelo_close(
     size: &mut u64,
 )
     ensures { λ _. ⌜
-        Told (λ a. (s : QueueWords) → ActClaim (isSet (old patch)) s Step.Close a (isSet (new patch)) s
-        (new size) (new bytes)) (new answer) ⌝ }
+        Patches Step.Close (old patch) (new patch) (new answer) (new size) (new bytes) ⌝ }
 {
     let open = *patch != 0;
     let said = journal::patched(!open);
     let noted = journal::note(Step::Close, said);
-    *patch = 0;
-    *answer = words_of(said);
+    *patch = words::flag_word(*patch, false);
+    *answer = words::words_of(said);
     *size = noted.size as u64;
     let wrote = noted.bytes;
     *bytes = wrote;
-}
-
-// Why reading stopped, as two words: 0 a cut, 1 a bad kind, 2 a 1 where zero is due, 3 a broken pair, or 4 and the number that a step gets.
-fn ending_of(ending: Ending) -> [u64; 2]
-    ensures { λ r. ⌜ r ≡ endingWords ending ⌝ }
-{
-    match ending {
-        Ending::Cut => [0, 0],
-        Ending::Kind => [1, 0],
-        Ending::Zero => [2, 0],
-        Ending::Pair => [3, 0],
-        Ending::Gets(number) => [4, number],
-    }
 }
 
 // Nobody is the head of any slot.
@@ -902,35 +824,10 @@ pub extern "C" fn ngawdrelo_recover(
     *until = went.until;
     *kept = k as u64;
     *at = seen.at as u64;
-    *ending = ending_of(e);
+    *ending = words::ending_of(e);
 }
 
 // ---- the gauge
-
-// A flag as a word.
-fn word_of(so: bool) -> u64
-    ensures { λ r. ⌜ isSet r ≡ so ⌝ }
-{
-    if so {
-        return 1;
-    }
-    0
-}
-
-// The gauge after what a poll at `time` answered, in words: the kinds 3 and 4 hand out a timer, whose deadline is the fourth word.
-fn note_words(g: Gauge, time: u64, words: [u64; 6]) -> Gauge
-    ensures { λ r. ⌜ NoteClaim g time words r ⌝ }
-{
-    let kind = words[0];
-    let late = gauge::lateness_of(time, words[3]);
-    if kind == 3 {
-        return gauge::note(g, late);
-    }
-    if kind == 4 {
-        return gauge::note(g, late);
-    }
-    g
-}
 
 // Notes in a gauge what a poll at `time` answered. A fresh gauge is all 0.
 #[no_mangle]
@@ -943,7 +840,7 @@ pub extern "C" fn ngawdrelo_gauge_note(
 )
     ensures { λ _. ⌜
         NoteClaim (gaugeOf (old smoothed) (old worst) (old any)) time (old answer)
-        (gaugeOf (new smoothed) (new worst) (new any)) ⌝ }
+        (gaugeOf (new smoothed) (new worst) (new any)) × FlagKept (old any) (new any) ⌝ }
 {
     let met = *any != 0;
     let g = Gauge {
@@ -951,38 +848,10 @@ pub extern "C" fn ngawdrelo_gauge_note(
         worst: *worst,
         any: met,
     };
-    let r = note_words(g, time, *answer);
+    let r = words::note_words(g, time, *answer);
     *smoothed = r.smoothed;
     *worst = r.worst;
-    *any = word_of(r.any);
-}
-
-// A reading as two words: 0 calm, 1 slow, 2 late, or 3 and the number of the refusal.
-fn light_of(reading: Reading) -> [u64; 2]
-    ensures { λ r. ⌜ r ≡ lightWords reading ⌝ }
-{
-    match reading {
-        Reading::Shows(light) => match light {
-            Light::Calm => [0, 0],
-            Light::Slow(_x) => [1, 0],
-            Light::Late(_x) => [2, 0],
-        },
-        Reading::No(number) => [3, number],
-    }
-}
-
-// What the light carries: the smoothed lateness where it is slow, the worst where it is late, else 0.
-fn value_of(reading: Reading) -> f64
-    ensures { λ r. ⌜ r ≡ lightValue reading ⌝ }
-{
-    match reading {
-        Reading::Shows(light) => match light {
-            Light::Calm => 0.0,
-            Light::Slow(x) => x,
-            Light::Late(x) => x,
-        },
-        Reading::No(_number) => 0.0,
-    }
+    *any = words::flag_word(*any, r.any);
 }
 
 // What a gauge reads at two limits: the light in two words, and the lateness that it shows.
@@ -1007,8 +876,8 @@ pub extern "C" fn ngawdrelo_gauge_read(
         any: met,
     };
     let r = gauge::read(g, slow, late);
-    *light = light_of(r);
-    *value = value_of(r);
+    *light = words::light_of(r);
+    *value = words::value_of(r);
 }
 
 // ---- the tick
@@ -1023,7 +892,7 @@ pub extern "C" fn ngawdrelo_tick_read(time: &mut u64, tick: u32, answer: &mut [u
     let later = seen.front;
     let said = seen.answer;
     *time = later.time;
-    *answer = words_of(said);
+    *answer = words::words_of(said);
 }
 
 // A poll at the 64-bit time that moves on to the 32-bit tick of a board. Where that is refused, with 10, nothing is asked of the store.
@@ -1076,7 +945,7 @@ pub extern "C" fn ngawdrelo_tick_poll(
             );
         }
         _ => {
-            *answer = words_of(said);
+            *answer = words::words_of(said);
         }
     }
 }
@@ -1134,32 +1003,12 @@ pub extern "C" fn ngawdrelo_tick_poll_some(
             );
         }
         _ => {
-            *answer = words_of(said);
+            *answer = words::words_of(said);
         }
     }
 }
 
 // ---- the inspector
-
-// What the lines so far have come to, as words: 0, how many are pending, the clock and the number of lines; or another number, and the number of
-// the first line that was bad.
-fn state_of(words: &[u64; 4]) -> State
-    ensures { λ r. ⌜ r ≡ stateOf (old words) ⌝ }
-{
-    if words[0] == 0 {
-        return State::Good(words[1] as usize, words[2], words[3]);
-    }
-    State::Bad(words[1])
-}
-
-fn state_words(state: State) -> [u64; 4]
-    ensures { λ r. ⌜ r ≡ stateWords state ⌝ }
-{
-    match state {
-        State::Good(count, clock, lines) => [0, count as u64, clock, lines],
-        State::Bad(line) => [1, line, 0, 0],
-    }
-}
 
 // One line more of another machine's log, without its newline. Keys and deadlines, of 1,024 words or more each, are the inspector's own; the
 // state is all 0 before the first line.
@@ -1174,6 +1023,6 @@ pub extern "C" fn ngawdrelo_inspect_line(
         Says stateWords (new state) (λ t. InspectClaim (stateOf (old state)) (old keys) (old deadlines)
         (old line) t (new keys) (new deadlines)) ⌝ }
 {
-    let t = inspector::inspect_line(state_of(state), keys, deadlines, line);
-    *state = state_words(t);
+    let t = inspector::inspect_line(words::state_of(state), keys, deadlines, line);
+    *state = words::state_words(t);
 }

@@ -1,13 +1,11 @@
--- What the proofs of the calls, the journal and the tick cite; and that memory that is all 0 holds no store (`no-records`).
+-- What the proofs of the calls, the journal, the gauge and the tick cite; and that memory that is all 0 holds no store (`no-records`).
 use mathlib.Core.Path.{_≡_, refl, sym, ap, _∙_, subst}
 use mathlib.Core.Bool.{Bool, true, false, cond, not}
-use mathlib.Core.Logic.{_≢_}
 use mathlib.Core.List.{List, [], _++_, append-nil}
 use Prim.Native.Nat.{ℕ}
 use native.Mathlib.Omega.{arith}
 use lib.ListN.{length, drop}
 use lib.Seq.{drop-length}
-use Rattle.links.specs.Links.{at}
 use Rattle.queue.specs.declared.Answer.{Answer}
 use Rattle.queue.specs.declared.Answer.the-variants as A
 use Rattle.queue.specs.Told.{told, ok}
@@ -27,9 +25,12 @@ use Rattle.entries.specs.declared.Step.the-variants as S
 use Rattle.entries.specs.Entries.{stepBytes}
 use Rattle.entries.specs.Writing.{blank}
 use Rattle.journal.specs.Journal as J
-use Rattle.journal.specs.Journal.{Acts, opened, open-twice, closed, not-open, unwritten, written, ActClaim}
+use Rattle.journal.specs.Journal.{Acts, opened, open-twice, closed, not-open, written}
 use Rattle.tick.specs.Claims.{ReadClaim, TickPollClaim, TickSomeClaim}
-use Rattle.ngawdrelo.specs.Face.{Says, Told, Faced, noCommand, WrittenAs, ActsOn, asks, none}
+use Rattle.gauge.specs.declared.Gauge.{Gauge}
+use Rattle.words.specs.Words.{WrittenAs, isSet, flagWord, FlagKept, gaugeOf, NoteClaim}
+use Rattle.words.proofs.laws.Flags.{flag-says, flag-kept}
+use Rattle.ngawdrelo.specs.Face.{Told, Faced, noCommand, ActsOn, asks, none, Patches}
 
 -- the words of an answer that the claim allows
 pub said : {C : Answer → Type 0} {w : List ℕ} (a : Answer) → w ≡ answerWords (told a) → C a → Told C w
@@ -53,39 +54,6 @@ run-faced {s} {s′} {cs} {out} {w} {n} {why} c q z A =
 
 -- ---- the journal
 
--- whether a call is written, by the words of its answer
-by-number : (x : T.Told) → at (answerWords x) 0 ≡ 9 → unwritten (T.no (at (answerWords x) 1)) ≡ unwritten x
-by-number T.ok e = absurd (omega arith)
-by-number (T.key k) e = absurd (omega arith)
-by-number (T.gone v d) e = absurd (omega arith)
-by-number (T.out k v d m n) e = absurd (omega arith)
-by-number (T.last k v d m n) e = absurd (omega arith)
-by-number (T.none m n) e = absurd (omega arith)
-by-number (T.yet m n) e = absurd (omega arith)
-by-number (T.wake t) e = absurd (omega arith)
-by-number T.never e = absurd (omega arith)
-by-number (T.len n) e = absurd (omega arith)
-by-number (T.no n) e = refl
-
-by-kind : (x : T.Told) → at (answerWords x) 0 ≢ 9 → false ≡ unwritten x
-by-kind T.ok f = refl
-by-kind (T.key k) f = refl
-by-kind (T.gone v d) f = refl
-by-kind (T.out k v d m n) f = refl
-by-kind (T.last k v d m n) f = refl
-by-kind (T.none m n) f = refl
-by-kind (T.yet m n) f = refl
-by-kind (T.wake t) f = refl
-by-kind T.never f = refl
-by-kind (T.len n) f = refl
-by-kind (T.no n) f = absurd (f refl)
-
-pub written-no : {w : List ℕ} → at w 0 ≡ 9 → WrittenAs w (A.No (at w 1))
-written-no {w} k x e = subst (λ (v : List ℕ). at v 0 ≡ 9 → unwritten (T.no (at v 1)) ≡ unwritten x) (sym e) (by-number x) k
-
-pub written-else : {w : List ℕ} → at w 0 ≢ 9 → WrittenAs w A.Done
-written-else {w} k x e = subst (λ (v : List ℕ). at v 0 ≢ 9 → false ≡ unwritten x) (sym e) (by-kind x) k
-
 module _ {g : List ℕ} {r : Group} {s s′ : QueueWords} {w : List ℕ} {size : ℕ} {bytes : List ℕ} (I : GroupIs g r) where
   pub acts-asked : (c : Call) → r ≡ G.Asks c → Faced (CallClaim c s) w s′ → (b : Answer) → WrittenAs w b
       → Wrote blank 0 (written (S.Asks c) (told b)) size bytes → ActsOn g s w s′ size bytes
@@ -105,14 +73,32 @@ acts-close : (p : Bool) {s : QueueWords} {a : Answer} → told a ≡ cond (not p
 acts-close true e = closed e
 acts-close false e = not-open e
 
-module _ (p : Bool) {w : List ℕ} {size : ℕ} {bytes : List ℕ} (a : Answer) (q : w ≡ answerWords (told a)) where
-  pub patch-opened : told a ≡ cond p (T.no 13) T.ok → Wrote blank 0 (written S.Open (told a)) size bytes
-      → Told (λ (b : Answer). (s : QueueWords) → ActClaim p s S.Open b true s size bytes) w
-  patch-opened e W = said a q (λ s. record { acts = acts-open p e; writes = W })
+module _ (n : ℕ) {m : ℕ} {w : List ℕ} {size : ℕ} {bytes : List ℕ} (a : Answer) (q : w ≡ answerWords (told a)) where
+  pub patch-opened : told a ≡ cond (isSet n) (T.no 13) T.ok → Wrote blank 0 (written S.Open (told a)) size bytes → m ≡ flagWord n true
+      → Patches S.Open n m w size bytes
+  patch-opened e W f =
+      record {
+        acts = said a q (λ s. record { acts = subst (λ (b : Bool). Acts (isSet n) s S.Open a b s) (sym (flag-says n true f)) (acts-open (isSet n) e); writes = W });
+        word = flag-kept n true f;
+      }
 
-  pub patch-closed : told a ≡ cond (not p) (T.no 13) T.ok → Wrote blank 0 (written S.Close (told a)) size bytes
-      → Told (λ (b : Answer). (s : QueueWords) → ActClaim p s S.Close b false s size bytes) w
-  patch-closed e W = said a q (λ s. record { acts = acts-close p e; writes = W })
+  pub patch-closed : told a ≡ cond (not (isSet n)) (T.no 13) T.ok → Wrote blank 0 (written S.Close (told a)) size bytes → m ≡ flagWord n false
+      → Patches S.Close n m w size bytes
+  patch-closed e W f =
+      record {
+        acts = said a q (λ s. record { acts = subst (λ (b : Bool). Acts (isSet n) s S.Close a b s) (sym (flag-says n false f)) (acts-close (isSet n) e); writes = W });
+        word = flag-kept n false f;
+      }
+
+-- ---- the gauge
+
+-- it is kept as it was made
+pub note-kept : {g : Gauge} {now : ℕ} {w : List ℕ} (n : ℕ) {m : ℕ} (r : Gauge) → m ≡ flagWord n (r .any) → NoteClaim g now w r
+    → NoteClaim g now w (gaugeOf (r .smoothed) (r .worst) m) × FlagKept n m
+note-kept {g} {now} {w} n r f N = (
+  subst (λ (b : Bool). NoteClaim g now w (record { smoothed = r .smoothed; worst = r .worst; any = b })) (sym (flag-says n (r .any) f)) N,
+  flag-kept n (r .any) f,
+)
 
 -- ---- the tick: a reading that is refused asks nothing
 

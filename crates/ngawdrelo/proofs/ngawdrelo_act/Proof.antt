@@ -33,7 +33,8 @@ returns-2 c =
     let f = n .before in
     let a = to-ask f in
     let g = to-group a in
-    acts-asked (g .before .before .call-of .ensures) _ (g .group .given .1) (a .ask .ensures) (f .refusal-in .result) (f .refusal-in .ensures) (n .note .ensures)
+    acts-asked (g .before .before .call-of .ensures) _ (g .group .given .1) (a .ask .ensures) (f .refusal-in .result) (f .refusal-in .ensures)
+    (n .note .ensures)
 
 pub ngawdrelo-act-spec : {M : Type 1} → statement M
 ngawdrelo-act-spec =

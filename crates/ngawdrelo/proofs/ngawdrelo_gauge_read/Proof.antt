@@ -1,7 +1,7 @@
 -- `ngawdrelo_gauge_read` meets its claim: the words and the value of what `read` reads.
 use borrow.Author.Needs.{needs}
 use mathlib.Core.Path.{ap, _∙_}
-use Rattle.ngawdrelo.specs.Fronts.{lightWords, lightValue}
+use Rattle.words.specs.Words.{lightWords, lightValue}
 use Rattle.ngawdrelo.proofs.ngawdrelo_gauge_read.Statement.{statement}
 use Rattle.ngawdrelo.proofs.ngawdrelo_gauge_read.Tie as tie
 

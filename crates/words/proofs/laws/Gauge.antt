@@ -1,28 +1,25 @@
 -- What is noted of six words (`notes`, `notes-nothing`): the words of an answer that hands out a timer have the kind 3 or 4, and its deadline is the
--- fourth.
+-- fourth. One gauge is left (`note-once`).
 use mathlib.Core.Path.{_≡_, refl, sym, ap, _∙_, subst}
-use mathlib.Core.Bool.{Bool}
-use mathlib.Core.Logic.{_≢_, _⊎_, inl, inr}
-use mathlib.Core.List.{List, [], _∷_}
+use mathlib.Core.Logic.{_≢_, _⊎_, inl, inr, by-cases}
+use mathlib.Core.List.{List, [], _∷_, List-discrete}
 use Prim.Native.Nat.{ℕ}
+use native.Mathlib.Decide.{ℕ-discrete}
 use native.Mathlib.Omega.{arith}
 use lib.ListN.{length}
 use lib.Ieee.{Float}
 use Rattle.links.specs.Links.{at}
-use Rattle.queue.specs.Told.{Hands}
 use Rattle.queue.specs.Told as T
 use Rattle.run.specs.Groups.{answerWords}
 use Rattle.gauge.specs.declared.Gauge.{Gauge}
 use Rattle.gauge.specs.Gauge.{lateness, noted, AnswerClaim}
-use Rattle.ngawdrelo.specs.Face.{isSet}
-use Rattle.ngawdrelo.specs.Fronts.{gaugeOf, NoteClaim}
+use Rattle.gauge.proofs.laws.Noting.{noted-out, noted-none, answer-once}
+use Rattle.words.specs.Words.{NoteClaim}
+use Rattle.words.proofs.laws.Answers.{back, not-words}
 
 -- the kind is that of an answer that hands out
 abbrev pub HandsKind : ℕ → Type 0
 HandsKind k = (k ≡ 3) ⊎ (k ≡ 4)
-
-not-handed : {P : Type 0} {k v d m n : ℕ} → T.no-timer ≡ T.timer k v d m n → P
-not-handed e = let z : _≡_ {A = ℕ} 0 1 = cc in absurd (omega arith)
 
 -- six words are the words that they are
 six : (w : List ℕ) → length w ≡ 6 → w ≡ at w 0 ∷ at w 1 ∷ at w 2 ∷ at w 3 ∷ at w 4 ∷ at w 5 ∷ []
@@ -36,19 +33,6 @@ six (a ∷ b ∷ c ∷ d ∷ f ∷ g ∷ []) e = refl
 six (a ∷ b ∷ c ∷ d ∷ f ∷ g ∷ h ∷ l) e = absurd (omega arith)
 
 module _ (g : Gauge) (now : ℕ) where
-  handed : (k v d m n : ℕ) (x : T.Told) → Hands x k v d m n → AnswerClaim g now x (noted g (lateness now d))
-  handed k v d m n x h =
-      record {
-        handed = λ k′ v′ d′ m′ n′ h′.
-            let q : T.timer k v d m n ≡ T.timer k′ v′ d′ m′ n′ = sym h ∙ h′ in
-            let i : d ≡ d′ = cc in
-            ap (λ (y : ℕ). noted g (lateness now y)) i;
-        otherwise = λ f. absurd (f k v d m n h);
-      }
-
-  unhanded : (x : T.Told) → ((k v d m n : ℕ) → Hands x k v d m n → ⊥) → AnswerClaim g now x g
-  unhanded x f = record { handed = λ k v d m n h. absurd (f k v d m n h); otherwise = λ _. refl }
-
   -- of the words of an answer
   words-noted : (x : T.Told) → HandsKind (at (answerWords x) 0) → AnswerClaim g now x (noted g (lateness now (at (answerWords x) 3)))
   words-noted T.ok (inl e) = absurd (omega arith)
@@ -57,8 +41,8 @@ module _ (g : Gauge) (now : ℕ) where
   words-noted (T.key k) (inr e) = absurd (omega arith)
   words-noted (T.gone v d) (inl e) = absurd (omega arith)
   words-noted (T.gone v d) (inr e) = absurd (omega arith)
-  words-noted (T.out k v d m n) e = handed k v d m n (T.out k v d m n) refl
-  words-noted (T.last k v d m n) e = handed k v d m n (T.last k v d m n) refl
+  words-noted (T.out k v d m n) e = noted-out {k = k} {v = v} {d = d} {m = m} {n = n} refl refl
+  words-noted (T.last k v d m n) e = noted-out {k = k} {v = v} {d = d} {m = m} {n = n} refl refl
   words-noted (T.none m n) (inl e) = absurd (omega arith)
   words-noted (T.none m n) (inr e) = absurd (omega arith)
   words-noted (T.yet m n) (inl e) = absurd (omega arith)
@@ -73,17 +57,17 @@ module _ (g : Gauge) (now : ℕ) where
   words-noted (T.no n) (inr e) = absurd (omega arith)
 
   words-kept : (x : T.Told) → at (answerWords x) 0 ≢ 3 → at (answerWords x) 0 ≢ 4 → AnswerClaim g now x g
-  words-kept T.ok p q = unhanded T.ok (λ k v d m n h. not-handed h)
-  words-kept (T.key c) p q = unhanded (T.key c) (λ k v d m n h. not-handed h)
-  words-kept (T.gone a b) p q = unhanded (T.gone a b) (λ k v d m n h. not-handed h)
+  words-kept T.ok p q = noted-none refl
+  words-kept (T.key c) p q = noted-none refl
+  words-kept (T.gone a b) p q = noted-none refl
   words-kept (T.out k v d m n) p q = absurd (p refl)
   words-kept (T.last k v d m n) p q = absurd (q refl)
-  words-kept (T.none a b) p q = unhanded (T.none a b) (λ k v d m n h. not-handed h)
-  words-kept (T.yet a b) p q = unhanded (T.yet a b) (λ k v d m n h. not-handed h)
-  words-kept (T.wake t) p q = unhanded (T.wake t) (λ k v d m n h. not-handed h)
-  words-kept T.never p q = unhanded T.never (λ k v d m n h. not-handed h)
-  words-kept (T.len a) p q = unhanded (T.len a) (λ k v d m n h. not-handed h)
-  words-kept (T.no a) p q = unhanded (T.no a) (λ k v d m n h. not-handed h)
+  words-kept (T.none a b) p q = noted-none refl
+  words-kept (T.yet a b) p q = noted-none refl
+  words-kept (T.wake t) p q = noted-none refl
+  words-kept T.never p q = noted-none refl
+  words-kept (T.len a) p q = noted-none refl
+  words-kept (T.no a) p q = noted-none refl
 
   -- of any six words
   module _ (w : List ℕ) (z : length w ≡ 6) where
@@ -114,8 +98,11 @@ module _ (g : Gauge) (now : ℕ) where
           otherwise = λ f. refl;
         }
 
--- the gauge is kept as it was made
-pub note-kept : {g : Gauge} {now : ℕ} {w : List ℕ} (n : ℕ) (r : Gauge) → isSet n ≡ r .any → NoteClaim g now w r
-    → NoteClaim g now w (gaugeOf (r .smoothed) (r .worst) n)
-note-kept {g} {now} {w} n r e N =
-    subst (λ (b : Bool). NoteClaim g now w (record { smoothed = r .smoothed; worst = r .worst; any = b })) (sym e) N
+-- ---- one outcome
+
+-- what is noted of any words leaves one gauge
+pub note-once : {g a b : Gauge} {now : ℕ} (w : List ℕ) → NoteClaim g now w a → NoteClaim g now w b → a ≡ b
+note-once w A B =
+    by-cases (List-discrete ℕ-discrete w (answerWords (back w)))
+    (λ e. answer-once (back w) (A .answered (back w) e) (B .answered (back w) e))
+    (λ f. A .otherwise (not-words w f) ∙ sym (B .otherwise (not-words w f)))

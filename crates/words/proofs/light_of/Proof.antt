@@ -1,8 +1,7 @@
--- `value_of` is what `lightValue` says.
+-- `light_of` writes what `lightWords` says.
 use borrow.Author.Needs.{needs}
-use Rattle.gauge.proofs.laws.Floats.{zero-bits}
-use Rattle.ngawdrelo.proofs.value_of.Statement.{statement}
-use Rattle.ngawdrelo.proofs.value_of.Tie as tie
+use Rattle.words.proofs.light_of.Statement.{statement}
+use Rattle.words.proofs.light_of.Tie as tie
 
 abbrev to-reading : tie.After-enum-told → tie.After-reading
 to-reading c = c .before .before .before
@@ -14,7 +13,7 @@ abbrev to-reading3 : tie.After-known-told3 → tie.After-reading
 to-reading3 c = c .before .before .before .before
 
 returns : tie.Need-returns
-returns c = rw (to-reading c .reading .given .1, c .enum-told .given .1) zero-bits
+returns c = rw (to-reading c .reading .given .1, c .enum-told .given .1)
 
 returns-2 : tie.Need-returns-2
 returns-2 c = rw (to-reading2 c .reading .given .1, c .before .light .given .1)
@@ -23,9 +22,9 @@ returns-3 : tie.Need-returns-3
 returns-3 c = rw (to-reading3 c .reading .given .1, c .before .light2 .given .1)
 
 returns-4 : tie.Need-returns-4
-returns-4 c = rw (c .before .reading2 .given .1) zero-bits
+returns-4 c = rw (c .before .reading2 .given .1)
 
-pub value-of-spec : {M : Type 1} → statement M
-value-of-spec =
+pub light-of-spec : {M : Type 1} → statement M
+light-of-spec =
     tie.close (tie.spec (λ c. search needs) (λ c. search needs) (λ c. search needs) (λ c. search needs)
     (λ c. search needs) returns returns-2 returns-3 returns-4)

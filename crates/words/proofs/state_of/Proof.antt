@@ -2,9 +2,9 @@
 use borrow.Author.Needs.{needs}
 use mathlib.Core.Path.{refl}
 use borrow.Author.Tests.{eq-eqb, ne-eqb}
-use Rattle.ngawdrelo.specs.Fronts.{stateOf}
-use Rattle.ngawdrelo.proofs.state_of.Statement.{statement}
-use Rattle.ngawdrelo.proofs.state_of.Tie as tie
+use Rattle.words.specs.Words.{stateOf}
+use Rattle.words.proofs.state_of.Statement.{statement}
+use Rattle.words.proofs.state_of.Tie as tie
 
 returns : tie.Need-returns
 unfolding stateOf

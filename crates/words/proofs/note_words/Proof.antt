@@ -1,9 +1,9 @@
 -- `note_words` meets its claim (`notes`, `notes-nothing`).
 use borrow.Author.Needs.{needs}
 use mathlib.Core.Logic.{inl, inr}
-use Rattle.ngawdrelo.proofs.laws.Fronts.{notes, notes-nothing}
-use Rattle.ngawdrelo.proofs.note_words.Statement.{statement}
-use Rattle.ngawdrelo.proofs.note_words.Tie as tie
+use Rattle.words.proofs.laws.Gauge.{notes, notes-nothing}
+use Rattle.words.proofs.note_words.Statement.{statement}
+use Rattle.words.proofs.note_words.Tie as tie
 
 returns : tie.Need-returns
 returns c = notes _ _ _ (search needs) (inl (c .before .if1 .taken)) (c .before .before .lateness-of .ensures) (c .note .ensures)

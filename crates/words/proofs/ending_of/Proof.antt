@@ -1,7 +1,7 @@
 -- `ending_of` writes what `endingWords` says.
 use borrow.Author.Needs.{needs}
-use Rattle.ngawdrelo.proofs.ending_of.Statement.{statement}
-use Rattle.ngawdrelo.proofs.ending_of.Tie as tie
+use Rattle.words.proofs.ending_of.Statement.{statement}
+use Rattle.words.proofs.ending_of.Tie as tie
 
 returns-5 : tie.Need-returns-5
 returns-5 c = rw (c .before .ending .given .1)

@@ -1,7 +1,7 @@
 -- `words_of` writes what `answerWords` says, answer by answer.
 use borrow.Author.Needs.{needs}
-use Rattle.ngawdrelo.proofs.words_of.Statement.{statement}
-use Rattle.ngawdrelo.proofs.words_of.Tie as tie
+use Rattle.words.proofs.words_of.Statement.{statement}
+use Rattle.words.proofs.words_of.Tie as tie
 
 returns-2 : tie.Need-returns-2
 returns-2 c = rw (c .before .answer .given .1)

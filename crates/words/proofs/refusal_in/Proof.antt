@@ -1,8 +1,8 @@
 -- `refusal_in` meets its contract: by the kind (`written-no`, `written-else`).
 use borrow.Author.Needs.{needs}
-use Rattle.ngawdrelo.proofs.laws.Face.{written-no, written-else}
-use Rattle.ngawdrelo.proofs.refusal_in.Statement.{statement}
-use Rattle.ngawdrelo.proofs.refusal_in.Tie as tie
+use Rattle.words.proofs.laws.Journal.{written-no, written-else}
+use Rattle.words.proofs.refusal_in.Statement.{statement}
+use Rattle.words.proofs.refusal_in.Tie as tie
 
 returns : tie.Need-returns
 returns c = written-no (c .before .if1 .taken)

@@ -1,13 +1,20 @@
--- The words of a gauge, of its light, and of what an inspector keeps from line to line.
+-- What crosses to C as words: of a run, of the journal, of a flag, of a gauge and its light, and of what an inspector keeps from line to line.
 use mathlib.Core.Path.{_≡_}
-use mathlib.Core.Bool.{cond}
+use mathlib.Core.Bool.{Bool, cond, not}
 use mathlib.Core.List.{List, [], _∷_}
 use Prim.Native.Nat.{ℕ}
 use lib.Dec.{eqb}
 use lib.Ieee.{Float}
 use Rattle.links.specs.Links.{at}
+use Rattle.queue.specs.declared.Answer.{Answer}
+use Rattle.queue.specs.Told.{told}
 use Rattle.queue.specs.Told as T
+use Rattle.run.specs.declared.Why.{Why}
+use Rattle.run.specs.declared.Why.the-variants as W
 use Rattle.run.specs.Groups.{answerWords}
+use Rattle.entries.specs.declared.Ending.{Ending}
+use Rattle.entries.specs.declared.Ending.the-variants as E
+use Rattle.journal.specs.Journal.{unwritten}
 use Rattle.gauge.specs.declared.Gauge.{Gauge}
 use Rattle.gauge.specs.declared.Light.the-variants as L
 use Rattle.gauge.specs.declared.Reading.{Reading}
@@ -15,7 +22,42 @@ use Rattle.gauge.specs.declared.Reading.the-variants as R
 use Rattle.gauge.specs.Gauge.{nought, AnswerClaim}
 use Rattle.inspector.specs.declared.State.{State}
 use Rattle.inspector.specs.declared.State.the-variants as S
-use Rattle.ngawdrelo.specs.Face.{isSet}
+
+-- ---- a run
+
+-- in the order of `Why`
+abbrev pub whyWord : Why → ℕ
+whyWord W.NoWords = 0
+whyWord W.NoCommand = 1
+whyWord W.NoRoom = 2
+
+-- ---- the journal
+
+-- a call that answers a is written just where one is whose answer has the words w
+abbrev pub WrittenAs : List ℕ → Answer → Type 0
+WrittenAs w a = (x : T.Told) → w ≡ answerWords x → unwritten (told a) ≡ unwritten x
+
+-- in the order of `Ending`, and the number that a step gets
+abbrev pub endingWords : Ending → List ℕ
+endingWords E.Cut = 0 ∷ 0 ∷ []
+endingWords E.Kind = 1 ∷ 0 ∷ []
+endingWords E.Zero = 2 ∷ 0 ∷ []
+endingWords E.Pair = 3 ∷ 0 ∷ []
+endingWords (E.Gets n) = 4 ∷ n ∷ []
+
+-- ---- a flag
+
+-- a word that is not 0 is a yes
+abbrev pub isSet : ℕ → Bool
+isSet n = not (eqb n 0)
+
+-- the word of a flag that is to say b: the word n that it has, if that says so already, and else 1 or 0
+unfoldable pub flagWord : ℕ → Bool → ℕ
+flagWord n b = cond b (cond (isSet n) n 1) 0
+
+-- a flag's word is another only where it says another thing, and then it is 1 or 0
+abbrev pub FlagKept : ℕ → ℕ → Type 0
+FlagKept n n′ = n′ ≡ flagWord n (isSet n′)
 
 -- ---- the gauge
 

@@ -1,7 +1,7 @@
 -- `state_words` writes what `stateWords` says.
 use borrow.Author.Needs.{needs}
-use Rattle.ngawdrelo.proofs.state_words.Statement.{statement}
-use Rattle.ngawdrelo.proofs.state_words.Tie as tie
+use Rattle.words.proofs.state_words.Statement.{statement}
+use Rattle.words.proofs.state_words.Tie as tie
 
 returns : tie.Need-returns
 returns c = rw (c .before .state .given .1)

@@ -1,0 +1,4 @@
+pub mod Answers
+pub mod Flags
+pub mod Gauge
+pub mod Journal

@@ -1,0 +1,2 @@
+-- `Words` has what crosses to C as words.
+pub mod Words
