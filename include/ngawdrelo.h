@@ -83,6 +83,11 @@ typedef struct ngw_answer {
   uint64_t word[5];
 } ngw_answer;
 
+/* Whether a poll handed out a timer: NGW_OUT or NGW_LAST. */
+static inline int ngw_handed(ngw_answer a) {
+  return a.kind == NGW_OUT || a.kind == NGW_LAST;
+}
+
 /* The key in an answer NGW_KEY, NGW_OUT, NGW_LAST; 0 in any other. */
 static inline uint64_t ngw_key(ngw_answer a) {
   return a.kind == NGW_KEY || a.kind == NGW_OUT || a.kind == NGW_LAST ? a.word[0] : 0;

@@ -72,6 +72,11 @@ typedef struct ngw_answer {
   uint64_t word[5];
 } ngw_answer;
 
+/* Whether a poll handed out a timer: NGW_OUT or NGW_LAST. */
+static inline int ngw_handed(ngw_answer a) {
+  return a.kind == NGW_OUT || a.kind == NGW_LAST;
+}
+
 @PARTS@
 
 /* ---- refusals: the number of an answer NGW_NO. What was asked has changed nothing. */

@@ -33,7 +33,7 @@ int main(void) {
     sleep_until(ngw_time(a));
     looks++;
     /* more than one may be due, so look until there is nothing; a look may also only sort, and hand out nothing */
-    for (a = ngw_poll(&arm, now); a.kind == NGW_OUT || a.kind == NGW_LAST; a = ngw_poll(&arm, now)) {
+    for (a = ngw_poll(&arm, now); ngw_handed(a); a = ngw_poll(&arm, now)) {
       printf("at %" PRIu64 ": %" PRIu64 ", due at %" PRIu64 "\n", now - start, ngw_value(a), ngw_deadline(a) - start);
     }
     if (a.kind != NGW_NOTHING) return 1;

@@ -87,7 +87,7 @@ static void live(int life) {
   }
   if (life == 2) {
     a = ask(NGW_ASK_POLL, 60000, 0, 0);
-    printf("  at 60000 %s\n", a.kind == NGW_OUT ? "a timer is due" : "nothing is due: the patch was not kept");
+    printf("  at 60000 %s\n", ngw_handed(a) ? "a timer is due" : "nothing is due: the patch was not kept");
     a = ask(NGW_ASK_POLL, 420000, 0, 0);
     printf("  at 420000 due: %" PRIu64 ", key %" PRIu64 "\n", ngw_value(a), ngw_key(a));
     ngw_act(&arm, NGW_ASK_CLEAR, 0, 0, 0, bytes, &size); /* not answered yet: its bytes are not written, .. */

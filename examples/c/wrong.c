@@ -14,7 +14,7 @@ static void say(const char *what, ngw_answer a) {
 int main(void) {
   static ngawdrelo none; /* all zero: no store, and no memory for one */
   static uint64_t keys[1024], deadlines[1024], state[4];
-  uint64_t commands[8] = {NGW_ASK_LENGTH, 0, 0, 0, 99, 0, 0, 0}, answers[12], done, why, kept, at, ending[2], time, size;
+  uint64_t commands[8] = {NGW_ASK_LENGTH, 0, 0, 0, 99, 0, 0, 0}, answers[12], done, why, kept, at, ending[2], time, size, patch;
   uint8_t bytes[36];
   double value;
   ngw_gauge gauge = {0, 0, 0};
@@ -48,6 +48,12 @@ int main(void) {
   printf("a run with no room for an answer: %d done, why %d\n", (int)done, (int)why);
   a = ngw_act(&arm, 99, 0, 0, 0, bytes, &size);
   printf("a step that is no command: kind %d, %d bytes\n", (int)a.kind, (int)size);
+  patch = 7; /* any word but 0 says that a patch is open */
+  say("an open, with a patch open", ngw_open(&patch, bytes, &size));
+  printf("the flag of the patch: %d\n", (int)patch);
+  say("a close", ngw_close(&patch, bytes, &size));
+  say("a close, with no patch open", ngw_close(&patch, bytes, &size));
+  printf("the flag of the patch: %d\n", (int)patch);
 
   time = UINT64_MAX;
   say("a tick at the end of time", ngw_tick_read(&time, 0));
