@@ -1,9 +1,9 @@
--- What every call answers and leaves, for any input at all, in document 01's words. `Fits`, `Sound`, the view and what happens to one record stand in
--- `records` (specs/Slices.antt, Words.antt, View.antt, Records.antt), `Refused` and what a call does on a sound store in `queue` (specs/Calls.antt, Steps.antt, Told.antt).
+-- What every call answers and leaves, for any input at all, in document 01's words. `Fits`, `InRange`, `Sound`, the view and what happens to one record stand in
+-- `records` (specs/Slices.antt, Format.antt, Words.antt, View.antt, Records.antt), `Refused` and what a call does on a sound store in `queue` (specs/Calls.antt, Steps.antt, Told.antt).
 use mathlib.Core.Path.{_≡_}
 use mathlib.Core.Bool.{cond}
 use mathlib.Core.List.{[]}
-use Prim.Native.Nat.{ℕ, _^_, _<_}
+use Prim.Native.Nat.{ℕ}
 use lib.Dec.{ltb}
 use Rattle.links.specs.Lists.{nobody, change}
 use Rattle.places.specs.Places.{free}
@@ -14,15 +14,11 @@ use Rattle.queue.specs.declared.Answer.{Answer}
 use Rattle.delay_queue.specs.declared.Call.{Call}
 use Rattle.delay_queue.specs.declared.Call.the-variants as C
 use Rattle.records.specs.Slices.{Fits}
+use Rattle.records.specs.Format.{InRange}
 use Rattle.records.specs.Words.{QueueWords, slices, Sound, PastKept, view}
 use Rattle.queue.specs.Calls.{Refused, InsertOn, ResetOn, RemoveOn, PollOn, Freely, Resuming, RestOn, PollsOn, WakeOn, LengthOn, ClearOn}
 
 -- ---- format
-
--- number 8 is not given: "a first turn (1 to 2^48-1)"
-pub record InRange (turn : ℕ) : Type 0 where
-  pub some : 0 < turn
-  pub last : turn < 2 ^ 48
 
 -- f with x at 0, .., n - 1
 unfoldable pub first : ℕ → ℕ → (ℕ → ℕ) → ℕ → ℕ

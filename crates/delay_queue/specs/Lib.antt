@@ -1,4 +1,3 @@
 pub mod Claims
-pub mod Format
 pub mod NoStore
 pub mod Free

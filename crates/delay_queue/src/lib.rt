@@ -3,16 +3,10 @@ use places::Tops;
 use queue::Answer;
 use wheel::Wheel;
 ghost use mathlib.Core.Path.{_≡_};
-ghost use Prim.Native.Nat.{_≤_, _<_};
-ghost use lib.ListN.{length};
-ghost use Rattle.places.specs.Format.{over};
-ghost use Rattle.contracts.specs.Lent.{old, new};
-ghost use Rattle.records.specs.Slices.{Fits, lent, before as slices};
 ghost use Rattle.records.specs.Store.{before, after, wheelOf};
-ghost use Rattle.delay_queue.specs.Claims.{InRange, FormatClaim, InsertClaim, ResetClaim, RemoveClaim};
+ghost use Rattle.delay_queue.specs.Claims.{FormatClaim, InsertClaim, ResetClaim, RemoveClaim};
 ghost use Rattle.delay_queue.specs.Claims.{PollClaim, PollSomeClaim, WakeClaim, LengthClaim, ClearClaim};
 ghost use Rattle.delay_queue.specs.Free.{FreeNo};
-ghost use Rattle.delay_queue.specs.Format.{FormatNo, MakesOf};
 ghost use Rattle.delay_queue.specs.NoStore.{NoStoreClaim};
 
 // A call, with its arguments in the papers' order.
@@ -138,73 +132,6 @@ fn free_no(
     0
 }
 
-// The first n words become x.
-fn fill(words: &mut [u64], n: usize, x: u64)
-    requires { ⌜ n ≤ length (now words) ⌝ }
-    ensures { λ _. ⌜ new words ≡ over n (λ i. x) (old words) ⌝ }
-{
-    let mut i = 0usize;
-    while i < n {
-        words[i] = x;
-        i += 1;
-    }
-}
-
-// 1 or 8 for a format that is refused, 0 for one that is taken.
-pub fn format_no(
-    values: &[u64],
-    deadlines: &[u64],
-    nexts: &[u16],
-    prevs: &[u16],
-    turns: &[u64],
-    marks: &[u16],
-    n: u64,
-    turn: u64,
-) -> u64
-    ensures { λ r. ⌜
-        FormatNo (Fits (slices values deadlines nexts prevs turns marks) n) (InRange turn) r ⌝ }
-{
-    if n == 0 {
-        return refusals::NO_ROOM;
-    }
-    if (records::LIMIT as u64) < n {
-        return refusals::NO_ROOM;
-    }
-    if !judge::has_room(n as u16, values, deadlines, nexts, prevs, turns, marks) {
-        return refusals::NO_ROOM;
-    }
-    if turn == 0 {
-        return refusals::BAD_TURN;
-    }
-    if records::LAST_TURN < turn {
-        return refusals::BAD_TURN;
-    }
-    0
-}
-
-// A fresh store of n records in what is lent: values, periods and deadlines are 0, as elapsed and the occupied rows are.
-pub fn make(
-    tops: &mut [u16; 4],
-    heads: &mut [[u16; 64]; 6],
-    values: &mut [u64],
-    deadlines: &mut [u64],
-    nexts: &mut [u16],
-    prevs: &mut [u16],
-    turns: &mut [u64],
-    marks: &mut [u16],
-    n: u16,
-    turn: u64,
-)
-    requires { ⌜ Fits (lent values deadlines nexts prevs turns marks) n ⌝ }
-    ensures { λ _. ⌜ MakesOf n turn tops heads values deadlines nexts prevs turns marks ⌝ }
-{
-    places::format(tops, heads, nexts, prevs, marks, n);
-    let k = n as usize;
-    fill(values, 2 * k, 0);
-    fill(deadlines, k, 0);
-    fill(turns, k, turn);
-}
-
 // Every record of n is free, with the first turn `turn`. What the store was before does not matter.
 pub fn format(
     state: Wheel,
@@ -222,12 +149,12 @@ pub fn format(
         FormatClaim (before state heads values deadlines nexts prevs turns marks)
         n turn (r .answer) (after (r .state) (r .heads .heads) values deadlines nexts prevs turns marks) ⌝ }
 {
-    let number = format_no(values, deadlines, nexts, prevs, turns, marks, n, turn);
+    let number = records::format_no(values, deadlines, nexts, prevs, turns, marks, n, turn);
     if number != 0 {
         return refused(number, state, heads);
     }
     let mut tops = [0u16; 4];
-    make(
+    records::make(
         &mut tops,
         &mut heads,
         values,

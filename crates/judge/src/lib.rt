@@ -4,7 +4,6 @@ ghost use Prim.Native.Nat.{_≤_, _<_};
 ghost use lib.ListN.{length};
 ghost use Rattle.contracts.specs.Lent.{old};
 ghost use Rattle.contracts.specs.Tells.{Tells};
-ghost use Rattle.records.specs.Slices.{Room, before as slices};
 ghost use Rattle.records.specs.Words.{Sound, before as given, holding};
 ghost use Rattle.records.specs.Store.{before};
 ghost use Rattle.places.specs.Words.{topsOf};
@@ -13,37 +12,6 @@ ghost use Rattle.places.specs.Heads.{headOf};
 ghost use Rattle.places.specs.Places.{parking, expired};
 ghost use Rattle.wheel.specs.Midway.{Belongs, Parked};
 ghost use Rattle.judge.specs.Judge.{Typed, RecordAgrees, RecordsAgree, OwnStart, CanHold};
-
-// Whether the slices are long enough for n records, of which each has two words of `values`.
-pub fn has_room(
-    n: u16,
-    values: &[u64],
-    deadlines: &[u64],
-    nexts: &[u16],
-    prevs: &[u16],
-    turns: &[u64],
-    marks: &[u16],
-) -> bool
-    ensures { λ r. ⌜ Tells (Room n (slices values deadlines nexts prevs turns marks)) r ⌝ }
-{
-    let k = n as usize;
-    if values.len() < 2 * k {
-        return false;
-    }
-    if deadlines.len() < k {
-        return false;
-    }
-    if nexts.len() < k {
-        return false;
-    }
-    if prevs.len() < k {
-        return false;
-    }
-    if turns.len() < k {
-        return false;
-    }
-    k <= marks.len()
-}
 
 // Whether a timer with the deadline belongs in the slot `place`, where the list `hand` of height low + 1, which starts at
 // `clock`, is drained. With no poll in hand: 0, nobody and elapsed.
@@ -209,7 +177,7 @@ pub fn is_sound_here(
     if n == 0 {
         return false;
     }
-    if !has_room(n, values, deadlines, nexts, prevs, turns, marks) {
+    if !records::has_room(n, values, deadlines, nexts, prevs, turns, marks) {
         return false;
     }
     if !wheel::is_whole(elapsed, occupied, tops, heads, nexts, prevs, marks) {

@@ -13,9 +13,9 @@ use Rattle.records.specs.Words.{QueueWords, count, elapsed, view, MidPoll, Soun
 use Rattle.queue.specs.Calls.{Refused}
 use Rattle.delay_queue.specs.declared.Call.{Call}
 use Rattle.delay_queue.specs.declared.Call.the-variants as C
-use Rattle.delay_queue.specs.Claims.{InRange}
 use Rattle.promises.specs.OneCall.{isNo}
 use Rattle.records.specs.Slices.{Fits}
+use Rattle.records.specs.Format.{InRange}
 
 -- ---- the table
 

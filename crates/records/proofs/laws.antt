@@ -5,3 +5,4 @@ pub mod Inner
 pub mod Found
 pub mod Cases
 pub mod Again
+pub mod Format

@@ -1,4 +1,5 @@
-// Records in lent slices: their values, keys and turns, where a deadline may lie, and how one joins the wheel or leaves the store.
+// Records in lent slices: whether there is room for them and how all of them are made, their values, keys and turns, where a
+// deadline may lie, and how one joins the wheel or leaves the store.
 use wheel::Wheel;
 ghost use mathlib.Core.Path.{_≡_};
 ghost use Prim.Native.Nat.{_+_, _*_, _^_, _≤_, _<_, max};
@@ -6,10 +7,12 @@ ghost use lib.ListN.{length};
 ghost use Rattle.contracts.specs.Lent.{old, new};
 ghost use Rattle.contracts.specs.Tells.{Tells};
 ghost use Rattle.places.specs.Places.{slots, free};
+ghost use Rattle.places.specs.Format.{over};
 ghost use Rattle.wheel.specs.Words.{lent, before, after};
 ghost use Rattle.records.specs.Records.{packed, turnIn, numberIn, target};
-ghost use Rattle.records.specs.Slices.{valueAt, periodAt, given};
+ghost use Rattle.records.specs.Slices.{Room, Fits, lent as slicesLent, before as slices, valueAt, periodAt, given};
 ghost use Rattle.records.specs.Store.{wheelOf};
+ghost use Rattle.records.specs.Format.{InRange, FormatNo, MakesOf};
 ghost use Rattle.records.specs.Inner.{HasSlot, PlacesTo, CanPlace, LeavesTo, CanFree};
 ghost use Rattle.records.specs.Found.{AheadNo, DeadlineNo, AgainIs, FindIs};
 
@@ -45,6 +48,104 @@ pub fn wheel_of(elapsed: u64, occupied: [u64; 6], tops: [u16; 4], hand: u16, unt
         hand,
         until,
     }
+}
+
+// Whether the slices are long enough for n records, of which each has two words of `values`.
+pub fn has_room(
+    n: u16,
+    values: &[u64],
+    deadlines: &[u64],
+    nexts: &[u16],
+    prevs: &[u16],
+    turns: &[u64],
+    marks: &[u16],
+) -> bool
+    ensures { λ r. ⌜ Tells (Room n (slices values deadlines nexts prevs turns marks)) r ⌝ }
+{
+    let k = n as usize;
+    if values.len() < 2 * k {
+        return false;
+    }
+    if deadlines.len() < k {
+        return false;
+    }
+    if nexts.len() < k {
+        return false;
+    }
+    if prevs.len() < k {
+        return false;
+    }
+    if turns.len() < k {
+        return false;
+    }
+    k <= marks.len()
+}
+
+// 1 or 8 for a format that is refused, 0 for one that is taken.
+pub fn format_no(
+    values: &[u64],
+    deadlines: &[u64],
+    nexts: &[u16],
+    prevs: &[u16],
+    turns: &[u64],
+    marks: &[u16],
+    n: u64,
+    turn: u64,
+) -> u64
+    ensures { λ r. ⌜
+        FormatNo (Fits (slices values deadlines nexts prevs turns marks) n) (InRange turn) r ⌝ }
+{
+    if n == 0 {
+        return refusals::NO_ROOM;
+    }
+    if (LIMIT as u64) < n {
+        return refusals::NO_ROOM;
+    }
+    if !has_room(n as u16, values, deadlines, nexts, prevs, turns, marks) {
+        return refusals::NO_ROOM;
+    }
+    if turn == 0 {
+        return refusals::BAD_TURN;
+    }
+    if LAST_TURN < turn {
+        return refusals::BAD_TURN;
+    }
+    0
+}
+
+// The first n words become x.
+fn fill(words: &mut [u64], n: usize, x: u64)
+    requires { ⌜ n ≤ length (now words) ⌝ }
+    ensures { λ _. ⌜ new words ≡ over n (λ i. x) (old words) ⌝ }
+{
+    let mut i = 0usize;
+    while i < n {
+        words[i] = x;
+        i += 1;
+    }
+}
+
+// A fresh store of n records in what is lent: values, periods and deadlines are 0, as elapsed and the occupied rows are.
+pub fn make(
+    tops: &mut [u16; 4],
+    heads: &mut [[u16; 64]; 6],
+    values: &mut [u64],
+    deadlines: &mut [u64],
+    nexts: &mut [u16],
+    prevs: &mut [u16],
+    turns: &mut [u64],
+    marks: &mut [u16],
+    n: u16,
+    turn: u64,
+)
+    requires { ⌜ Fits (slicesLent values deadlines nexts prevs turns marks) n ⌝ }
+    ensures { λ _. ⌜ MakesOf n turn tops heads values deadlines nexts prevs turns marks ⌝ }
+{
+    places::format(tops, heads, nexts, prevs, marks, n);
+    let k = n as usize;
+    fill(values, 2 * k, 0);
+    fill(deadlines, k, 0);
+    fill(turns, k, turn);
 }
 
 // A record has two words of `values`, of which no other crate knows the order: its value and, behind it, its period.

@@ -114,7 +114,7 @@ fn format_number(
     if (records::LIMIT as u64) < n {
         return refusals::NO_ROOM;
     }
-    if !judge::has_room(n as u16, values, deadlines, nexts, prevs, turns, marks) {
+    if !records::has_room(n as u16, values, deadlines, nexts, prevs, turns, marks) {
         return refusals::NO_ROOM;
     }
     0

@@ -190,7 +190,7 @@ fn formats(
         n turn (r .answer) (holding (r .hand) (r .until)
         (after (r .elapsed) occupied tops heads values deadlines nexts prevs turns marks)) ⌝ }
 {
-    let number = delay_queue::format_no(values, deadlines, nexts, prevs, turns, marks, n, turn);
+    let number = records::format_no(values, deadlines, nexts, prevs, turns, marks, n, turn);
     if number != 0 {
         return ReplyParts {
             answer: Answer::No(number),
@@ -199,7 +199,7 @@ fn formats(
             until,
         };
     }
-    delay_queue::make(
+    records::make(
         tops,
         heads,
         values,

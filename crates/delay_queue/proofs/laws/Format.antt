@@ -5,7 +5,7 @@ use mathlib.Core.List.{List, []}
 use Prim.Native.Nat.{ℕ, _+_, _*_, _≤_, _<_}
 use native.Mathlib.Decide.{decLt}
 use native.Mathlib.Omega.{arith}
-use lib.ListN.{length, set, replicate, getD-replicate, length-set}
+use lib.ListN.{length, replicate, getD-replicate}
 use borrow.Author.Tests.{lt-ltb, le-ltb}
 use Rattle.row.proofs.laws.Rows.{row-none}
 use Rattle.links.specs.Lists.{Mem, nobody, change}
@@ -14,7 +14,7 @@ use Rattle.links.specs.Links.{at}
 use Rattle.places.specs.Places.{slotPlace, parking, expired, free}
 use Rattle.places.specs.Words.{PlaceWords}
 use Rattle.places.specs.Format.{over, range, formatted}
-use Rattle.places.proofs.laws.Format.{over-step, over-at, over-kept, length-over, format-kept, format-whole, format-lists}
+use Rattle.places.proofs.laws.Format.{over-at, over-kept, length-over, format-kept, format-whole, format-lists}
 use Rattle.places.specs.Whole as places
 use Rattle.places.proofs.laws.Whole as place-laws
 use Rattle.wheel.specs.declared.Wheel.{Wheel}
@@ -26,46 +26,13 @@ use Rattle.queue.specs.Told.{told}
 use Rattle.records.proofs.laws.View.{view-eq}
 use Rattle.records.specs.Slices.{slicesOf, valueAt, periodAt, Fits}
 use Rattle.records.specs.Words.{QueueWords, queueWords, words, slices, Sound}
-use Rattle.delay_queue.specs.Claims.{InRange, first, Formatted, FormatClaim}
+use Rattle.records.specs.Format.{InRange, FormatNo, Makes}
+use Rattle.delay_queue.specs.Claims.{first, Formatted, FormatClaim}
 use Rattle.delay_queue.proofs.laws.Back.{GivesBack}
-use Rattle.delay_queue.specs.Format.{FormatNo, Makes}
-
--- ---- the number
-
-module _ {fits range : Type 0} where
-  pub no-one : (fits → ⊥) → FormatNo fits range 1
-  no-one f = record { short = λ g. refl; outside = λ x g. absurd (f x); near = λ x. absurd (f x); taken = λ z. absurd (omega arith) }
-
-  pub no-eight : fits → (range → ⊥) → FormatNo fits range 8
-  no-eight x f = record { short = λ g. absurd (g x); outside = λ y g. refl; near = λ y z. absurd (f z); taken = λ z. absurd (omega arith) }
-
-  pub no-none : fits → range → FormatNo fits range 0
-  no-none x y = record { short = λ g. absurd (g x); outside = λ z g. absurd (g y); near = λ z w. refl; taken = λ z. (x, y) }
 
 -- ---- n words become x
 
--- the loop: the first i do
-pub record FilledSo (n x : ℕ) (l : List ℕ) (i : ℕ) (m : List ℕ) : Type 0 where
-  pub within : i ≤ n
-  pub words : m ≡ over i (λ j. x) l
-  pub size : length m ≡ length l
-
 module _ (n x : ℕ) (l : List ℕ) where
-  pub fill-begun : FilledSo n x l 0 l
-  unfolding over
-  fill-begun = record { within = omega arith; words = refl; size = refl }
-
-  pub fill-next : {i : ℕ} {m : List ℕ} → FilledSo n x l i m → i < n → FilledSo n x l (i + 1) (set m i x)
-  fill-next {i} {m} F h =
-      record {
-        within = omega arith;
-        words = ap (λ k. set k i x) (F .words) ∙ sym (over-step i (λ j. x) l);
-        size = length-set m i x ∙ F .size;
-      }
-
-  pub fill-end : {i : ℕ} {m : List ℕ} → FilledSo n x l i m → n ≤ i → m ≡ over n (λ j. x) l
-  fill-end {i} F h = let e : i ≡ n = omega arith in F .words ∙ ap (λ k. over k (λ j. x) l) e
-
   pub over-first : n ≤ length l → at (over n (λ j. x) l) ≡ first n x (at l)
   unfolding first
   over-first h =

@@ -13,6 +13,7 @@ use Rattle.records.specs.Slices.{Fits}
 use Rattle.records.specs.View.{View}
 use Rattle.records.specs.Records.{Names}
 use Rattle.records.specs.Words.{QueueWords, view, slices, Sound, PastKept}
+use Rattle.records.specs.Format.{InRange}
 use Rattle.records.proofs.laws.View.{view-eq}
 use Rattle.queue.specs.declared.Answer.{Answer}
 use Rattle.queue.specs.Told.{told}
@@ -20,7 +21,7 @@ use Rattle.queue.specs.Told as T
 use Rattle.queue.specs.Calls.{Refused}
 use Rattle.delay_queue.specs.declared.Call.{Call}
 use Rattle.delay_queue.specs.declared.Call.the-variants as C
-use Rattle.delay_queue.specs.Claims.{first, fresh, Formatted, InRange, FormatClaim, CallClaim}
+use Rattle.delay_queue.specs.Claims.{first, fresh, Formatted, FormatClaim, CallClaim}
 use Rattle.promises.specs.OneCall.{isNo, one}
 use Rattle.promises.specs.Keys.{asked}
 use Rattle.promises.specs.Runs.{Asked, Runs, rest, next, All, isFormat}

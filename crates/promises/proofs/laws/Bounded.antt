@@ -28,9 +28,10 @@ use Rattle.records.specs.Records.{At, target, placed}
 use Rattle.records.specs.Slices.{Fits}
 use Rattle.records.specs.View.{View}
 use Rattle.records.specs.Words.{QueueWords, AtRest, slices, view, Sound}
+use Rattle.records.specs.Format.{InRange}
 use Rattle.delay_queue.specs.declared.Call.{Call}
 use Rattle.delay_queue.specs.declared.Call.the-variants as C
-use Rattle.delay_queue.specs.Claims.{InRange, Formatted, RemoveClaim, CallClaim}
+use Rattle.delay_queue.specs.Claims.{Formatted, RemoveClaim, CallClaim}
 use Rattle.promises.specs.OneCall.{isNo, blank, one}
 use Rattle.promises.specs.Runs.{Asked, Runs, rest, next, ends, isPoll, All, tallyEnded, movesOf, Each}
 use Rattle.pausing.specs.Pausing.{PollTaken}

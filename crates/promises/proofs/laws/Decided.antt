@@ -25,9 +25,9 @@ use Rattle.wheel.specs.Judged.{CanJudge}
 use Rattle.wheel.proofs.laws.Judged.{whole-row, whole-from}
 use Rattle.judge.specs.Judge.{RecordAgrees, RecordsAgree, CanHold}
 use Rattle.judge.proofs.laws.Judge.{sound-judged, judged-sound}
-use Rattle.delay_queue.specs.Claims.{InRange}
 use Rattle.records.specs.Records.{lastTurn}
 use Rattle.records.specs.Slices.{Slices, Room, limit, Fits}
+use Rattle.records.specs.Format.{InRange}
 
 -- ---- soundness, and what format asks
 

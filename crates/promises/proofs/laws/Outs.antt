@@ -25,7 +25,7 @@ use Rattle.records.specs.Words.{QueueWords, view, Sound, slices}
 use Rattle.pausing.specs.Pausing.{PollTaken}
 use Rattle.delay_queue.specs.declared.Call.{Call}
 use Rattle.delay_queue.specs.declared.Call.the-variants as C
-use Rattle.delay_queue.specs.Claims.{InRange, CallClaim}
+use Rattle.delay_queue.specs.Claims.{CallClaim}
 use Rattle.promises.proofs.laws.Decided.{fits-dec, range-dec}
 use Rattle.promises.proofs.laws.OneCall.{call-sound}
 use Rattle.promises.specs.Runs.{Asked, Runs, rest, next, All, NoFormat, resetting}
@@ -37,6 +37,7 @@ use Rattle.promises.specs.KeysStay.{HandsKey}
 use Rattle.promises.proofs.laws.KeysStay.{key-is}
 use Rattle.promises.proofs.laws.Keys.{given-no-more, no-key-twice}
 use Rattle.records.specs.Slices.{Fits}
+use Rattle.records.specs.Format.{InRange}
 use Rattle.promises.specs.Outs.{keyed, keys, outed, outs, agains}
 use Rattle.promises.specs.Polling.{SaysLast, Finished}
 

@@ -16,13 +16,14 @@ use Rattle.records.specs.View.{View}
 use Rattle.records.specs.Records.{Names, TooOld, TooFar, Takes, numberIn, turnIn}
 use Rattle.records.specs.Words.{QueueWords, count, elapsed, markOf, view, slices, AtRest, MidPoll, Sound, PastKept}
 use Rattle.records.specs.Slices.{Room}
+use Rattle.records.specs.Format.{InRange}
 use Rattle.records.proofs.laws.Words.{past-refl}
 use Rattle.queue.specs.Calls.{Refused, Answered, InsertOn, Freely, Resuming}
 use Rattle.records.proofs.laws.Found.{key-names}
 use Rattle.records.proofs.laws.Inner.{mark-at, left-size, placed-size, freed-size}
 use Rattle.delay_queue.specs.declared.Call.{Call}
 use Rattle.delay_queue.specs.declared.Call.the-variants as C
-use Rattle.delay_queue.specs.Claims.{InRange, FormatClaim, Judging, InsertClaim, ResetClaim, PollClaim, CallClaim}
+use Rattle.delay_queue.specs.Claims.{FormatClaim, Judging, InsertClaim, ResetClaim, PollClaim, CallClaim}
 use Rattle.records.proofs.laws.Cases.{by-deadline}
 use Rattle.promises.proofs.laws.Decided.{sound-dec, fits-dec, range-dec}
 use Rattle.promises.proofs.laws.Quiet.{expired-shown}

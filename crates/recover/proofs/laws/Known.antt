@@ -14,9 +14,10 @@ use Rattle.queue.specs.Told.{Told, told}
 use Rattle.queue.specs.Told as T
 use Rattle.records.specs.Slices.{Slices, Fits}
 use Rattle.records.specs.Words.{QueueWords, Sound, slices, PastKept}
+use Rattle.records.specs.Format.{InRange}
 use Rattle.delay_queue.specs.declared.Call.{Call}
 use Rattle.delay_queue.specs.declared.Call.the-variants as C
-use Rattle.delay_queue.specs.Claims.{InRange, CallClaim, FormatClaim}
+use Rattle.delay_queue.specs.Claims.{CallClaim, FormatClaim}
 use Rattle.promises.specs.OneCall.{reach}
 use Rattle.promises.specs.Runs.{isFormat}
 use Rattle.promises.specs.Refused.{FirstMet, linesOf, deadlineLines, RefusedBy}

@@ -3,8 +3,8 @@ use borrow.Author.Needs.{needs}
 use mathlib.Core.Path.{refl, ap}
 use lib.ListN.{replicate}
 use Rattle.wheel.specs.Words.{wheelWords}
-use Rattle.delay_queue.proofs.make.Statement.{statement}
-use Rattle.delay_queue.proofs.make.Tie as tie
+use Rattle.records.proofs.make.Statement.{statement}
+use Rattle.records.proofs.make.Tie as tie
 
 abbrev to-fill2 : tie.After-slice-known12 → tie.After-fill2
 to-fill2 c =

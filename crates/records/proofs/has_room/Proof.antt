@@ -2,8 +2,8 @@
 use borrow.Author.Needs.{needs}
 use native.Mathlib.Omega.{arith}
 use Rattle.contracts.proofs.laws.Tells.{tells-no, tells-le, tells-by}
-use Rattle.judge.proofs.has_room.Statement.{statement}
-use Rattle.judge.proofs.has_room.Tie as tie
+use Rattle.records.proofs.has_room.Statement.{statement}
+use Rattle.records.proofs.has_room.Tie as tie
 
 returns : tie.Need-returns
 returns c = tells-no (λ R. omega (arith, R .values))

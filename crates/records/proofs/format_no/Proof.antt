@@ -2,9 +2,9 @@
 use borrow.Author.Needs.{needs}
 use native.Mathlib.Omega.{arith}
 use borrow.Author.Tests.{not-true, not-false}
-use Rattle.delay_queue.proofs.laws.Format.{no-one, no-eight, no-none}
-use Rattle.delay_queue.proofs.format_no.Statement.{statement}
-use Rattle.delay_queue.proofs.format_no.Tie as tie
+use Rattle.records.proofs.laws.Format.{no-one, no-eight, no-none}
+use Rattle.records.proofs.format_no.Statement.{statement}
+use Rattle.records.proofs.format_no.Tie as tie
 
 returns : tie.Need-returns
 returns c = no-one (λ F. omega (arith, F .some))

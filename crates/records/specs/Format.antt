@@ -1,16 +1,21 @@
 -- Format: which number it answers, and the words that it makes.
 use mathlib.Core.Path.{_≡_}
 use mathlib.Core.List.{List}
-use Prim.Native.Nat.{ℕ, _*_}
+use Prim.Native.Nat.{ℕ, _*_, _^_, _<_}
 use lib.ListN.{replicate}
 use Rattle.contracts.specs.Lent.{Returned, new as left}
 use Rattle.links.specs.Lists.{nobody}
-use Rattle.places.specs.Format.{over, range, formatted}
+use Rattle.places.specs.Format.{over, formatted}
 use Rattle.wheel.specs.Words.{wheelWords}
 use Rattle.records.specs.Slices.{Slices, before as given}
 use Rattle.records.specs.Words.{QueueWords, parts}
 
 -- ---- the number
+
+-- number 8 is not given: "a first turn (1 to 2^48-1)"
+pub record InRange (turn : ℕ) : Type 0 where
+  pub some : 0 < turn
+  pub last : turn < 2 ^ 48
 
 -- 1 or 8 where format is refused, and 0 just where it is not
 pub record FormatNo (fits range : Type 0) (r : ℕ) : Type 0 where

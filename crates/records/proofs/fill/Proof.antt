@@ -1,9 +1,9 @@
 -- `fill` meets its contract: the words passed are x (`fill-next`).
 use borrow.Author.Needs.{needs}
 use Prim.Native.Nat.{_-_}
-use Rattle.delay_queue.proofs.laws.Format.{FilledSo, fill-begun, fill-next, fill-end}
-use Rattle.delay_queue.proofs.fill.Statement.{statement}
-use Rattle.delay_queue.proofs.fill.Tie as tie
+use Rattle.records.proofs.laws.Format.{FilledSo, fill-begun, fill-next, fill-end}
+use Rattle.records.proofs.fill.Statement.{statement}
+use Rattle.records.proofs.fill.Tie as tie
 
 abbrev Inv-loop : tie.InvT-loop
 Inv-loop words₀ n x i₀ words i = FilledSo n x words₀ i words
