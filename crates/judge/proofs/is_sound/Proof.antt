@@ -12,7 +12,8 @@ is-sound-here-requires c κs = c .before .before .before .seen .ensures
 
 returns : tie.Need-returns
 returns c =
-    let lent = c .before .before .before .before .before in
+    let seen = c .before .before .before in
+    let lent = seen .before .before in
     subst (λ (s : QueueWords). Tells (Sound s) (c .is-sound-here .result)) (stacked-same (lent .tops-in .ensures)) (c .is-sound-here .ensures)
 
 pub is-sound-spec : {M : Type 1} → statement M

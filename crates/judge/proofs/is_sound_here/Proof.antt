@@ -65,7 +65,9 @@ list-start-requires : tie.Need-list-start-requires
 list-start-requires c κs =
     let h = c .before in
     let H = h .before .can-hold .ensures .yes (not-false _ (h .if6 .left)) in
-    let e = h .before .before .before .before .before in
+    let g = h .before .before in
+    let w = g .before .before in
+    let e = w .before in
     (H .below, omega (arith, H .due, to-start (e .before .before) .good))
 
 sub-records-agree : tie.Need-sub-records-agree
@@ -78,7 +80,9 @@ records-agree-requires-2 : tie.Need-records-agree-requires-2
 records-agree-requires-2 c κs =
     let h = c .before .before in
     let H = h .before .can-hold .ensures .yes (not-false _ (h .if6 .left)) in
-    let e = h .before .before .before .before .before in
+    let g = h .before .before in
+    let w = g .before .before in
+    let e = w .before in
     let R = e .before .has-room .ensures .yes (not-false _ (e .if2 .left)) in
     (omega (arith, H .below, c .before .level-of .ensures), R .deadlines, R .turns, R .links .marks)
 

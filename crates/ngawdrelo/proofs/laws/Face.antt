@@ -21,6 +21,7 @@ use Rattle.run.specs.Groups.{commandWords, answerWords, GroupIs}
 use Rattle.run.specs.Run.{RunClaim}
 use Rattle.run.proofs.laws.Once.{one-run}
 use Rattle.writing.specs.Writing.{Wrote}
+use Rattle.entries.specs.declared.Step.{Step}
 use Rattle.entries.specs.declared.Step.the-variants as S
 use Rattle.entries.specs.Entries.{stepBytes}
 use Rattle.entries.specs.Writing.{blank}
@@ -74,21 +75,21 @@ acts-close true e = closed e
 acts-close false e = not-open e
 
 module _ (n : ℕ) {m : ℕ} {w : List ℕ} {size : ℕ} {bytes : List ℕ} (a : Answer) (q : w ≡ answerWords (told a)) where
+  patched : {x : Step} (b : Bool) → ((s : QueueWords) → Acts (isSet n) s x a b s) → Wrote blank 0 (written x (told a)) size bytes → m ≡ flagWord n b
+      → Patches x n m w size bytes
+  patched {x} b A W f =
+      record {
+        acts = said a q (λ s. record { acts = subst (λ (p : Bool). Acts (isSet n) s x a p s) (sym (flag-says n b f)) (A s); writes = W });
+        word = flag-kept n b f;
+      }
+
   pub patch-opened : told a ≡ cond (isSet n) (T.no 13) T.ok → Wrote blank 0 (written S.Open (told a)) size bytes → m ≡ flagWord n true
       → Patches S.Open n m w size bytes
-  patch-opened e W f =
-      record {
-        acts = said a q (λ s. record { acts = subst (λ (b : Bool). Acts (isSet n) s S.Open a b s) (sym (flag-says n true f)) (acts-open (isSet n) e); writes = W });
-        word = flag-kept n true f;
-      }
+  patch-opened e = patched true (λ s. acts-open (isSet n) e)
 
   pub patch-closed : told a ≡ cond (not (isSet n)) (T.no 13) T.ok → Wrote blank 0 (written S.Close (told a)) size bytes → m ≡ flagWord n false
       → Patches S.Close n m w size bytes
-  patch-closed e W f =
-      record {
-        acts = said a q (λ s. record { acts = subst (λ (b : Bool). Acts (isSet n) s S.Close a b s) (sym (flag-says n false f)) (acts-close (isSet n) e); writes = W });
-        word = flag-kept n false f;
-      }
+  patch-closed e = patched false (λ s. acts-close (isSet n) e)
 
 -- ---- the gauge
 
