@@ -1,4 +1,4 @@
-/* Ngawdrelo: a delay queue for C and C++, version 0.14.0. It needs no heap, no clock, no thread, and of a C library memcpy, memmove
+/* Ngawdrelo: a delay queue for C and C++, version 0.14.1. It needs no heap, no clock, no thread, and of a C library memcpy, memmove
    and memset alone.
 
    Proved: what each function below answers and every word that it leaves, for any words in the memory that is lent to it and any numbers.
@@ -19,8 +19,8 @@
 extern "C" {
 #endif
 
-#define NGAWDRELO_VERSION "0.14.0"
-#define NGAWDRELO_VERSION_NUMBER 14000
+#define NGAWDRELO_VERSION "0.14.1"
+#define NGAWDRELO_VERSION_NUMBER 14001
 
 /* The most records that a store can have. */
 #define NGAWDRELO_MOST 65535
@@ -219,7 +219,7 @@ typedef enum ngw_light {
       const uint16_t *nexts, uint64_t nexts_length, const uint16_t *prevs, uint64_t prevs_length, const uint64_t *turns,                  \
       uint64_t turns_length, const uint16_t *marks, uint64_t marks_length
 
-/* The version as one number: 14000 is 0.14.0. */
+/* The version as one number: 14001 is 0.14.1. */
 uint64_t ngawdrelo_version(void);
 
 /* A fresh store of n records, each with the first turn `turn`. What the store was before does not matter. */

@@ -3,7 +3,7 @@
 use core::fmt;
 
 extern "C" {
-    /// The version as one number: 14000 is 0.14.0.
+    /// The version as one number: 14001 is 0.14.1.
     pub fn ngawdrelo_version(
     ) -> u64;
     /// A fresh store of n records, each with the first turn `turn`. What the store was before does not matter.

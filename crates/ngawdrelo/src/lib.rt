@@ -23,12 +23,12 @@ ghost use Rattle.words.specs.Words.{whyWord, endingWords, FlagKept, gaugeOf, No
 ghost use Rattle.words.specs.Words.{lightWords, lightValue, stateOf, stateWords};
 ghost use Rattle.ngawdrelo.specs.Face.{Says, Faced, Told, before, after, ActsOn, Patches};
 
-// The version as one number: 14000 is 0.14.0.
+// The version as one number: 14001 is 0.14.1.
 #[no_mangle]
 pub extern "C" fn ngawdrelo_version() -> u64
-    ensures { λ r. ⌜ r ≡ 14000 ⌝ }
+    ensures { λ r. ⌜ r ≡ 14001 ⌝ }
 {
-    14000
+    14001
 }
 
 // ---- the calls
