@@ -1,6 +1,5 @@
 // Answers to lines.
 ghost use Rattle.std.specs.Prelude.{◌≡◌, [], ◌∷◌, ◌+◌, ◌*◌, ◌≤◌, length, drop};
-ghost use Rattle.contracts.specs.Lent.{old, new};
 ghost use Rattle.decimals.specs.Text.{Decimal, Spaced};
 ghost use Rattle.answering.specs.Text.{put, PutClaim, WriteClaim, BadClaim};
 ghost use Rattle.answering.specs.Parts.{Before};
@@ -18,7 +17,7 @@ fn blank() -> [u8; 117]
 // Copies src into dst from at on.
 fn copy(dst: &mut [u8], at: usize, src: &[u8])
     requires { at + length src.now ≤ length dst.old }
-    ensures { new dst ≡ put (old dst) at (old src) }
+    ensures { dst.new ≡ put dst.old at src.now }
 {
     let mut i = 0;
     while i < src.len() {
@@ -31,7 +30,7 @@ fn copy(dst: &mut [u8], at: usize, src: &[u8])
 // has to be counted beforehand.
 fn decimal_before(buf: &mut [u8], end: usize, n: u64) -> usize
     requires { (20 ≤ end) × (end ≤ length buf.old) }
-    ensures { Before (λ l. Decimal l n) (old buf) end result (new buf) }
+    ensures { Before (λ l. Decimal l n) buf.old end result buf.new }
 {
     let mut i = end;
     let mut m = n;
@@ -48,7 +47,7 @@ fn decimal_before(buf: &mut [u8], end: usize, n: u64) -> usize
 // Writes numbers so that they end before end, each with a space in front, and says where they begin.
 fn numbers_before(buf: &mut [u8], end: usize, numbers: &[u64]) -> usize
     requires { (21 * length numbers.now ≤ end) × (end ≤ length buf.old) }
-    ensures { Before (λ l. Spaced l (old numbers)) (old buf) end result (new buf) }
+    ensures { Before (λ l. Spaced l numbers.now) buf.old end result buf.new }
 {
     let mut e = end;
     let mut i = numbers.len();
@@ -64,7 +63,7 @@ fn numbers_before(buf: &mut [u8], end: usize, numbers: &[u64]) -> usize
 // is known only once it is made, so it is made in a buffer of its own.
 fn write_ended(out: &mut [u8], at: usize, word: &[u8], numbers: &[u64], ending: &[u8]) -> usize
     requires { (length word.now ≤ 6) × (length numbers.now ≤ 5) × (length ending.now ≤ 5) }
-    ensures { PutClaim (old word) (old numbers) (old ending) (old out) at result (new out) }
+    ensures { PutClaim word.now numbers.now ending.now out.old at result out.new }
 {
     let mut buf = blank();
     let stop = 116 - ending.len();
@@ -86,14 +85,14 @@ fn write_ended(out: &mut [u8], at: usize, word: &[u8], numbers: &[u64], ending: 
 // The line of a word and numbers alone.
 fn write_line(out: &mut [u8], at: usize, word: &[u8], numbers: &[u64]) -> usize
     requires { (length word.now ≤ 6) × (length numbers.now ≤ 5) }
-    ensures { PutClaim (old word) (old numbers) [] (old out) at result (new out) }
+    ensures { PutClaim word.now numbers.now [] out.old at result out.new }
 {
     write_ended(out, at, word, numbers, &[])
 }
 
 // Writes the line of an answer into out from at on, and says where it ends: at at, with out unchanged, where there is no room.
 pub fn write_answer(out: &mut [u8], at: usize, a: Answer) -> usize
-    ensures { WriteClaim a (old out) at result (new out) }
+    ensures { WriteClaim a out.old at result out.new }
 {
     match a {
         Answer::Done => write_line(out, at, b"ok", &[]),
@@ -112,7 +111,7 @@ pub fn write_answer(out: &mut [u8], at: usize, a: Answer) -> usize
 
 // The same for the line `bad`.
 pub fn write_bad(out: &mut [u8], at: usize) -> usize
-    ensures { BadClaim (old out) at result (new out) }
+    ensures { BadClaim out.old at result out.new }
 {
     write_line(out, at, b"bad", &[])
 }

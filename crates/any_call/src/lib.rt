@@ -1,5 +1,5 @@
 // Any call of the queue, by one function.
-ghost use Rattle.records.specs.Store.{before, after};
+ghost use Rattle.records.specs.Words.{words};
 ghost use Rattle.delay_queue.specs.Claims.{CallClaim};
 
 use delay_queue::{Call, Reply};
@@ -18,9 +18,9 @@ pub fn ask(
 ) -> Reply
     ensures { CallClaim
         call
-        (before state heads values deadlines nexts prevs turns marks)
+        (words state heads values.old deadlines.old nexts.old prevs.old turns.old marks.old)
         result.answer
-        (after result.state result.heads.heads values deadlines nexts prevs turns marks) }
+        (words result.state result.heads.heads values.new deadlines.new nexts.new prevs.new turns.new marks.new) }
 {
     match call {
         Call::Format(n, turn) => delay_queue::format(

@@ -1,6 +1,5 @@
 // Lines to calls.
 ghost use Rattle.std.specs.Prelude.{◌≡◌, ◌∷◌};
-ghost use Rattle.contracts.specs.Lent.{old};
 ghost use Rattle.asking.specs.Text.{ReadClaim};
 ghost use Rattle.asking.specs.Parts.{Holds, in_front, call_of};
 
@@ -40,7 +39,7 @@ fn in_front(a: u64, rest: Fields) -> Fields
 
 // The one number behind a space. What stands behind another space belongs to it, so that it is no decimal then.
 fn one(s: &[u8]) -> Fields
-    ensures { Holds 1 (32 ∷ old s) result }
+    ensures { Holds 1 (32 ∷ s.now) result }
 {
     let x = decimals::number(s);
     match x {
@@ -51,7 +50,7 @@ fn one(s: &[u8]) -> Fields
 
 // The one or two numbers that begin behind a space.
 fn one_or_two(s: &[u8]) -> Fields
-    ensures { Holds 2 (32 ∷ old s) result }
+    ensures { Holds 2 (32 ∷ s.now) result }
 {
     let x = splitting::first_of(s);
     match x {
@@ -66,7 +65,7 @@ fn one_or_two(s: &[u8]) -> Fields
 
 // The one to three numbers that begin behind a space.
 fn one_to_three(s: &[u8]) -> Fields
-    ensures { Holds 3 (32 ∷ old s) result }
+    ensures { Holds 3 (32 ∷ s.now) result }
 {
     let x = splitting::first_of(s);
     match x {
@@ -81,7 +80,7 @@ fn one_to_three(s: &[u8]) -> Fields
 
 // The numbers that s is, each with one space in front.
 fn fields_in(s: &[u8]) -> Fields
-    ensures { Holds 3 (old s) result }
+    ensures { Holds 3 s.now result }
 {
     if s.len() == 0 {
         return Fields::None;
@@ -124,7 +123,7 @@ fn call_of(letter: u8, numbers: Fields) -> Line
 
 // What a line asks, which is handed over without its newline.
 pub fn read_line(line: &[u8]) -> Line
-    ensures { ReadClaim (old line) result }
+    ensures { ReadClaim line.now result }
 {
     if line.len() == 0 {
         return Line::Bad;

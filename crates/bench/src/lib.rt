@@ -1,8 +1,6 @@
 // One line of the bench: it is read, asked of the store, and answered with a line.
-ghost use Rattle.contracts.specs.Lent.{old, new};
 ghost use Rattle.contracts.specs.Tells.{Tells};
-ghost use Rattle.records.specs.Store.{before, after};
-ghost use Rattle.records.specs.Words.{lent, before as given, after as left, holding, Sound};
+ghost use Rattle.records.specs.Words.{words, parts, holding, Sound};
 ghost use Rattle.bench.specs.Line.{LineClaim};
 ghost use Rattle.bench.specs.Parts.{Heard, LineKnown};
 
@@ -21,7 +19,7 @@ pub struct LineDone {
 
 // What a line asks. The letter q, of a poll with a limit, is one of the bench's only where it knows limits.
 fn hear(limits: bool, line: &[u8]) -> Line
-    ensures { Heard limits (old line) result }
+    ensures { Heard limits line.now result }
 {
     let asked = read_line(line);
     if limits {
@@ -53,12 +51,12 @@ pub fn answer_line(
 ) -> LineDone
     ensures { LineClaim
         limits
-        (old line)
-        (before state heads.heads values deadlines nexts prevs turns marks)
-        (old out)
+        line.now
+        (words state heads.heads values.old deadlines.old nexts.old prevs.old turns.old marks.old)
+        out.old
         at
-        (after result.state result.heads.heads values deadlines nexts prevs turns marks)
-        (new out)
+        (words result.state result.heads.heads values.new deadlines.new nexts.new prevs.new turns.new marks.new)
+        out.new
         result.at }
 {
     let asked = hear(limits, line);
@@ -127,15 +125,15 @@ pub fn answer_known(
     at: usize,
 ) -> Found
     requires { Tells (Sound (holding hand until
-        (lent elapsed occupied tops heads values deadlines nexts prevs turns marks))) sound }
+        (parts elapsed occupied.old tops.old heads.old values.old deadlines.old nexts.old prevs.old turns.old marks.old))) sound }
     ensures { LineKnown
         limits
-        (old line)
-        (holding hand until (given elapsed occupied tops heads values deadlines nexts prevs turns marks))
-        (old out)
+        line.now
+        (holding hand until (parts elapsed occupied.old tops.old heads.old values.old deadlines.old nexts.old prevs.old turns.old marks.old))
+        out.old
         at
-        (holding result.hand result.until (left result.elapsed occupied tops heads values deadlines nexts prevs turns marks))
-        (new out)
+        (holding result.hand result.until (parts result.elapsed occupied.new tops.new heads.new values.new deadlines.new nexts.new prevs.new turns.new marks.new))
+        out.new
         result.at
         result.sound }
 {

@@ -1,7 +1,6 @@
 // The contents of a store's lists as one line: `# e=64 x=[2] 0.6=[0,1]` is elapsed, the expired stack, and LEVEL.SLOT with the
 // records in it, head first. What lies in the lists is tested here and not asked for, so a broken store has its line too.
 ghost use Rattle.std.specs.Prelude.{◌≤◌, length};
-ghost use Rattle.contracts.specs.Lent.{old};
 
 use pen::Pen;
 use wheel::Wheel;
@@ -85,7 +84,7 @@ pub fn write_lists(
     heads: [[u16; 64]; 6],
     nexts: &[u16],
 ) -> Pen
-    ensures { result.at ≤ length (old out) }
+    ensures { result.at ≤ length out.old }
 {
     let top = state.tops;
     let p = opening(out, pen, state.elapsed);

@@ -1,5 +1,4 @@
 // Decimals of the bench: the reading of one. What decimals and fields are stands in specs/, their laws in proofs/laws/.
-ghost use Rattle.contracts.specs.Lent.{old};
 ghost use Rattle.decimals.specs.Number.{NumberOf};
 
 // What bytes say as a decimal.
@@ -11,7 +10,7 @@ pub enum Num {
 
 // The number that s, from its first byte to its last, is the decimal of.
 pub fn number(s: &[u8]) -> Num
-    ensures { NumberOf (old s) result }
+    ensures { NumberOf s.now result }
 {
     if s.len() == 0 {
         return Num::Bad;

@@ -1,6 +1,7 @@
 // The delay queue: what users call. Whoever lends whatever gets an answer; an unsound store gets number 2 from every call but format.
+ghost use Rattle.records.specs.Words.{words};
 ghost use Rattle.std.specs.Prelude.{◌≡◌};
-ghost use Rattle.records.specs.Store.{before, after, wheel_of};
+ghost use Rattle.records.specs.Store.{wheel_of};
 ghost use Rattle.delay_queue.specs.Claims.{FormatClaim, InsertClaim, ResetClaim, RemoveClaim};
 ghost use Rattle.delay_queue.specs.Claims.{PollClaim, PollSomeClaim, WakeClaim, LengthClaim, ClearClaim};
 ghost use Rattle.delay_queue.specs.Free.{FreeNo};
@@ -124,7 +125,7 @@ fn free_no(
     turns: &[u64],
     marks: &[u16],
 ) -> u64
-    ensures { FreeNo (before state heads values deadlines nexts prevs turns marks) result }
+    ensures { FreeNo (words state heads values.now deadlines.now nexts.now prevs.now turns.now marks.now) result }
 {
     if !judge::is_sound(state, heads, values, deadlines, nexts, prevs, turns, marks) {
         return refusals::NOT_SOUND;
@@ -148,8 +149,8 @@ pub fn format(
     n: u64,
     turn: u64,
 ) -> Reply
-    ensures { FormatClaim (before state heads values deadlines nexts prevs turns marks)
-        n turn result.answer (after result.state result.heads.heads values deadlines nexts prevs turns marks) }
+    ensures { FormatClaim (words state heads values.old deadlines.old nexts.old prevs.old turns.old marks.old)
+        n turn result.answer (words result.state result.heads.heads values.new deadlines.new nexts.new prevs.new turns.new marks.new) }
 {
     let number = records::format_no(values, deadlines, nexts, prevs, turns, marks, n, turn);
     if number != 0 {
@@ -177,8 +178,8 @@ pub fn insert(
     when: u64,
     period: u64,
 ) -> Reply
-    ensures { InsertClaim (before state heads values deadlines nexts prevs turns marks)
-        value when period result.answer (after result.state result.heads.heads values deadlines nexts prevs turns marks) }
+    ensures { InsertClaim (words state heads values.old deadlines.old nexts.old prevs.old turns.now marks.old)
+        value when period result.answer (words result.state result.heads.heads values.new deadlines.new nexts.new prevs.new turns.now marks.new) }
 {
     let number = free_no(state, heads, values, deadlines, nexts, prevs, turns, marks);
     if number != 0 {
@@ -218,8 +219,8 @@ pub fn reset(
     key: u64,
     when: u64,
 ) -> Reply
-    ensures { ResetClaim (before state heads values deadlines nexts prevs turns marks)
-        key when result.answer (after result.state result.heads.heads values deadlines nexts prevs turns marks) }
+    ensures { ResetClaim (words state heads values.now deadlines.old nexts.old prevs.old turns.now marks.old)
+        key when result.answer (words result.state result.heads.heads values.now deadlines.new nexts.new prevs.new turns.now marks.new) }
 {
     let number = free_no(state, heads, values, deadlines, nexts, prevs, turns, marks);
     if number != 0 {
@@ -257,8 +258,8 @@ pub fn remove(
     marks: &mut [u16],
     key: u64,
 ) -> Reply
-    ensures { RemoveClaim (before state heads values deadlines nexts prevs turns marks)
-        key result.answer (after result.state result.heads.heads values deadlines nexts prevs turns marks) }
+    ensures { RemoveClaim (words state heads values.now deadlines.now nexts.old prevs.old turns.old marks.old)
+        key result.answer (words result.state result.heads.heads values.now deadlines.now nexts.new prevs.new turns.new marks.new) }
 {
     let number = free_no(state, heads, values, deadlines, nexts, prevs, turns, marks);
     if number != 0 {
@@ -297,8 +298,8 @@ pub fn poll_some(
     time: u64,
     limit: u64,
 ) -> Reply
-    ensures { PollSomeClaim (before state heads values deadlines nexts prevs turns marks)
-        time limit result.answer (after result.state result.heads.heads values deadlines nexts prevs turns marks) }
+    ensures { PollSomeClaim (words state heads values.now deadlines.old nexts.old prevs.old turns.old marks.old)
+        time limit result.answer (words result.state result.heads.heads values.now deadlines.new nexts.new prevs.new turns.new marks.new) }
 {
     if !judge::is_sound(state, heads, values, deadlines, nexts, prevs, turns, marks) {
         return refused(refusals::NOT_SOUND, state, heads);
@@ -341,8 +342,8 @@ pub fn poll(
     marks: &mut [u16],
     time: u64,
 ) -> Reply
-    ensures { PollClaim (before state heads values deadlines nexts prevs turns marks)
-        time result.answer (after result.state result.heads.heads values deadlines nexts prevs turns marks) }
+    ensures { PollClaim (words state heads values.now deadlines.old nexts.old prevs.old turns.old marks.old)
+        time result.answer (words result.state result.heads.heads values.now deadlines.new nexts.new prevs.new turns.new marks.new) }
 {
     poll_some(
         state,
@@ -370,7 +371,7 @@ pub fn next_wake(
     turns: &[u64],
     marks: &[u16],
 ) -> Answer
-    ensures { WakeClaim (before state heads values deadlines nexts prevs turns marks) result }
+    ensures { WakeClaim (words state heads values.now deadlines.now nexts.now prevs.now turns.now marks.now) result }
 {
     let number = free_no(state, heads, values, deadlines, nexts, prevs, turns, marks);
     if number != 0 {
@@ -398,7 +399,7 @@ pub fn length(
     turns: &[u64],
     marks: &[u16],
 ) -> Answer
-    ensures { LengthClaim (before state heads values deadlines nexts prevs turns marks) result }
+    ensures { LengthClaim (words state heads values.now deadlines.now nexts.now prevs.now turns.now marks.now) result }
 {
     if !judge::is_sound(state, heads, values, deadlines, nexts, prevs, turns, marks) {
         return Answer::No(refusals::NOT_SOUND);
@@ -419,8 +420,8 @@ pub fn clear(
     turns: &mut [u64],
     marks: &mut [u16],
 ) -> Reply
-    ensures { ClearClaim (before state heads values deadlines nexts prevs turns marks)
-        result.answer (after result.state result.heads.heads values deadlines nexts prevs turns marks) }
+    ensures { ClearClaim (words state heads values.now deadlines.now nexts.old prevs.old turns.old marks.old)
+        result.answer (words result.state result.heads.heads values.now deadlines.now nexts.new prevs.new turns.new marks.new) }
 {
     if !judge::is_sound(state, heads, values, deadlines, nexts, prevs, turns, marks) {
         return refused(refusals::NOT_SOUND, state, heads);

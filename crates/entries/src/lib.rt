@@ -1,6 +1,5 @@
 // Entries of the journal: the bytes of a step, and what bytes say.
 ghost use Rattle.std.specs.Prelude.{◌≡◌, [], ◌+◌, ◌≤◌, ◌<◌, length, drop};
-ghost use Rattle.contracts.specs.Lent.{old, new};
 ghost use Rattle.writing.specs.Writing.{Wrote, power};
 ghost use Rattle.entries.specs.Entries.{bytes_of, entry, insert_bytes, step_bytes};
 ghost use Rattle.entries.specs.Reading.{word_at, entry_in, bare, field_zeros, zeros, checked};
@@ -70,7 +69,7 @@ fn room() -> [u8; 36]
 // Writes the last n bytes of x into out from at on, the first of which is worth p, and says where they end.
 fn push_word(out: &mut [u8], at: usize, n: usize, p: u64, x: u64) -> usize
     requires { (at + n ≤ length out.old) × (p ≡ power 256 n) }
-    ensures { Wrote (old out) at (bytes_of n x) result (new out) }
+    ensures { Wrote out.old at (bytes_of n x) result out.new }
 {
     let mut a = at;
     let mut i = n;
@@ -87,7 +86,7 @@ fn push_word(out: &mut [u8], at: usize, n: usize, p: u64, x: u64) -> usize
 // The same for an entry.
 fn push_entry(out: &mut [u8], at: usize, kind: u8, a: u64, b: u64) -> usize
     requires { at + 18 ≤ length out.old }
-    ensures { Wrote (old out) at (entry kind a b) result (new out) }
+    ensures { Wrote out.old at (entry kind a b) result out.new }
 {
     let i = push_word(out, at, 2, 256, kind as u64 * 4096);
     let j = push_word(out, i, 8, 72057594037927936, a);
@@ -97,7 +96,7 @@ fn push_entry(out: &mut [u8], at: usize, kind: u8, a: u64, b: u64) -> usize
 // The same for the parts of a step, from the front on.
 fn push_parts(out: &mut [u8], parts: Parts) -> usize
     requires { 36 ≤ length out.old }
-    ensures { Wrote (old out) 0 (parts_bytes parts) result (new out) }
+    ensures { Wrote out.old 0 (parts_bytes parts) result out.new }
 {
     match parts {
         Parts::Nothing => 0,
@@ -161,7 +160,7 @@ pub fn bytes_of(step: Step) -> Bytes
 // The n bytes from at on, as a number.
 fn word(bytes: &[u8], at: usize, n: usize) -> u64
     requires { (at + n ≤ length bytes.now) × (n ≤ 8) }
-    ensures { result ≡ word_at n at (old bytes) }
+    ensures { result ≡ word_at n at bytes.now }
 {
     let mut acc: u64 = 0;
     let mut i: usize = 0;
@@ -175,7 +174,7 @@ fn word(bytes: &[u8], at: usize, n: usize) -> u64
 // The entry that begins at at.
 fn entry_at(bytes: &[u8], at: usize) -> Entry
     requires { at + 18 ≤ length bytes.now }
-    ensures { result ≡ entry_in (drop at (old bytes)) }
+    ensures { result ≡ entry_in (drop at bytes.now) }
 {
     let head = word(bytes, at, 2);
     let a = word(bytes, at + 2, 8);
@@ -251,7 +250,7 @@ fn pair(e: Entry, p: Entry) -> NextStep
 // The same where the entry behind it begins at at.
 fn repeats(e: Entry, bytes: &[u8], at: usize) -> NextStep
     requires { at ≤ length bytes.now }
-    ensures { result ≡ repeating e (drop at (old bytes)) }
+    ensures { result ≡ repeating e (drop at bytes.now) }
 {
     if bytes.len() - at < 18 {
         return NextStep::Ends(Ending::Cut);
@@ -264,7 +263,7 @@ fn repeats(e: Entry, bytes: &[u8], at: usize) -> NextStep
 // The step of an entry, behind which the next begins at at.
 fn step_of(e: Entry, bytes: &[u8], at: usize) -> NextStep
     requires { at ≤ length bytes.now }
-    ensures { result ≡ step_of e (drop at (old bytes)) }
+    ensures { result ≡ step_of e (drop at bytes.now) }
 {
     let kind = e.kind;
     match kind {
@@ -284,7 +283,7 @@ fn step_of(e: Entry, bytes: &[u8], at: usize) -> NextStep
 
 // What the bytes from at on begin with: a step, or why there is none. From behind the end on there is nothing, a cut.
 pub fn read_step(bytes: &[u8], at: usize) -> NextStep
-    ensures { result ≡ next (drop at (old bytes)) }
+    ensures { result ≡ next (drop at bytes.now) }
 {
     if bytes.len() < at {
         return NextStep::Ends(Ending::Cut);

@@ -1,9 +1,7 @@
 // The bench over what was read: the lines of a chunk are answered one after the other, as far as the output has room.
 ghost use Rattle.std.specs.Prelude.{◌+◌, ◌≤◌, ◌<◌};
-ghost use Rattle.contracts.specs.Lent.{old, new};
 ghost use Rattle.contracts.specs.Tells.{Tells};
-ghost use Rattle.records.specs.Store.{before, after};
-ghost use Rattle.records.specs.Words.{lent, before as given, after as left, holding, Sound};
+ghost use Rattle.records.specs.Words.{words, parts, holding, Sound};
 ghost use Rattle.feed.specs.Feed.{answer_room, stand, FeedClaim, LastClaim};
 ghost use Rattle.feed.specs.Parts.{NextLineKnown};
 
@@ -75,19 +73,19 @@ fn next_line(
     at: usize,
 ) -> FedParts
     requires { Tells (Sound (holding hand until
-        (lent elapsed occupied tops heads values deadlines nexts prevs turns marks))) sound }
+        (parts elapsed occupied.old tops.old heads.old values.old deadlines.old nexts.old prevs.old turns.old marks.old))) sound }
     ensures { NextLineKnown
         limits
-        (old got)
-        (stand from (old line) n (holding hand until
-        (given elapsed occupied tops heads values deadlines nexts prevs turns marks))
-        (old out) at)
+        got.now
+        (stand from line.old n (holding hand until
+        (parts elapsed occupied.old tops.old heads.old values.old deadlines.old nexts.old prevs.old turns.old marks.old))
+        out.old at)
         (stand
         result.next
-        (new line)
+        line.new
         result.kept
-        (holding result.hand result.until (left result.elapsed occupied tops heads values deadlines nexts prevs turns marks))
-        (new out)
+        (holding result.hand result.until (parts result.elapsed occupied.new tops.new heads.new values.new deadlines.new nexts.new prevs.new turns.new marks.new))
+        out.new
         result.at)
         result.sound }
 {
@@ -159,19 +157,19 @@ fn answer_parts(
     out: &mut [u8],
 ) -> FedParts
     requires { Tells (Sound (holding hand until
-        (lent elapsed occupied tops heads values deadlines nexts prevs turns marks))) sound }
+        (parts elapsed occupied.old tops.old heads.old values.old deadlines.old nexts.old prevs.old turns.old marks.old))) sound }
     ensures { FeedClaim
         limits
-        (old got)
-        (stand from (old line) n (holding hand until
-        (given elapsed occupied tops heads values deadlines nexts prevs turns marks))
-        (old out) 0)
+        got.now
+        (stand from line.old n (holding hand until
+        (parts elapsed occupied.old tops.old heads.old values.old deadlines.old nexts.old prevs.old turns.old marks.old))
+        out.old 0)
         (stand
         result.next
-        (new line)
+        line.new
         result.kept
-        (holding result.hand result.until (left result.elapsed occupied tops heads values deadlines nexts prevs turns marks))
-        (new out)
+        (holding result.hand result.until (parts result.elapsed occupied.new tops.new heads.new values.new deadlines.new nexts.new prevs.new turns.new marks.new))
+        out.new
         result.at) }
 {
     let mut i = from;
@@ -224,14 +222,14 @@ pub fn answer_lines(
 ) -> Fed
     ensures { FeedClaim
         limits
-        (old got)
-        (stand from (old line) n (before state heads.heads values deadlines nexts prevs turns marks) (old out) 0)
+        got.now
+        (stand from line.old n (words state heads.heads values.old deadlines.old nexts.old prevs.old turns.old marks.old) out.old 0)
         (stand
         result.next
-        (new line)
+        line.new
         result.kept
-        (after result.state result.heads.heads values deadlines nexts prevs turns marks)
-        (new out)
+        (words result.state result.heads.heads values.new deadlines.new nexts.new prevs.new turns.new marks.new)
+        out.new
         result.at) }
 {
     let mut here = delay_queue::heads_in(heads);
@@ -286,11 +284,11 @@ pub fn answer_last(
 ) -> LineDone
     ensures { LastClaim
         limits
-        (old line)
-        (before state heads.heads values deadlines nexts prevs turns marks)
-        (old out)
-        (after result.state result.heads.heads values deadlines nexts prevs turns marks)
-        (new out)
+        line.now
+        (words state heads.heads values.old deadlines.old nexts.old prevs.old turns.old marks.old)
+        out.old
+        (words result.state result.heads.heads values.new deadlines.new nexts.new prevs.new turns.new marks.new)
+        out.new
         result.at }
 {
     if line.len() == 0 {

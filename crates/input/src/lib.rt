@@ -1,7 +1,6 @@
 // Reads standard input, or a file from a place on, for every program that reads to the end. Which bytes come no contract can
 // say; but that they have ended only a read can tell, since no other crate can make a `Got`.
 ghost use Rattle.std.specs.Prelude.{◌≡◌, false, ◌<◌, ◌^◌};
-ghost use Rattle.contracts.specs.Lent.{old, new};
 ghost use Rattle.io.specs.Counts.{IsPrefixLen};
 
 use libc::STDIN_FILENO;
@@ -15,7 +14,7 @@ pub struct Got {
 
 // What a read into buf gave, by its answer.
 fn told(got: isize, buf: &[u8]) -> Got
-    ensures { IsPrefixLen result.bytes (old buf) × (0 < result.bytes → result.ended ≡ false) }
+    ensures { IsPrefixLen result.bytes buf.now × (0 < result.bytes → result.ended ≡ false) }
 {
     if got == 0 {
         return Got {
@@ -31,7 +30,7 @@ fn told(got: isize, buf: &[u8]) -> Got
 
 // Reads the next bytes of the input to the front of buf.
 pub fn more(buf: &mut [u8]) -> Got
-    ensures { IsPrefixLen result.bytes (new buf) × (0 < result.bytes → result.ended ≡ false) }
+    ensures { IsPrefixLen result.bytes buf.new × (0 < result.bytes → result.ended ≡ false) }
 {
     let got = libc::read(STDIN_FILENO, buf);
     told(got, buf)
@@ -39,7 +38,7 @@ pub fn more(buf: &mut [u8]) -> Got
 
 // Reads the bytes of the file from `at` on to the front of buf. No file has a byte from 2^63 on.
 pub fn more_from(fd: i32, at: usize, buf: &mut [u8]) -> Got
-    ensures { IsPrefixLen result.bytes (new buf) × (0 < result.bytes → result.ended ≡ false) × (0 < result.bytes → at < 2 ^ 63) }
+    ensures { IsPrefixLen result.bytes buf.new × (0 < result.bytes → result.ended ≡ false) × (0 < result.bytes → at < 2 ^ 63) }
 {
     if 9223372036854775807 < at {
         return Got {

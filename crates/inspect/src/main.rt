@@ -1,7 +1,6 @@
 // Checks another machine's log. Reads its lines, and when the input has ended writes `ok`, or `bad` and the number of
 // the first bad line.
 ghost use Rattle.std.specs.Prelude.{◌≡◌, [], length};
-ghost use Rattle.contracts.specs.Lent.{old, new};
 ghost use Rattle.lines.specs.Running.{Chunk, Closes, ProgramRan};
 ghost use Rattle.inspector.specs.Words.{words, Inspected};
 ghost use Rattle.inspect.specs.Text.{TextClaim, SaidClaim};
@@ -26,8 +25,8 @@ fn take_chunk(
     keys: &mut [u64],
     deadlines: &mut [u64],
 ) -> Found
-    ensures { Chunk Inspected (old got) 0 (old line) n (words state (old keys) (old deadlines))
-        (new line) result.kept (words result.state (new keys) (new deadlines)) }
+    ensures { Chunk Inspected got.now 0 line.old n (words state keys.old deadlines.old)
+        line.new result.kept (words result.state keys.new deadlines.new) }
 {
     let mut i: usize = 0;
     let mut k = n;
@@ -46,8 +45,8 @@ fn take_chunk(
 
 // The end: the last line, which may have no newline, if the input has ended and anything is kept of it.
 fn finish(got: Got, line: &[u8], state: State, keys: &mut [u64], deadlines: &mut [u64]) -> State
-    ensures { Closes Inspected (old line) (words state (old keys) (old deadlines)) got.ended
-        (words result (new keys) (new deadlines)) }
+    ensures { Closes Inspected line.now (words state keys.old deadlines.old) got.ended
+        (words result keys.new deadlines.new) }
 {
     if !input::at_end(got) {
         return state;
@@ -70,8 +69,8 @@ struct Outcome {
 // run comes there.
 fn read_all(line: &mut [u8], keys: &mut [u64], deadlines: &mut [u64]) -> Outcome
     requires { length line.old ≡ 81 }
-    ensures { ProgramRan Inspected 81 [] (words (State.Good 0 0 0) (old keys) (old deadlines)) result.bytes result.last.ended
-        (words result.state (new keys) (new deadlines)) }
+    ensures { ProgramRan Inspected 81 [] (words (State.Good 0 0 0) keys.old deadlines.old) result.bytes result.last.ended
+        (words result.state keys.new deadlines.new) }
 {
     let mut buf = io::buffer();
     let mut n: usize = 0;
@@ -103,7 +102,7 @@ fn read_all(line: &mut [u8], keys: &mut [u64], deadlines: &mut [u64]) -> Outcome
 // Writes `bad`, the number and a newline to the front of out, and says where they end: at 0, with out unchanged, where
 // there is no room.
 fn say_bad(out: &mut [u8], n: u64) -> usize
-    ensures { TextClaim (State.Bad n) (old out) result (new out) }
+    ensures { TextClaim (State.Bad n) out.old result out.new }
 {
     let mut digits = [0; 20];
     let k = io::decimal(n, &mut digits);
@@ -117,7 +116,7 @@ fn say_bad(out: &mut [u8], n: u64) -> usize
 
 // The same for what the lines have come to.
 fn text(out: &mut [u8], state: State) -> usize
-    ensures { TextClaim state (old out) result (new out) }
+    ensures { TextClaim state out.old result out.new }
 {
     let State::Bad(n) = state else {
         if out.len() < 3 {
@@ -130,7 +129,7 @@ fn text(out: &mut [u8], state: State) -> usize
 
 // The same for the whole run: where the input could not be read to its end, nothing is said of the log.
 fn said(out: &mut [u8], outcome: Outcome) -> usize
-    ensures { SaidClaim outcome.last.ended outcome.state (old out) result (new out) }
+    ensures { SaidClaim outcome.last.ended outcome.state out.old result out.new }
 {
     let last = outcome.last;
     if !input::at_end(last) {

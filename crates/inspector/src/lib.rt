@@ -2,7 +2,6 @@
 // pending.
 ghost use Rattle.std.specs.Prelude.{◌≡◌, ◌∷◌, ◌+◌, ◌-◌, ◌≤◌, ◌<◌, min, max, length, drop};
 ghost use Rattle.std.proofs.Math.Seq.{paste};
-ghost use Rattle.contracts.specs.Lent.{old, new};
 ghost use Rattle.contracts.specs.Tells.{Tells};
 ghost use Rattle.inspector.specs.Words.{counted, InspectClaim};
 ghost use Rattle.inspector.specs.Parts.{Second, Holds, entry_of, ReadClaim};
@@ -64,7 +63,7 @@ pub fn fresh() -> State
 // The number a, and behind it and a space either a number or a dash. What stands behind another space belongs to it, so
 // that it is neither then.
 fn second(a: u64, s: &[u8]) -> Fields
-    ensures { Second a (old s) result }
+    ensures { Second a s.now result }
 {
     if s.len() == 1 {
         if s[0] == b'-' {
@@ -80,7 +79,7 @@ fn second(a: u64, s: &[u8]) -> Fields
 
 // The fields that begin behind a space.
 fn fields_behind(s: &[u8]) -> Fields
-    ensures { Holds (32 ∷ old s) result }
+    ensures { Holds (32 ∷ s.now) result }
 {
     let x = splitting::first_of(s);
     match x {
@@ -92,7 +91,7 @@ fn fields_behind(s: &[u8]) -> Fields
 
 // The fields that s is, each with one space in front.
 fn fields_in(s: &[u8]) -> Fields
-    ensures { Holds (old s) result }
+    ensures { Holds s.now result }
 {
     if s.len() == 0 {
         return Fields::Bad;
@@ -128,7 +127,7 @@ fn entry_of(letter: u8, fields: Fields) -> Line
 
 // What a line says, which is handed over without its newline.
 fn read_line(line: &[u8]) -> Line
-    ensures { ReadClaim (old line) result }
+    ensures { ReadClaim line.now result }
 {
     if line.len() == 0 {
         return Line::Bad;
@@ -171,7 +170,7 @@ fn one_more(m: u64) -> u64
 // The first place of key among the first n, or n.
 fn place(keys: &[u64], n: usize, key: u64) -> usize
     requires { n ≤ length keys.now }
-    ensures { PlaceOf (old keys) n key result }
+    ensures { PlaceOf keys.now n key result }
 {
     let mut i = 0;
     while i < n {
@@ -186,7 +185,7 @@ fn place(keys: &[u64], n: usize, key: u64) -> usize
 // Whether each of the first n deadlines is past t.
 fn none_due(deadlines: &[u64], n: usize, t: u64) -> bool
     requires { n ≤ length deadlines.now }
-    ensures { Tells (NoneDue (old deadlines) n t) result }
+    ensures { Tells (NoneDue deadlines.now n t) result }
 {
     let mut i = 0;
     while i < n {
@@ -201,7 +200,7 @@ fn none_due(deadlines: &[u64], n: usize, t: u64) -> bool
 // Whether none of them is below d.
 fn none_before(deadlines: &[u64], n: usize, d: u64) -> bool
     requires { n ≤ length deadlines.now }
-    ensures { Tells (NoneBefore (old deadlines) n d) result }
+    ensures { Tells (NoneBefore deadlines.now n d) result }
 {
     if d == 0 {
         return true;
@@ -212,7 +211,7 @@ fn none_before(deadlines: &[u64], n: usize, d: u64) -> bool
 // Of the first n the one at i goes, and those behind it move up.
 fn close(words: &mut [u64], i: usize, n: usize)
     requires { (i < n) × (n ≤ length words.old) }
-    ensures { new words ≡ paste (old words) i (drop (i + 1) (old words)) (n - 1 - i) }
+    ensures { words.new ≡ paste words.old i (drop (i + 1) words.old) (n - 1 - i) }
 {
     let mut j = i;
     while j < n - 1 {
@@ -231,7 +230,7 @@ fn insert(
     when: u64,
 ) -> Taken
     requires { Within n room keys.old deadlines.old }
-    ensures { TakeClaim n room clock (old keys) (old deadlines) (Entry.Insert key when) result (new keys) (new deadlines) }
+    ensures { TakeClaim n room clock keys.old deadlines.old (Entry.Insert key when) result keys.new deadlines.new }
 {
     let i = place(keys, n, key);
     if i < n {
@@ -255,7 +254,7 @@ fn reset(
     when: u64,
 ) -> Taken
     requires { Within n room keys.now deadlines.old }
-    ensures { TakeClaim n room clock (old keys) (old deadlines) (Entry.Reset key when) result (new keys) (new deadlines) }
+    ensures { TakeClaim n room clock keys.now deadlines.old (Entry.Reset key when) result keys.now deadlines.new }
 {
     let i = place(keys, n, key);
     if n <= i {
@@ -274,7 +273,7 @@ fn remove(
     key: u64,
 ) -> Taken
     requires { Within n room keys.old deadlines.old }
-    ensures { TakeClaim n room clock (old keys) (old deadlines) (Entry.Remove key) result (new keys) (new deadlines) }
+    ensures { TakeClaim n room clock keys.old deadlines.old (Entry.Remove key) result keys.new deadlines.new }
 {
     let at = place(keys, n, key);
     if n <= at {
@@ -296,7 +295,7 @@ fn hand_out(
     key: u64,
 ) -> Taken
     requires { Within n room keys.old deadlines.old }
-    ensures { TakeClaim n room clock (old keys) (old deadlines) (Entry.Out time key) result (new keys) (new deadlines) }
+    ensures { TakeClaim n room clock keys.old deadlines.old (Entry.Out time key) result keys.new deadlines.new }
 {
     let i = place(keys, n, key);
     if n <= i {
@@ -317,7 +316,7 @@ fn hand_out(
 // A poll that handed out nothing.
 fn hand_none(n: usize, room: usize, clock: u64, keys: &[u64], deadlines: &[u64], time: u64) -> Taken
     requires { Within n room keys.now deadlines.now }
-    ensures { TakeClaim n room clock (old keys) (old deadlines) (Entry.Nothing time) result (new keys) (new deadlines) }
+    ensures { TakeClaim n room clock keys.now deadlines.now (Entry.Nothing time) result keys.now deadlines.now }
 {
     if !none_due(deadlines, n, time) {
         return Taken::Bad;
@@ -335,7 +334,7 @@ fn take(
     entry: Entry,
 ) -> Taken
     requires { Within n room keys.old deadlines.old }
-    ensures { TakeClaim n room clock (old keys) (old deadlines) entry result (new keys) (new deadlines) }
+    ensures { TakeClaim n room clock keys.old deadlines.old entry result keys.new deadlines.new }
 {
     match entry {
         Entry::Insert(key, when) => insert(n, room, clock, keys, deadlines, key, when),
@@ -349,7 +348,7 @@ fn take(
 // One line more, which is handed over without its newline. Keys and deadlines, of 1,024 words or more each, are the
 // inspector's own: they are lent from line to line, and what they hold before the first is no matter.
 pub fn inspect_line(state: State, keys: &mut [u64], deadlines: &mut [u64], line: &[u8]) -> State
-    ensures { InspectClaim state (old keys) (old deadlines) (old line) result (new keys) (new deadlines) }
+    ensures { InspectClaim state keys.old deadlines.old line.now result keys.new deadlines.new }
 {
     let State::Good(count, clock, lines) = state else {
         return state;

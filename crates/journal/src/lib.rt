@@ -1,10 +1,10 @@
 // A store with its journal: a step acts, and leaves the bytes to be written before its answer is given.
+ghost use Rattle.records.specs.Words.{words};
 ghost use Rattle.std.specs.Prelude.{◌≡◌, cond};
 ghost use Rattle.queue.specs.Told.{told};
 ghost use Rattle.queue.specs.Told as T;
 ghost use Rattle.writing.specs.Writing.{Wrote};
 ghost use Rattle.entries.specs.Writing.{blank};
-ghost use Rattle.records.specs.Store.{before, after};
 ghost use Rattle.journal.specs.Journal.{unwritten, written, ActClaim};
 
 use delay_queue::Heads;
@@ -81,8 +81,8 @@ pub fn act(
     marks: &mut [u16],
     step: Step,
 ) -> Acted
-    ensures { ActClaim patch (before state heads values deadlines nexts prevs turns marks) step
-        result.answer result.patch (after result.state result.heads.heads values deadlines nexts prevs turns marks)
+    ensures { ActClaim patch (words state heads values.old deadlines.old nexts.old prevs.old turns.old marks.old) step
+        result.answer result.patch (words result.state result.heads.heads values.new deadlines.new nexts.new prevs.new turns.new marks.new)
         result.size result.bytes }
 {
     match step {

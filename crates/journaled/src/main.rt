@@ -4,10 +4,9 @@
 // written to FILE and synced, one sync for all of them, and only then are their answers given; where that fails, none
 // is, and the program ends. Which answers these are, and that the journal has grown by what the lines write to it, is
 // claimed; not what is written.
+ghost use Rattle.records.specs.Words.{words};
 ghost use Rattle.std.specs.Prelude.{◌≡◌, true, [], ◌+◌, ◌≤◌, ◌<◌, length, take};
-ghost use Rattle.contracts.specs.Lent.{old, new};
 ghost use Rattle.contracts.specs.Tells.{Tells};
-ghost use Rattle.records.specs.Store.{before, after};
 ghost use Rattle.lines.specs.Running.{Passes, Closes, ProgramRan};
 ghost use Rattle.noting.specs.Replies.{held, LineAnswered};
 
@@ -79,18 +78,18 @@ fn answer(
     ensures passes { result.fine ≡ true →
         Passes
         LineAnswered
-        (length (old line))
-        (take run.kept (old line))
-        (old got)
+        (length line.old)
+        (take run.kept line.old)
+        got.now
         (held
         run.patch
-        (before run.state run.heads.heads values deadlines nexts prevs turns marks)
+        (words run.state run.heads.heads values.old deadlines.old nexts.old prevs.old turns.old marks.old)
         run.file.length)
-        (take result.kept (new line))
+        (take result.kept line.new)
         []
         (held
         result.patch
-        (after result.state result.heads.heads values deadlines nexts prevs turns marks)
+        (words result.state result.heads.heads values.new deadlines.new nexts.new prevs.new turns.new marks.new)
         result.file.length) }
 {
     let mut n = run.kept;
@@ -144,15 +143,15 @@ fn finish(
     ensures { result.fine ≡ true →
         Closes
         LineAnswered
-        (take run.kept (old line))
+        (take run.kept line.now)
         (held
         run.patch
-        (before run.state run.heads.heads values deadlines nexts prevs turns marks)
+        (words run.state run.heads.heads values.old deadlines.old nexts.old prevs.old turns.old marks.old)
         run.file.length)
         got.ended
         (held
         result.patch
-        (after result.state result.heads.heads values deadlines nexts prevs turns marks)
+        (words result.state result.heads.heads values.new deadlines.new nexts.new prevs.new turns.new marks.new)
         result.file.length) }
 {
     if !input::at_end(got) {
@@ -248,17 +247,17 @@ fn serve(
     ensures { result.fine ≡ true →
         ProgramRan
         LineAnswered
-        (length (old line))
-        (take start.kept (old line))
+        (length line.old)
+        (take start.kept line.old)
         (held
         start.patch
-        (before start.state start.heads.heads values deadlines nexts prevs turns marks)
+        (words start.state start.heads.heads values.old deadlines.old nexts.old prevs.old turns.old marks.old)
         start.file.length)
         result.bytes
         result.last.ended
         (held
         result.patch
-        (after result.state result.heads.heads values deadlines nexts prevs turns marks)
+        (words result.state result.heads.heads values.new deadlines.new nexts.new prevs.new turns.new marks.new)
         result.file.length) }
 {
     let mut buf = io::buffer();

@@ -1,9 +1,7 @@
 // Whether a store is sound: what every call but format judges first.
 ghost use Rattle.std.specs.Prelude.{◌≤◌, ◌<◌, length};
-ghost use Rattle.contracts.specs.Lent.{old};
 ghost use Rattle.contracts.specs.Tells.{Tells};
-ghost use Rattle.records.specs.Words.{Sound, before as given, holding};
-ghost use Rattle.records.specs.Store.{before};
+ghost use Rattle.records.specs.Words.{words, parts, Sound, holding};
 ghost use Rattle.places.specs.Words.{tops_of};
 ghost use Rattle.links.specs.Links.{at};
 ghost use Rattle.places.specs.Heads.{head_of};
@@ -86,7 +84,7 @@ fn records_agree(
     marks: &[u16],
 ) -> bool
     requires { (low < 6) × (n ≤ length deadlines.now) × (n ≤ length turns.now) × (n ≤ length marks.now) }
-    ensures { Tells (RecordsAgree low hand clock n (old deadlines) (old turns) (old marks)) result }
+    ensures { Tells (RecordsAgree low hand clock n deadlines.now turns.now marks.now) result }
 {
     let mut i = 0u16;
     while i < n {
@@ -120,8 +118,8 @@ fn is_own(elapsed: u64, level: usize, parked: u16) -> bool
 
 // Whether a poll at `until` can have the drain of `hand` in hand, but for the records.
 fn can_hold(elapsed: u64, tops: &[u16; 4], heads: &[[u16; 64]; 6], hand: u16, until: u64) -> bool
-    ensures { Tells (CanHold elapsed until hand (head_of (tops_of (old tops)) (old heads) hand)
-        (head_of (tops_of (old tops)) (old heads) expired) (head_of (tops_of (old tops)) (old heads) parking)) result }
+    ensures { Tells (CanHold elapsed until hand (head_of (tops_of tops.now) heads.now hand)
+        (head_of (tops_of tops.now) heads.now expired) (head_of (tops_of tops.now) heads.now parking)) result }
 {
     if places::EXPIRED <= hand {
         return false;
@@ -167,7 +165,7 @@ pub fn is_sound_here(
     until: u64,
 ) -> bool
     requires { Typed (at tops.now 0) occupied.now heads.now }
-    ensures { Tells (Sound (holding hand until (given elapsed occupied tops heads values deadlines nexts prevs turns marks)))
+    ensures { Tells (Sound (holding hand until (parts elapsed occupied.now tops.now heads.now values.now deadlines.now nexts.now prevs.now turns.now marks.now)))
         result }
 {
     // no u16 is over the limit
@@ -211,7 +209,7 @@ pub fn is_sound(
     turns: &[u64],
     marks: &[u16],
 ) -> bool
-    ensures { Tells (Sound (before state heads values deadlines nexts prevs turns marks)) result }
+    ensures { Tells (Sound (words state heads values.now deadlines.now nexts.now prevs.now turns.now marks.now)) result }
 {
     let occupied = state.occupied;
     let tops = places::tops_in(state.tops);

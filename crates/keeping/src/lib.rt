@@ -3,7 +3,6 @@
 // kept only a sync can tell, since no other crate can make a `Synced`, and without one that goes far enough there is no
 // answer.
 ghost use Rattle.std.specs.Prelude.{◌+◌, ◌≤◌, length};
-ghost use Rattle.contracts.specs.Lent.{old};
 ghost use Rattle.keeping.specs.Keeping.{KeepsFile};
 
 use libc::STDOUT_FILENO;
@@ -70,7 +69,7 @@ fn write_at(file: i32, at: u64, bytes: &[u8]) -> bool
 
 // The bytes are written behind what is kept, and synced; where there are none neither is done.
 pub fn keep(kept: Synced, bytes: &[u8]) -> Keeping
-    ensures { KeepsFile kept.length (length (old bytes)) result.fine result.kept.length }
+    ensures { KeepsFile kept.length (length bytes.now) result.fine result.kept.length }
 {
     let n = bytes.len() as u64;
     if n == 0 {

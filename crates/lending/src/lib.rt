@@ -1,5 +1,5 @@
 // How a claim is cited: code that lends a store, with a contract of its own that follows from the claims of the calls it makes.
-ghost use Rattle.records.specs.Store.{before, after};
+ghost use Rattle.records.specs.Words.{words};
 ghost use Rattle.lending.specs.Lending.{CancelsTwice};
 
 use delay_queue::{Reply, remove};
@@ -18,10 +18,10 @@ pub fn cancel_twice(
     key: u64,
 ) -> Reply
     ensures { CancelsTwice
-        (before state heads values deadlines nexts prevs turns marks)
+        (words state heads values.now deadlines.now nexts.old prevs.old turns.old marks.old)
         key
         result.answer
-        (after result.state result.heads.heads values deadlines nexts prevs turns marks) }
+        (words result.state result.heads.heads values.now deadlines.now nexts.new prevs.new turns.new marks.new) }
 {
     let first = remove(
         state, heads, values, deadlines, nexts, prevs, turns, marks, key,

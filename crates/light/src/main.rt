@@ -1,7 +1,6 @@
 // How late are we running? Reads decimals, one a line: the slow limit, the late limit, and latenesses. When the input has
 // ended it writes the light's word and the bits of smoothed and worst, or `bad`.
 ghost use Rattle.std.specs.Prelude.{◌≡◌, cond, [], ◌++◌, ◌+◌, ◌≤◌, ◌<◌, length};
-ghost use Rattle.contracts.specs.Lent.{old, new};
 ghost use Rattle.decimals.specs.Text.{bytes};
 ghost use Rattle.lines.specs.Running.{Chunk, Closes, ProgramRan};
 ghost use Rattle.light.specs.Light.{word_of, digit_of, hex_of, line_of};
@@ -34,7 +33,7 @@ struct Found {
 
 // A decimal as on the bench, at most 4,294,967,295.
 fn amount(line: &[u8]) -> Num
-    ensures { AmountOf (old line) result }
+    ensures { AmountOf line.now result }
 {
     let x = decimals::number(line);
     let Num::Is(n) = x else {
@@ -48,7 +47,7 @@ fn amount(line: &[u8]) -> Num
 
 // One line more.
 fn step(line: &[u8], state: State) -> State
-    ensures { Stepped (old line) state result }
+    ensures { Stepped line.now state result }
 {
     let x = amount(line);
     let Num::Is(n) = x else {
@@ -64,7 +63,7 @@ fn step(line: &[u8], state: State) -> State
 
 // Takes each line that ends in what was read, and keeps what is left.
 fn take_chunk(got: &[u8], line: &mut [u8], n: usize, state: State) -> Found
-    ensures { Chunk Stepped (old got) 0 (old line) n state (new line) result.kept result.state }
+    ensures { Chunk Stepped got.now 0 line.old n state line.new result.kept result.state }
 {
     let mut i: usize = 0;
     let mut k = n;
@@ -95,7 +94,7 @@ fn digit(d: u64) -> u8
 // Writes the 16 hex digits of n into out from at on, and says where they end.
 fn push_hex(out: &mut [u8], at: usize, n: u64) -> usize
     requires { at + 16 ≤ length out.old }
-    ensures { Wrote (old out) at (hex_of 16 n) result (new out) }
+    ensures { Wrote out.old at (hex_of 16 n) result out.new }
 {
     let mut a = at;
     let mut i: usize = 16;
@@ -112,7 +111,7 @@ fn push_hex(out: &mut [u8], at: usize, n: u64) -> usize
 // The same for the light's word, at the front.
 fn push_word(out: &mut [u8], light: Light) -> usize
     requires { 5 ≤ length out.old }
-    ensures { Wrote (old out) 0 (word_of light ++ bytes " ") result (new out) }
+    ensures { Wrote out.old 0 (word_of light ++ bytes " ") result out.new }
 {
     match light {
         Light::Calm => writing::push(out, 0, b"calm "),
@@ -124,7 +123,7 @@ fn push_word(out: &mut [u8], light: Light) -> usize
 // The same for the line of a light.
 fn push_light(out: &mut [u8], light: Light, smoothed: u64, worst: u64) -> usize
     requires { 39 ≤ length out.old }
-    ensures { Wrote (old out) 0 (line_of light smoothed worst) result (new out) }
+    ensures { Wrote out.old 0 (line_of light smoothed worst) result out.new }
 {
     let a = push_word(out, light);
     let b = push_hex(out, a, smoothed);
@@ -136,7 +135,7 @@ fn push_light(out: &mut [u8], light: Light, smoothed: u64, worst: u64) -> usize
 // Writes what the program says of all lines to the front of out, and says where it ends: at 0, with out unchanged, where
 // there is no room.
 fn text(out: &mut [u8], state: State) -> usize
-    ensures { TextClaim state (old out) result (new out) }
+    ensures { TextClaim state out.old result out.new }
 {
     let State::Both(slow, late, g) = state else {
         return answering::write_bad(out, 0);
@@ -165,7 +164,7 @@ fn line_space() -> [u8; 81]
 
 // The end: the last line, which may have no newline, if the input has ended and anything is kept of it.
 fn finish(got: Got, line: &[u8], state: State) -> State
-    ensures { Closes Stepped (old line) state got.ended result }
+    ensures { Closes Stepped line.now state got.ended result }
 {
     if !input::at_end(got) {
         return state;

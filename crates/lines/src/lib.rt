@@ -2,7 +2,6 @@
 // ended stands at its front, and of a longer line no more than it holds. So a line that fills it is too long for one
 // byte less.
 ghost use Rattle.std.specs.Prelude.{◌≡◌, min};
-ghost use Rattle.contracts.specs.Lent.{old, new};
 ghost use Rattle.lines.specs.Taking.{TakeClaim};
 
 // Where to go on in the chunk, how many bytes of the line are kept now, and whether the line has ended with them.
@@ -25,7 +24,7 @@ fn least(a: usize, b: usize) -> usize
 // Takes the bytes of one line out of the chunk, from `from` on, and keeps them behind the n that are kept: to the
 // newline, which is passed and not kept, or to the chunk's end.
 pub fn take_line(got: &[u8], from: usize, line: &mut [u8], n: usize) -> Taken
-    ensures { TakeClaim (old got) from (old line) n result.next result.kept result.ended (new line) }
+    ensures { TakeClaim got.now from line.old n result.next result.kept result.ended line.new }
 {
     let mut i = from;
     let mut k = least(n, line.len());

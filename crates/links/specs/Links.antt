@@ -2,7 +2,6 @@
 use Rattle.std.specs.Prelude.{◌≢◌, List, cond, ℕ, ◌≤◌, ◌<◌, length, get_or, set, eqb}
 use Rattle.links.specs.Lists.{nobody}
 use Rattle.links.specs.Family.{Net, tail_or, head_left, link_past, back_past}
-use Rattle.contracts.specs.Lent.{Lent, Returned, old, new}
 
 pub record Links : Type 0 where
   pub nexts : List ℕ
@@ -11,17 +10,6 @@ pub record Links : Type 0 where
 
 abbrev pub links : List ℕ → List ℕ → List ℕ → Links
 links ns ps ms = record { nexts = ns; prevs = ps; marks = ms }
-
--- as the functions have them: in a `requires`, and in an `ensures` at the call and at the return
-abbrev pub lent : (nexts prevs marks : Lent (List ℕ)) → Links
-lent nexts prevs marks = links nexts.now prevs.now marks.now
-
-module _ (nexts prevs marks : Returned (List ℕ)) where
-  abbrev pub before : Links
-  before = links (old nexts) (old prevs) (old marks)
-
-  abbrev pub after : Links
-  after = links (new nexts) (new prevs) (new marks)
 
 -- what stands at an index
 abbrev pub at : List ℕ → ℕ → ℕ

@@ -1,9 +1,8 @@
 // The links of the records: doubly linked lists of record numbers in lent slices. The heads are the caller's. A list keeps its tail in
 // its head's back link, so that a list of one names itself there.
 ghost use Rattle.std.specs.Prelude.{◌≡◌, cond, ◌<◌, length, set, eqb};
-ghost use Rattle.contracts.specs.Lent.{old, new};
 ghost use Rattle.links.specs.Family.{tail_or};
-ghost use Rattle.links.specs.Links.{lent, before, after, at, set_n, between, joined, added, head_with, cut_out, head_after};
+ghost use Rattle.links.specs.Links.{links, at, set_n, between, joined, added, head_with, cut_out, head_after};
 ghost use Rattle.links.specs.Links.{Room, Inside, CanJoin, CanCut};
 ghost use Rattle.links.specs.Judge.{walk_of, bare, loose_of};
 
@@ -20,7 +19,7 @@ pub enum Walk {
 // v at k, unless k is nobody.
 fn put(l: &mut [u16], k: u16, v: u16)
     requires { Inside k l.old }
-    ensures { new l ≡ set_n (old l) k v }
+    ensures { l.new ≡ set_n l.old k v }
 {
     if k != NOBODY {
         l[k as usize] = v;
@@ -30,7 +29,7 @@ fn put(l: &mut [u16], k: u16, v: u16)
 // The tail of the list whose first is `head`. An empty one has none: `none`.
 fn tail_or(none: u16, prevs: &[u16], head: u16) -> u16
     requires { Inside head prevs.now }
-    ensures { result ≡ tail_or none (at (old prevs)) head }
+    ensures { result ≡ tail_or none (at prevs.now) head }
 {
     if head == NOBODY {
         return none;
@@ -51,8 +50,8 @@ fn choose(k: u16, j: u16, one: u16, other: u16) -> u16
 // The loose record `item` comes between the tail and `head`, the first of `place`, and is marked.
 fn enter(prevs: &mut [u16], marks: &mut [u16], place: u16, item: u16, head: u16)
     requires { (item < length prevs.old) × (item < length marks.old) × Inside head prevs.old }
-    ensures prevs_value { new prevs ≡ between (old prevs) item head }
-    ensures marks_value { new marks ≡ set (old marks) item place }
+    ensures prevs_value { prevs.new ≡ between prevs.old item head }
+    ensures marks_value { marks.new ≡ set marks.old item place }
 {
     let tail = tail_or(item, prevs, head);
     prevs[item as usize] = tail;
@@ -69,8 +68,8 @@ pub fn join(
     item: u16,
     head: u16,
 )
-    requires { CanJoin (lent nexts prevs marks) item head }
-    ensures { after nexts prevs marks ≡ joined (before nexts prevs marks) place item head }
+    requires { CanJoin (links nexts.old prevs.old marks.old) item head }
+    ensures { links nexts.new prevs.new marks.new ≡ joined (links nexts.old prevs.old marks.old) place item head }
 {
     nexts[item as usize] = head;
     enter(prevs, marks, place, item, head);
@@ -86,9 +85,9 @@ pub fn add(
     item: u16,
     head: u16,
 ) -> u16
-    requires { CanJoin (lent nexts prevs marks) item head }
+    requires { CanJoin (links nexts.old prevs.old marks.old) item head }
     ensures value { result ≡ head_with item head }
-    ensures marks_value { after nexts prevs marks ≡ added (before nexts prevs marks) place item head }
+    ensures marks_value { links nexts.new prevs.new marks.new ≡ added (links nexts.old prevs.old marks.old) place item head }
 {
     put(nexts, tail_or(NOBODY, prevs, head), item);
     enter(prevs, marks, place, item, head);
@@ -98,9 +97,9 @@ pub fn add(
 // The record `item` leaves its list, whose first is `head`, and is loose. The head that the list has then: the caller keeps it.
 // The link of the tail stays where the head leaves, and the head's back link follows where the tail leaves.
 pub fn cut(nexts: &mut [u16], prevs: &mut [u16], marks: &mut [u16], item: u16, head: u16) -> u16
-    requires { CanCut (lent nexts prevs marks) item head }
-    ensures value { result ≡ head_after (before nexts prevs marks) item head }
-    ensures marks_value { after nexts prevs marks ≡ cut_out (before nexts prevs marks) item head }
+    requires { CanCut (links nexts.old prevs.old marks.old) item head }
+    ensures value { result ≡ head_after (links nexts.old prevs.old marks.old) item head }
+    ensures marks_value { links nexts.new prevs.new marks.new ≡ cut_out (links nexts.old prevs.old marks.old) item head }
 {
     let prev = prevs[item as usize];
     let next = nexts[item as usize];
@@ -124,8 +123,8 @@ pub fn walk_list(
     head: u16,
     room: u16,
 ) -> Walk
-    requires { Room n (lent nexts prevs marks) }
-    ensures { result ≡ walk_of (before nexts prevs marks) n place room head }
+    requires { Room n (links nexts.now prevs.now marks.now) }
+    ensures { result ≡ walk_of (links nexts.now prevs.now marks.now) n place room head }
 {
     if head == NOBODY {
         return Walk::Left(room);
@@ -176,8 +175,8 @@ fn is_loose(places: u16, next: u16, prev: u16, mark: u16) -> bool
 
 // How many of n records are loose.
 pub fn count_loose(nexts: &[u16], prevs: &[u16], marks: &[u16], n: u16, places: u16) -> u16
-    requires { Room n (lent nexts prevs marks) }
-    ensures { result ≡ loose_of places (before nexts prevs marks) n }
+    requires { Room n (links nexts.now prevs.now marks.now) }
+    ensures { result ≡ loose_of places (links nexts.now prevs.now marks.now) n }
 {
     let mut count = 0u16;
     let mut i = 0u16;

@@ -1,7 +1,6 @@
 // A store as text: its free and retired records in runs, the lists where timers wait, and every record. What lies in the
 // lists is tested here and not asked for, so a broken store has its text too.
 ghost use Rattle.std.specs.Prelude.{◌≤◌, ◌<◌, length};
-ghost use Rattle.contracts.specs.Lent.{old};
 
 use pen::Pen;
 use places::Tops;
@@ -304,7 +303,7 @@ fn records(
     n: u16,
 ) -> Pen
     requires { 0 < n }
-    ensures { result.at ≤ length (old out) }
+    ensures { result.at ≤ length out.old }
 {
     let mut p = pen;
     let mut first: u16 = 0;
@@ -355,7 +354,7 @@ pub fn write_store(
     turns: &[u64],
     marks: &[u16],
 ) -> Pen
-    ensures { result.at ≤ length (old out) }
+    ensures { result.at ≤ length out.old }
 {
     let top = state.tops;
     let n = top.n;

@@ -1,6 +1,5 @@
 -- The words of a store as C keeps them, and what a call says over them.
 use Rattle.std.specs.Prelude.{◌≡◌, Bool, List, [], ◌∷◌, ℕ}
-use Rattle.contracts.specs.Lent.{Returned, old, new}
 use Rattle.queue.specs.declared.Answer.{Answer}
 use Rattle.queue.specs.Told.{told}
 use Rattle.records.specs.Words.{QueueWords, parts, holding}
@@ -31,20 +30,10 @@ Told C w = Says (λ (a : Answer). answer_words (told a)) w C
 abbrev pub Faced : (Answer → QueueWords → Type 0) → List ℕ → QueueWords → Type 0
 Faced C w s' = Told (λ (a : Answer). C a s') w
 
--- a store at the call, and at the return
-module _ (elapsed : Returned ℕ) (occupied tops : Returned (List ℕ)) (hand until : Returned ℕ) (heads : Returned (List (List ℕ)))
-    (values deadlines nexts prevs turns marks : Returned (List ℕ)) where
-  abbrev pub before : QueueWords
-  before =
-      holding (old hand) (old until)
-      (parts (old elapsed) (old occupied) (old tops) (old heads) (old values) (old deadlines) (old nexts) (old prevs) (old turns)
-      (old marks))
-
-  abbrev pub after : QueueWords
-  after =
-      holding (new hand) (new until)
-      (parts (new elapsed) (new occupied) (new tops) (new heads) (new values) (new deadlines) (new nexts) (new prevs) (new turns)
-      (new marks))
+-- a store, by the words that C keeps
+module _ (elapsed : ℕ) (occupied tops : List ℕ) (hand until : ℕ) (heads : List (List ℕ)) (values deadlines nexts prevs turns marks : List ℕ) where
+  abbrev pub store_of : QueueWords
+  store_of = holding hand until (parts elapsed occupied tops heads values deadlines nexts prevs turns marks)
 
 -- ---- the journal
 

@@ -2,9 +2,8 @@
 // the heads of three lists, the poll in hand and its time, the heads of the slots, and six slices, each a pointer and a length. Where n is 0
 // there is no store, so memory that is all 0 holds none. An answer is six words: a kind, and numbers.
 ghost use Rattle.std.specs.Prelude.{◌≡◌, ◌∷◌, []};
-ghost use Rattle.contracts.specs.Lent.{old, new};
 ghost use Rattle.contracts.specs.Tells.{Tells};
-ghost use Rattle.records.specs.Words.{Sound, before as given, holding};
+ghost use Rattle.records.specs.Words.{parts, Sound, holding};
 ghost use Rattle.delay_queue.specs.Claims.{FormatClaim, InsertClaim, ResetClaim, RemoveClaim, PollClaim, PollSomeClaim};
 ghost use Rattle.delay_queue.specs.Claims.{WakeClaim, LengthClaim, ClearClaim, CallClaim};
 ghost use Rattle.run.specs.Run.{RunClaim};
@@ -14,7 +13,7 @@ ghost use Rattle.tick.specs.Claims.{ReadClaim, TickPollClaim, TickSomeClaim};
 ghost use Rattle.inspector.specs.Words.{InspectClaim};
 ghost use Rattle.words.specs.Words.{why_word, ending_words, FlagKept, gauge_of, NoteClaim};
 ghost use Rattle.words.specs.Words.{light_words, light_value, state_of, state_words};
-ghost use Rattle.ngawdrelo.specs.Face.{Says, Faced, Told, before, after, ActsOn, Patches};
+ghost use Rattle.ngawdrelo.specs.Face.{store_of, Says, Faced, Told, ActsOn, Patches};
 
 use delay_queue::Call;
 use entries::Step;
@@ -48,7 +47,7 @@ fn judged(
     turns: &[u64],
     marks: &[u16],
 ) -> bool
-    ensures { Tells (Sound (holding hand until (given elapsed occupied tops heads values deadlines nexts prevs turns marks)))
+    ensures { Tells (Sound (holding hand until (parts elapsed occupied.now tops.now heads.now values.now deadlines.now nexts.now prevs.now turns.now marks.now)))
         result }
 {
     judge::seen(places::count_of(tops), *occupied, *heads);
@@ -74,8 +73,8 @@ fn ask(
     call: Call,
     answer: &mut [u64; 6],
 )
-    ensures { Faced (CallClaim call (before elapsed occupied tops hand until heads values deadlines nexts prevs turns marks))
-        (new answer) (after elapsed occupied tops hand until heads values deadlines nexts prevs turns marks) }
+    ensures { Faced (CallClaim call (store_of elapsed.old occupied.old tops.old hand.old until.old heads.old values.old deadlines.old nexts.old prevs.old turns.old marks.old))
+        answer.new (store_of elapsed.new occupied.new tops.new hand.new until.new heads.new values.new deadlines.new nexts.new prevs.new turns.new marks.new) }
 {
     let e = *elapsed;
     let h = *hand;
@@ -108,7 +107,7 @@ fn wake_of(
     turns: &[u64],
     marks: &[u16],
 ) -> Answer
-    ensures { WakeClaim (holding hand until (given elapsed occupied tops heads values deadlines nexts prevs turns marks))
+    ensures { WakeClaim (holding hand until (parts elapsed occupied.now tops.now heads.now values.now deadlines.now nexts.now prevs.now turns.now marks.now))
         result }
 {
     if !judged(
@@ -139,7 +138,7 @@ fn length_of(
     turns: &[u64],
     marks: &[u16],
 ) -> Answer
-    ensures { LengthClaim (holding hand until (given elapsed occupied tops heads values deadlines nexts prevs turns marks))
+    ensures { LengthClaim (holding hand until (parts elapsed occupied.now tops.now heads.now values.now deadlines.now nexts.now prevs.now turns.now marks.now))
         result }
 {
     if !judged(
@@ -171,8 +170,8 @@ pub extern "C" fn ngawdrelo_format(
     answer: &mut [u64; 6],
 )
     ensures { Faced
-        (FormatClaim (before elapsed occupied tops hand until heads values deadlines nexts prevs turns marks) n turn)
-        (new answer) (after elapsed occupied tops hand until heads values deadlines nexts prevs turns marks) }
+        (FormatClaim (store_of elapsed.old occupied.old tops.old hand.old until.old heads.old values.old deadlines.old nexts.old prevs.old turns.old marks.old) n turn)
+        answer.new (store_of elapsed.new occupied.new tops.new hand.new until.new heads.new values.new deadlines.new nexts.new prevs.new turns.new marks.new) }
 {
     let call = Call::Format(n, turn);
     ask(
@@ -202,9 +201,9 @@ pub extern "C" fn ngawdrelo_insert(
     answer: &mut [u64; 6],
 )
     ensures { Faced
-        (InsertClaim (before elapsed occupied tops hand until heads values deadlines nexts prevs turns marks) value when
+        (InsertClaim (store_of elapsed.old occupied.old tops.old hand.old until.old heads.old values.old deadlines.old nexts.old prevs.old turns.old marks.old) value when
         period)
-        (new answer) (after elapsed occupied tops hand until heads values deadlines nexts prevs turns marks) }
+        answer.new (store_of elapsed.new occupied.new tops.new hand.new until.new heads.new values.new deadlines.new nexts.new prevs.new turns.new marks.new) }
 {
     let call = Call::Insert(value, when, period);
     ask(
@@ -233,8 +232,8 @@ pub extern "C" fn ngawdrelo_reset(
     answer: &mut [u64; 6],
 )
     ensures { Faced
-        (ResetClaim (before elapsed occupied tops hand until heads values deadlines nexts prevs turns marks) key when)
-        (new answer) (after elapsed occupied tops hand until heads values deadlines nexts prevs turns marks) }
+        (ResetClaim (store_of elapsed.old occupied.old tops.old hand.old until.old heads.old values.old deadlines.old nexts.old prevs.old turns.old marks.old) key when)
+        answer.new (store_of elapsed.new occupied.new tops.new hand.new until.new heads.new values.new deadlines.new nexts.new prevs.new turns.new marks.new) }
 {
     let call = Call::Reset(key, when);
     ask(
@@ -261,8 +260,8 @@ pub extern "C" fn ngawdrelo_remove(
     key: u64,
     answer: &mut [u64; 6],
 )
-    ensures { Faced (RemoveClaim (before elapsed occupied tops hand until heads values deadlines nexts prevs turns marks) key)
-        (new answer) (after elapsed occupied tops hand until heads values deadlines nexts prevs turns marks) }
+    ensures { Faced (RemoveClaim (store_of elapsed.old occupied.old tops.old hand.old until.old heads.old values.old deadlines.old nexts.old prevs.old turns.old marks.old) key)
+        answer.new (store_of elapsed.new occupied.new tops.new hand.new until.new heads.new values.new deadlines.new nexts.new prevs.new turns.new marks.new) }
 {
     let call = Call::Remove(key);
     ask(
@@ -289,8 +288,8 @@ pub extern "C" fn ngawdrelo_poll(
     time: u64,
     answer: &mut [u64; 6],
 )
-    ensures { Faced (PollClaim (before elapsed occupied tops hand until heads values deadlines nexts prevs turns marks) time)
-        (new answer) (after elapsed occupied tops hand until heads values deadlines nexts prevs turns marks) }
+    ensures { Faced (PollClaim (store_of elapsed.old occupied.old tops.old hand.old until.old heads.old values.old deadlines.old nexts.old prevs.old turns.old marks.old) time)
+        answer.new (store_of elapsed.new occupied.new tops.new hand.new until.new heads.new values.new deadlines.new nexts.new prevs.new turns.new marks.new) }
 {
     let call = Call::Poll(time);
     ask(
@@ -319,9 +318,9 @@ pub extern "C" fn ngawdrelo_poll_some(
     answer: &mut [u64; 6],
 )
     ensures { Faced
-        (PollSomeClaim (before elapsed occupied tops hand until heads values deadlines nexts prevs turns marks) time
+        (PollSomeClaim (store_of elapsed.old occupied.old tops.old hand.old until.old heads.old values.old deadlines.old nexts.old prevs.old turns.old marks.old) time
         limit)
-        (new answer) (after elapsed occupied tops hand until heads values deadlines nexts prevs turns marks) }
+        answer.new (store_of elapsed.new occupied.new tops.new hand.new until.new heads.new values.new deadlines.new nexts.new prevs.new turns.new marks.new) }
 {
     let call = Call::PollSome(time, limit);
     ask(
@@ -347,8 +346,8 @@ pub extern "C" fn ngawdrelo_clear(
     marks: &mut [u16],
     answer: &mut [u64; 6],
 )
-    ensures { Faced (ClearClaim (before elapsed occupied tops hand until heads values deadlines nexts prevs turns marks))
-        (new answer) (after elapsed occupied tops hand until heads values deadlines nexts prevs turns marks) }
+    ensures { Faced (ClearClaim (store_of elapsed.old occupied.old tops.old hand.old until.old heads.old values.old deadlines.old nexts.old prevs.old turns.old marks.old))
+        answer.new (store_of elapsed.new occupied.new tops.new hand.new until.new heads.new values.new deadlines.new nexts.new prevs.new turns.new marks.new) }
 {
     let call = Call::Clear;
     ask(
@@ -374,8 +373,8 @@ pub extern "C" fn ngawdrelo_next_wake(
     marks: &[u16],
     answer: &mut [u64; 6],
 )
-    ensures { Told (WakeClaim (before elapsed occupied tops hand until heads values deadlines nexts prevs turns marks))
-        (new answer) }
+    ensures { Told (WakeClaim (store_of elapsed.now occupied.now tops.now hand.now until.now heads.now values.now deadlines.now nexts.now prevs.now turns.now marks.now))
+        answer.new }
 {
     let a = wake_of(
         *elapsed, occupied, tops, *hand, *until, heads, values, deadlines, nexts, prevs, turns,
@@ -401,8 +400,8 @@ pub extern "C" fn ngawdrelo_length(
     marks: &[u16],
     answer: &mut [u64; 6],
 )
-    ensures { Told (LengthClaim (before elapsed occupied tops hand until heads values deadlines nexts prevs turns marks))
-        (new answer) }
+    ensures { Told (LengthClaim (store_of elapsed.now occupied.now tops.now hand.now until.now heads.now values.now deadlines.now nexts.now prevs.now turns.now marks.now))
+        answer.new }
 {
     let a = length_of(
         *elapsed, occupied, tops, *hand, *until, heads, values, deadlines, nexts, prevs, turns,
@@ -434,10 +433,10 @@ pub extern "C" fn ngawdrelo_run(
     done: &mut u64,
     why: &mut u64,
 )
-    ensures { Says why_word (new why)
-        (λ w. RunClaim (before elapsed occupied tops hand until heads values deadlines nexts prevs turns marks)
-        (old commands) (old answers) (new done) w
-        (after elapsed occupied tops hand until heads values deadlines nexts prevs turns marks) (new answers)) }
+    ensures { Says why_word why.new
+        (λ w. RunClaim (store_of elapsed.old occupied.old tops.old hand.old until.old heads.old values.old deadlines.old nexts.old prevs.old turns.old marks.old)
+        commands.now answers.old done.new w
+        (store_of elapsed.new occupied.new tops.new hand.new until.new heads.new values.new deadlines.new nexts.new prevs.new turns.new marks.new) answers.new) }
 {
     let e = *elapsed;
     let h = *hand;
@@ -484,9 +483,9 @@ pub extern "C" fn ngawdrelo_act(
     size: &mut u64,
 )
     ensures { ActsOn (kind ∷ a ∷ b ∷ c ∷ [])
-        (before elapsed occupied tops hand until heads values deadlines nexts prevs turns marks)
-        (new answer) (after elapsed occupied tops hand until heads values deadlines nexts prevs turns marks) (new size)
-        (new bytes) }
+        (store_of elapsed.old occupied.old tops.old hand.old until.old heads.old values.old deadlines.old nexts.old prevs.old turns.old marks.old)
+        answer.new (store_of elapsed.new occupied.new tops.new hand.new until.new heads.new values.new deadlines.new nexts.new prevs.new turns.new marks.new) size.new
+        bytes.new }
 {
     let group = run::call_of(kind, a, b, c);
     let Group::Asks(call) = group else {
@@ -516,7 +515,7 @@ pub extern "C" fn ngawdrelo_open(
     bytes: &mut [u8; 36],
     size: &mut u64,
 )
-    ensures { Patches Step.Open (old patch) (new patch) (new answer) (new size) (new bytes) }
+    ensures { Patches Step.Open patch.old patch.new answer.new size.new bytes.new }
 {
     let open = *patch != 0;
     let said = journal::patched(open);
@@ -536,7 +535,7 @@ pub extern "C" fn ngawdrelo_close(
     bytes: &mut [u8; 36],
     size: &mut u64,
 )
-    ensures { Patches Step.Close (old patch) (new patch) (new answer) (new size) (new bytes) }
+    ensures { Patches Step.Close patch.old patch.new answer.new size.new bytes.new }
 {
     let open = *patch != 0;
     let said = journal::patched(!open);
@@ -550,7 +549,7 @@ pub extern "C" fn ngawdrelo_close(
 
 // Nobody is the head of any slot.
 fn empty(heads: &mut [[u16; 64]; 6])
-    ensures { new heads ≡ no_heads }
+    ensures { heads.new ≡ no_heads }
 {
     *heads = [[links::NOBODY; 64]; 6];
 }
@@ -576,10 +575,10 @@ pub extern "C" fn ngawdrelo_recover(
     at: &mut u64,
     ending: &mut [u64; 2],
 )
-    ensures { Says ending_words (new ending) (λ e. ReplayClaim (old bytes)
-        (without_store (old values) (old deadlines) (old nexts) (old prevs) (old turns) (old marks))
-        (found (new kept) (new at) e
-        (after elapsed occupied tops hand until heads values deadlines nexts prevs turns marks))) }
+    ensures { Says ending_words ending.new (λ e. ReplayClaim bytes.now
+        (without_store values.old deadlines.old nexts.old prevs.old turns.old marks.old)
+        (found kept.new at.new e
+        (store_of elapsed.new occupied.new tops.new hand.new until.new heads.new values.new deadlines.new nexts.new prevs.new turns.new marks.new))) }
 {
     let start = recover::unread();
     let seen = recover::scan(start, bytes, values, deadlines, nexts, prevs, turns, marks);
@@ -623,8 +622,8 @@ pub extern "C" fn ngawdrelo_gauge_note(
     time: u64,
     answer: &[u64; 6],
 )
-    ensures { NoteClaim (gauge_of (old smoothed) (old worst) (old any)) time (old answer)
-        (gauge_of (new smoothed) (new worst) (new any)) × FlagKept (old any) (new any) }
+    ensures { NoteClaim (gauge_of smoothed.old worst.old any.old) time answer.now
+        (gauge_of smoothed.new worst.new any.new) × FlagKept any.old any.new }
 {
     let met = *any != 0;
     let g = Gauge {
@@ -649,8 +648,8 @@ pub extern "C" fn ngawdrelo_gauge_read(
     light: &mut [u64; 2],
     value: &mut f64,
 )
-    ensures { (new light ≡ light_words (reading_of (gauge_of (old smoothed) (old worst) (old any)) slow late))
-        × (new value ≡ light_value (reading_of (gauge_of (old smoothed) (old worst) (old any)) slow late)) }
+    ensures { (light.new ≡ light_words (reading_of (gauge_of smoothed.now worst.now any.now) slow late))
+        × (value.new ≡ light_value (reading_of (gauge_of smoothed.now worst.now any.now) slow late)) }
 {
     let met = *any != 0;
     let g = Gauge {
@@ -668,7 +667,7 @@ pub extern "C" fn ngawdrelo_gauge_read(
 // The 64-bit time, 0 at the start, moves on to the 32-bit tick of a board: 10 where it would pass 2^64-1.
 #[unsafe(no_mangle)]
 pub extern "C" fn ngawdrelo_tick_read(time: &mut u64, tick: u32, answer: &mut [u64; 6])
-    ensures { Told (λ a. ReadClaim (old time) tick a (new time)) (new answer) }
+    ensures { Told (λ a. ReadClaim time.old tick a time.new) answer.new }
 {
     let front = Front { time: *time };
     let seen = tick::read(front, tick);
@@ -697,9 +696,9 @@ pub extern "C" fn ngawdrelo_tick_poll(
     tick: u32,
     answer: &mut [u64; 6],
 )
-    ensures { Faced (λ a s. TickPollClaim (old time)
-        (before elapsed occupied tops hand until heads values deadlines nexts prevs turns marks) tick a (new time) s)
-        (new answer) (after elapsed occupied tops hand until heads values deadlines nexts prevs turns marks) }
+    ensures { Faced (λ a s. TickPollClaim time.old
+        (store_of elapsed.old occupied.old tops.old hand.old until.old heads.old values.old deadlines.old nexts.old prevs.old turns.old marks.old) tick a time.new s)
+        answer.new (store_of elapsed.new occupied.new tops.new hand.new until.new heads.new values.new deadlines.new nexts.new prevs.new turns.new marks.new) }
 {
     let front = Front { time: *time };
     let seen = tick::read(front, tick);
@@ -752,10 +751,10 @@ pub extern "C" fn ngawdrelo_tick_poll_some(
     limit: u64,
     answer: &mut [u64; 6],
 )
-    ensures { Faced (λ a s. TickSomeClaim (old time)
-        (before elapsed occupied tops hand until heads values deadlines nexts prevs turns marks) tick limit a (new time)
+    ensures { Faced (λ a s. TickSomeClaim time.old
+        (store_of elapsed.old occupied.old tops.old hand.old until.old heads.old values.old deadlines.old nexts.old prevs.old turns.old marks.old) tick limit a time.new
         s)
-        (new answer) (after elapsed occupied tops hand until heads values deadlines nexts prevs turns marks) }
+        answer.new (store_of elapsed.new occupied.new tops.new hand.new until.new heads.new values.new deadlines.new nexts.new prevs.new turns.new marks.new) }
 {
     let front = Front { time: *time };
     let seen = tick::read(front, tick);
@@ -800,8 +799,8 @@ pub extern "C" fn ngawdrelo_inspect_line(
     deadlines: &mut [u64],
     line: &[u8],
 )
-    ensures { Says state_words (new state) (λ t. InspectClaim (state_of (old state)) (old keys) (old deadlines)
-        (old line) t (new keys) (new deadlines)) }
+    ensures { Says state_words state.new (λ t. InspectClaim (state_of state.old) keys.old deadlines.old
+        line.now t keys.new deadlines.new) }
 {
     let t = inspector::inspect_line(words::state_of(state), keys, deadlines, line);
     *state = words::state_words(t);

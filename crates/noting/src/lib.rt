@@ -1,9 +1,8 @@
 // The bench with a journal: a line is done, what it writes to the journal is noted, and its answer is written behind
 // the others. What is noted is to be kept before the answers are given (crate keeping).
+ghost use Rattle.records.specs.Words.{words};
 ghost use Rattle.std.specs.Prelude.{◌≡◌, true, false, [], ◌∷◌, ◌+◌, ◌≤◌, ◌<◌, length};
-ghost use Rattle.contracts.specs.Lent.{old, new};
 ghost use Rattle.contracts.specs.Tells.{Tells};
-ghost use Rattle.records.specs.Store.{before, after};
 ghost use Rattle.noting.specs.Means.{SaidClaim};
 ghost use Rattle.noting.specs.Line.{desk, note_room, Fits, Does, LineClaim, NoteClaim, LastClaim};
 ghost use Rattle.noting.specs.Feed.{stand, NextLine, FeedClaim};
@@ -59,7 +58,7 @@ pub struct Fed {
 
 // Whether the line is that byte alone.
 fn is_byte(line: &[u8], b: u8) -> bool
-    ensures { Tells (old line ≡ b ∷ []) result }
+    ensures { Tells (line.now ≡ b ∷ []) result }
 {
     if line.len() != 1 {
         return false;
@@ -69,7 +68,7 @@ fn is_byte(line: &[u8], b: u8) -> bool
 
 // What a line says, which comes without its newline.
 fn step_in(line: &[u8]) -> Said
-    ensures { SaidClaim (old line) result }
+    ensures { SaidClaim line.now result }
 {
     if is_byte(line, b'o') {
         return Said::Is(Step::Open);
@@ -106,17 +105,17 @@ fn do_step(
         step
         (desk
         patch
-        (before state heads.heads values deadlines nexts prevs turns marks)
-        (old notes)
+        (words state heads.heads values.old deadlines.old nexts.old prevs.old turns.old marks.old)
+        notes.old
         noted
-        (old out)
+        out.old
         at)
         (desk
         result.patch
-        (after result.state result.heads.heads values deadlines nexts prevs turns marks)
-        (new notes)
+        (words result.state result.heads.heads values.new deadlines.new nexts.new prevs.new turns.new marks.new)
+        notes.new
         result.noted
-        (new out)
+        out.new
         result.at) }
 {
     let grid = delay_queue::heads_in(heads);
@@ -158,20 +157,20 @@ fn do_line(
 ) -> LineDone
     requires { noted + note_room ≤ length notes.old }
     ensures { LineClaim
-        (old line)
+        line.now
         (desk
         patch
-        (before state heads.heads values deadlines nexts prevs turns marks)
-        (old notes)
+        (words state heads.heads values.old deadlines.old nexts.old prevs.old turns.old marks.old)
+        notes.old
         noted
-        (old out)
+        out.old
         at)
         (desk
         result.patch
-        (after result.state result.heads.heads values deadlines nexts prevs turns marks)
-        (new notes)
+        (words result.state result.heads.heads values.new deadlines.new nexts.new prevs.new turns.new marks.new)
+        notes.new
         result.noted
-        (new out)
+        out.new
         result.at) }
 {
     let s = step_in(line);
@@ -229,21 +228,21 @@ pub fn answer_line(
     at: usize,
 ) -> Noted
     ensures { NoteClaim
-        (old line)
+        line.now
         (desk
         patch
-        (before state heads.heads values deadlines nexts prevs turns marks)
-        (old notes)
+        (words state heads.heads values.old deadlines.old nexts.old prevs.old turns.old marks.old)
+        notes.old
         noted
-        (old out)
+        out.old
         at)
         result.done
         (desk
         result.patch
-        (after result.state result.heads.heads values deadlines nexts prevs turns marks)
-        (new notes)
+        (words result.state result.heads.heads values.new deadlines.new nexts.new prevs.new turns.new marks.new)
+        notes.new
         result.noted
-        (new out)
+        out.new
         result.at) }
 {
     if !has_room(noted, notes.len(), at, out.len()) {
@@ -294,28 +293,28 @@ fn next_line(
 ) -> Fed
     requires { noted + note_room ≤ length notes.old }
     ensures { NextLine
-        (old got)
+        got.now
         (stand
         from
-        (old line)
+        line.old
         n
         (desk
         patch
-        (before state heads.heads values deadlines nexts prevs turns marks)
-        (old notes)
+        (words state heads.heads values.old deadlines.old nexts.old prevs.old turns.old marks.old)
+        notes.old
         noted
-        (old out)
+        out.old
         at))
         (stand
         result.next
-        (new line)
+        line.new
         result.kept
         (desk
         result.patch
-        (after result.state result.heads.heads values deadlines nexts prevs turns marks)
-        (new notes)
+        (words result.state result.heads.heads values.new deadlines.new nexts.new prevs.new turns.new marks.new)
+        notes.new
         result.noted
-        (new out)
+        out.new
         result.at)) }
 {
     let t = lines::take_line(got, from, line, n);
@@ -392,22 +391,22 @@ pub fn answer_lines(
     out: &mut [u8],
 ) -> Fed
     ensures { FeedClaim
-        (old got)
+        got.now
         (stand
         from
-        (old line)
+        line.old
         n
-        (desk patch (before state heads.heads values deadlines nexts prevs turns marks) (old notes) 0 (old out) 0))
+        (desk patch (words state heads.heads values.old deadlines.old nexts.old prevs.old turns.old marks.old) notes.old 0 out.old 0))
         (stand
         result.next
-        (new line)
+        line.new
         result.kept
         (desk
         result.patch
-        (after result.state result.heads.heads values deadlines nexts prevs turns marks)
-        (new notes)
+        (words result.state result.heads.heads values.new deadlines.new nexts.new prevs.new turns.new marks.new)
+        notes.new
         result.noted
-        (new out)
+        out.new
         result.at)) }
 {
     let mut i = from;
@@ -457,15 +456,15 @@ pub fn answer_last(
     out: &mut [u8],
 ) -> Noted
     ensures { LastClaim
-        (old line)
-        (desk patch (before state heads.heads values deadlines nexts prevs turns marks) (old notes) 0 (old out) 0)
+        line.now
+        (desk patch (words state heads.heads values.old deadlines.old nexts.old prevs.old turns.old marks.old) notes.old 0 out.old 0)
         result.done
         (desk
         result.patch
-        (after result.state result.heads.heads values deadlines nexts prevs turns marks)
-        (new notes)
+        (words result.state result.heads.heads values.new deadlines.new nexts.new prevs.new turns.new marks.new)
+        notes.new
         result.noted
-        (new out)
+        out.new
         result.at) }
 {
     if line.len() == 0 {

@@ -1,7 +1,6 @@
 // Text that is written to standard output by way of a room that is lent: what waits in it is written where it is full, and
 // by whoever lent it at the end.
 ghost use Rattle.std.specs.Prelude.{◌≤◌, length};
-ghost use Rattle.contracts.specs.Lent.{old};
 
 use libc::STDOUT_FILENO;
 
@@ -14,7 +13,7 @@ pub struct Pen {
 
 // One byte more. What waits is written first where it fills the room that is lent.
 pub fn byte(out: &mut [u8], pen: Pen, b: u8) -> Pen
-    ensures { result.at ≤ length (old out) }
+    ensures { result.at ≤ length out.old }
 {
     let at = pen.at;
     if at < out.len() {

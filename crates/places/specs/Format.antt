@@ -1,7 +1,6 @@
 -- Format: every list is empty but the free one, which holds 0, 1, .., n - 1 ("Fresh records are taken as 0, 1, 2 and so on").
 use Rattle.std.specs.Prelude.{List, [], ◌∷◌, ℕ, zero, suc, ◌+◌, ◌-◌, set, replicate}
 use Rattle.links.specs.Lists.{nobody}
-use Rattle.contracts.specs.Lent.{Returned, old}
 use Rattle.places.specs.Places.{free}
 use Rattle.places.specs.Words.{PlaceWords, words}
 
@@ -25,10 +24,6 @@ no_heads = replicate 6 no_level
 unfoldable pub formatted : ℕ → List ℕ → List ℕ → List ℕ → PlaceWords
 formatted n ns ps ms =
     words (n ∷ 65535 ∷ 0 ∷ 65535 ∷ []) no_heads (set (over n (λ i. i + 1) ns) (n - 1) nobody) (over n (prev_in n) ps) (over n (λ i. free) ms)
-
--- of the links that `format` is lent
-abbrev pub formatted_of : ℕ → Returned (List ℕ) → Returned (List ℕ) → Returned (List ℕ) → PlaceWords
-formatted_of n nexts prevs marks = formatted n (old nexts) (old prevs) (old marks)
 
 -- k, k + 1, .., k + m - 1
 unfoldable pub range : ℕ → ℕ → List ℕ

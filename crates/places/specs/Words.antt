@@ -1,7 +1,6 @@
 -- The words of this layer, and what the functions make of them.
 use Rattle.std.specs.Prelude.{◌≡◌, ◌≢◌, List, cond, ℕ, ◌<◌, eqb}
 use Rattle.links.specs.Lists.{nobody}
-use Rattle.contracts.specs.Lent.{Lent, Returned, old, new}
 use Rattle.links.specs.Links.{Links, links, at, joined, added, head_with, cut_out, head_after, marked, CanJoin, CanCut}
 use Rattle.places.specs.declared.Tops.{Tops}
 use Rattle.places.specs.Places.{slot_place, free, places, retired}
@@ -22,25 +21,10 @@ tops_of tops = tops_by (at tops 0) (at tops 1) (at tops 2) (at tops 3)
 abbrev pub words : List ℕ → List (List ℕ) → List ℕ → List ℕ → List ℕ → PlaceWords
 words tops hh ns ps ms = place_words (tops_of tops) hh (links ns ps ms)
 
--- as the functions have them: in a `requires`, and in an `ensures` at the call and at the return
-module _ (tops : Lent (List ℕ)) (heads : Lent (List (List ℕ))) (nexts prevs marks : Lent (List ℕ)) where
-  abbrev pub lent : PlaceWords
-  lent = words tops.now heads.now nexts.now prevs.now marks.now
-
-module _ (tops : Returned (List ℕ)) (heads : Returned (List (List ℕ))) (nexts prevs marks : Returned (List ℕ)) where
-  abbrev pub before : PlaceWords
-  before = words (old tops) (old heads) (old nexts) (old prevs) (old marks)
-
-  abbrev pub after : PlaceWords
-  after = words (new tops) (new heads) (new nexts) (new prevs) (new marks)
-
 -- of a function that `tops` is not lent to: R holds before and after, whatever stands there
-module _ (heads : Returned (List (List ℕ))) (nexts prevs marks : Returned (List ℕ)) where
+module _ (heads : List (List ℕ)) (ls : Links) (heads' : List (List ℕ)) (ls' : Links) where
   abbrev pub Slotwise : (PlaceWords → PlaceWords → Type 0) → Type 0
-  Slotwise R =
-      (st : Tops)
-      → R (place_words st (old heads) (links (old nexts) (old prevs) (old marks)))
-      (place_words st (new heads) (links (new nexts) (new prevs) (new marks)))
+  Slotwise R = (st : Tops) → R (place_words st heads ls) (place_words st heads' ls')
 
 -- how many records there are
 abbrev pub count : PlaceWords → ℕ

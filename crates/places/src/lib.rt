@@ -1,13 +1,12 @@
 // The lists of the places: the slots of the six levels, the parking list, the expired stack and the free list.
 ghost use Rattle.std.specs.Prelude.{◌≡◌, ◌<◌, ltb};
-ghost use Rattle.contracts.specs.Lent.{old, new};
-ghost use Rattle.links.specs.Links.{Room, lent as linked};
+ghost use Rattle.links.specs.Links.{links, Room};
 ghost use Rattle.places.specs.Places.{slots, free, places, slot_place, level_at, slot_at};
 ghost use Rattle.places.specs.Heads.{head_of, heads_with, tops_with, slot_head};
-ghost use Rattle.places.specs.Words.{tops_of, lent, before, after, Slotwise, count, head_at};
+ghost use Rattle.places.specs.Words.{words, tops_of, Slotwise, count, head_at};
 ghost use Rattle.places.specs.Words.{push, remove, pop, CanPush, CanRemove, CanPop, CanPushSlot, CanPopSlot};
 ghost use Rattle.places.specs.Judge.{WalksLevel, rest};
-ghost use Rattle.places.specs.Format.{formatted_of};
+ghost use Rattle.places.specs.Format.{formatted};
 
 use links::Walk;
 
@@ -57,25 +56,25 @@ pub fn tops_of(tops: [u16; 4]) -> Tops
 
 // How many records there are, and the heads of the lists that are no slot.
 pub fn count_of(tops: &[u16; 4]) -> u16
-    ensures { result ≡ (tops_of (old tops)).n }
+    ensures { result ≡ (tops_of tops.now).n }
 {
     tops[0]
 }
 
 pub fn first_expired(tops: &[u16; 4]) -> u16
-    ensures { result ≡ (tops_of (old tops)).expired }
+    ensures { result ≡ (tops_of tops.now).expired }
 {
     tops[1]
 }
 
 pub fn first_free(tops: &[u16; 4]) -> u16
-    ensures { result ≡ (tops_of (old tops)).free }
+    ensures { result ≡ (tops_of tops.now).free }
 {
     tops[2]
 }
 
 pub fn first_parked(tops: &[u16; 4]) -> u16
-    ensures { result ≡ (tops_of (old tops)).parking }
+    ensures { result ≡ (tops_of tops.now).parking }
 {
     tops[3]
 }
@@ -116,7 +115,7 @@ pub fn is_pending(place: u16) -> bool
 // The head of the place.
 pub fn head_of(tops: &[u16; 4], heads: &[[u16; 64]; 6], place: u16) -> u16
     requires { place < places }
-    ensures { result ≡ head_of (tops_of (old tops)) (old heads) place }
+    ensures { result ≡ head_of (tops_of tops.now) heads.now place }
 {
     if place < SLOTS {
         let k = place as usize / 64;
@@ -136,8 +135,8 @@ pub fn head_of(tops: &[u16; 4], heads: &[[u16; 64]; 6], place: u16) -> u16
 // whole needs no law of its length.
 fn set_head(tops: &mut [u16; 4], heads: &mut [[u16; 64]; 6], place: u16, item: u16)
     requires { place < places }
-    ensures tops_value { tops_of (new tops) ≡ tops_with (tops_of (old tops)) place item }
-    ensures heads_value { new heads ≡ heads_with (old heads) place item }
+    ensures tops_value { tops_of tops.new ≡ tops_with (tops_of tops.old) place item }
+    ensures heads_value { heads.new ≡ heads_with heads.old place item }
 {
     if place < SLOTS {
         let k = place as usize / 64;
@@ -166,8 +165,8 @@ pub fn push(
     place: u16,
     item: u16,
 )
-    requires { CanPush (lent tops heads nexts prevs marks) place item }
-    ensures { after tops heads nexts prevs marks ≡ push (before tops heads nexts prevs marks) place item }
+    requires { CanPush (words tops.old heads.old nexts.old prevs.old marks.old) place item }
+    ensures { words tops.new heads.new nexts.new prevs.new marks.new ≡ push (words tops.old heads.old nexts.old prevs.old marks.old) place item }
 {
     let head = head_of(tops, heads, place);
     if place == FREE {
@@ -188,8 +187,8 @@ pub fn remove(
     marks: &mut [u16],
     item: u16,
 )
-    requires { CanRemove (lent tops heads nexts prevs marks) item }
-    ensures { after tops heads nexts prevs marks ≡ remove (before tops heads nexts prevs marks) item }
+    requires { CanRemove (words tops.old heads.old nexts.old prevs.old marks.old) item }
+    ensures { words tops.new heads.new nexts.new prevs.new marks.new ≡ remove (words tops.old heads.old nexts.old prevs.old marks.old) item }
 {
     let place = marks[item as usize];
     let head = head_of(tops, heads, place);
@@ -206,9 +205,9 @@ pub fn pop(
     marks: &mut [u16],
     place: u16,
 ) -> u16
-    requires { CanPop (lent tops heads nexts prevs marks) place }
-    ensures value { result ≡ head_at (before tops heads nexts prevs marks) place }
-    ensures marks_value { after tops heads nexts prevs marks ≡ pop (before tops heads nexts prevs marks) place }
+    requires { CanPop (words tops.old heads.old nexts.old prevs.old marks.old) place }
+    ensures value { result ≡ head_at (words tops.old heads.old nexts.old prevs.old marks.old) place }
+    ensures marks_value { words tops.new heads.new nexts.new prevs.new marks.new ≡ pop (words tops.old heads.old nexts.old prevs.old marks.old) place }
 {
     let item = head_of(tops, heads, place);
     if item == links::NOBODY {
@@ -228,8 +227,8 @@ pub fn push_slot(
     slot: usize,
     item: u16,
 )
-    requires { CanPushSlot heads.old (linked nexts prevs marks) level slot item }
-    ensures { Slotwise heads nexts prevs marks (λ t t'. t' ≡ push t (slot_place level slot) item) }
+    requires { CanPushSlot heads.old (links nexts.old prevs.old marks.old) level slot item }
+    ensures { Slotwise heads.old (links nexts.old prevs.old marks.old) heads.new (links nexts.new prevs.new marks.new) (λ t t'. t' ≡ push t (slot_place level slot) item) }
 {
     let head = heads[level][slot];
     let first = links::add(nexts, prevs, marks, slot_place(level, slot), item, head);
@@ -244,9 +243,9 @@ pub fn pop_slot(
     level: usize,
     slot: usize,
 ) -> u16
-    requires { CanPopSlot heads.old (linked nexts prevs marks) level slot }
-    ensures value { result ≡ slot_head (old heads) level slot }
-    ensures slotwise { Slotwise heads nexts prevs marks (λ t t'. t' ≡ pop t (slot_place level slot)) }
+    requires { CanPopSlot heads.old (links nexts.old prevs.old marks.old) level slot }
+    ensures value { result ≡ slot_head heads.old level slot }
+    ensures slotwise { Slotwise heads.old (links nexts.old prevs.old marks.old) heads.new (links nexts.new prevs.new marks.new) (λ t t'. t' ≡ pop t (slot_place level slot)) }
 {
     let item = heads[level][slot];
     if item == links::NOBODY {
@@ -275,8 +274,8 @@ pub fn walk_level(
     room: u16,
 ) -> Level
     requires level_bound { level < 6 }
-    requires room { Room (count (lent tops heads nexts prevs marks)) (linked nexts prevs marks) }
-    ensures { WalksLevel (before tops heads nexts prevs marks) level room result.walk result.filled }
+    requires room { Room (count (words tops.now heads.now nexts.now prevs.now marks.now)) (links nexts.now prevs.now marks.now) }
+    ensures { WalksLevel (words tops.now heads.now nexts.now prevs.now marks.now) level room result.walk result.filled }
 {
     let n = tops[0];
     let mut left = room;
@@ -317,8 +316,8 @@ pub fn walk_rest(
     marks: &[u16],
     room: u16,
 ) -> bool
-    requires { Room (count (lent tops heads nexts prevs marks)) (linked nexts prevs marks) }
-    ensures { result ≡ rest (before tops heads nexts prevs marks) room }
+    requires { Room (count (words tops.now heads.now nexts.now prevs.now marks.now)) (links nexts.now prevs.now marks.now) }
+    ensures { result ≡ rest (words tops.now heads.now nexts.now prevs.now marks.now) room }
 {
     let n = tops[0];
     let mut left = room;
@@ -343,8 +342,8 @@ pub fn format(
     marks: &mut [u16],
     n: u16,
 )
-    requires { (0 < n) × Room n (linked nexts prevs marks) }
-    ensures { after tops heads nexts prevs marks ≡ formatted_of n nexts prevs marks }
+    requires { (0 < n) × Room n (links nexts.old prevs.old marks.old) }
+    ensures { words tops.new heads.new nexts.new prevs.new marks.new ≡ formatted n nexts.old prevs.old marks.old }
 {
     *tops = [n, links::NOBODY, 0, links::NOBODY];
     *heads = [[links::NOBODY; 64]; 6];

@@ -1,7 +1,6 @@
 // The delay queue on a sound store: records, keys and turns over the wheel.
 ghost use Rattle.std.specs.Prelude.{◌≡◌, ℕ, ◌≤◌, ◌<◌, length};
-ghost use Rattle.contracts.specs.Lent.{old};
-ghost use Rattle.records.specs.Words.{lent, before, after, holding, count, Standing, SoundBut, Sound};
+ghost use Rattle.records.specs.Words.{parts, holding, count, Standing, SoundBut, Sound};
 ghost use Rattle.queue.specs.Calls.{InsertOn, ResetOn, RemoveOn, PollsOn, ClearOn};
 ghost use Rattle.records.specs.Inner.{LooseAt};
 ghost use Rattle.queue.specs.Inner.{CanPollIdx, PollsIdx, PollNo, HandsOut, Shows, pending_in, ClearsOne};
@@ -9,7 +8,7 @@ ghost use Rattle.queue.specs.Told.{told};
 ghost use Rattle.records.specs.View.{View};
 ghost use Rattle.queue.specs.Steps.{NextWake};
 ghost use Rattle.links.specs.Links.{at};
-ghost use Rattle.wheel.specs.Words.{lent as wheelLent, before as wheelBefore, after as wheelAfter};
+ghost use Rattle.wheel.specs.Words.{words as wheeled};
 ghost use Rattle.wheel.specs.Expiration.{CanLook};
 
 // An answer.
@@ -64,9 +63,9 @@ pub fn insert(
     when: u64,
     period: u64,
 ) -> Answer
-    requires { Sound (lent elapsed occupied tops heads values deadlines nexts prevs turns marks) }
-    ensures { InsertOn (before elapsed occupied tops heads values deadlines nexts prevs turns marks)
-        value when period result (after elapsed occupied tops heads values deadlines nexts prevs turns marks) }
+    requires { Sound (parts elapsed occupied.old tops.old heads.old values.old deadlines.old nexts.old prevs.old turns.now marks.old) }
+    ensures { InsertOn (parts elapsed occupied.old tops.old heads.old values.old deadlines.old nexts.old prevs.old turns.now marks.old)
+        value when period result (parts elapsed occupied.new tops.new heads.new values.new deadlines.new nexts.new prevs.new turns.now marks.new) }
 {
     if places::first_free(tops) == links::NOBODY {
         return Answer::No(refusals::FULL);
@@ -108,9 +107,9 @@ pub fn reset(
     key: u64,
     when: u64,
 ) -> Answer
-    requires { Sound (lent elapsed occupied tops heads values deadlines nexts prevs turns marks) }
-    ensures { ResetOn (before elapsed occupied tops heads values deadlines nexts prevs turns marks)
-        key when result (after elapsed occupied tops heads values deadlines nexts prevs turns marks) }
+    requires { Sound (parts elapsed occupied.old tops.old heads.old values.now deadlines.old nexts.old prevs.old turns.now marks.old) }
+    ensures { ResetOn (parts elapsed occupied.old tops.old heads.old values.now deadlines.old nexts.old prevs.old turns.now marks.old)
+        key when result (parts elapsed occupied.new tops.new heads.new values.now deadlines.new nexts.new prevs.new turns.now marks.new) }
 {
     let found = records::find(places::count_of(tops), turns, marks, key);
     let records::Found::At(item) = found else {
@@ -141,9 +140,9 @@ pub fn remove(
     marks: &mut [u16],
     key: u64,
 ) -> Answer
-    requires { Sound (lent elapsed occupied tops heads values deadlines nexts prevs turns marks) }
-    ensures { RemoveOn (before elapsed occupied tops heads values deadlines nexts prevs turns marks)
-        key result (after elapsed occupied tops heads values deadlines nexts prevs turns marks) }
+    requires { Sound (parts elapsed occupied.old tops.old heads.old values.now deadlines.now nexts.old prevs.old turns.old marks.old) }
+    ensures { RemoveOn (parts elapsed occupied.old tops.old heads.old values.now deadlines.now nexts.old prevs.old turns.old marks.old)
+        key result (parts elapsed occupied.new tops.new heads.new values.now deadlines.now nexts.new prevs.new turns.new marks.new) }
 {
     let found = records::find(places::count_of(tops), turns, marks, key);
     let records::Found::At(item) = found else {
@@ -174,10 +173,10 @@ fn hand_out(
     moves: u64,
     drains: u64,
 ) -> Answer
-    requires sound_but { SoundBut item (lent elapsed occupied tops heads values deadlines nexts prevs turns marks) }
-    requires loose_at { LooseAt (lent elapsed occupied tops heads values deadlines nexts prevs turns marks) item }
-    ensures { HandsOut (before elapsed occupied tops heads values deadlines nexts prevs turns marks)
-        item moves drains result (after elapsed occupied tops heads values deadlines nexts prevs turns marks) }
+    requires sound_but { SoundBut item (parts elapsed occupied.old tops.old heads.old values.now deadlines.old nexts.old prevs.old turns.old marks.old) }
+    requires loose_at { LooseAt (parts elapsed occupied.old tops.old heads.old values.now deadlines.old nexts.old prevs.old turns.old marks.old) item }
+    ensures { HandsOut (parts elapsed occupied.old tops.old heads.old values.now deadlines.old nexts.old prevs.old turns.old marks.old)
+        item moves drains result (parts elapsed occupied.new tops.new heads.new values.now deadlines.new nexts.new prevs.new turns.new marks.new) }
 {
     let k = item as usize;
     let key = records::key_of(turns[k], item);
@@ -218,9 +217,9 @@ fn poll_idx(
     time: u64,
     limit: u64,
 ) -> wheel::Polled
-    requires { CanPollIdx (wheelLent elapsed occupied tops heads nexts prevs marks) deadlines.now hand time }
-    ensures { PollsIdx (at (old deadlines)) time limit hand (wheelBefore elapsed occupied tops heads nexts prevs marks)
-        result.item result.hand result.moves result.drains (wheelAfter result.elapsed occupied tops heads nexts prevs marks) }
+    requires { CanPollIdx (wheeled elapsed occupied.old tops.old heads.old nexts.old prevs.old marks.old) deadlines.now hand time }
+    ensures { PollsIdx (at deadlines.now) time limit hand (wheeled elapsed occupied.old tops.old heads.old nexts.old prevs.old marks.old)
+        result.item result.hand result.moves result.drains (wheeled result.elapsed occupied.new tops.new heads.new nexts.new prevs.new marks.new) }
 {
     let first = wheel::pop(
         elapsed,
@@ -280,10 +279,10 @@ pub fn poll(
     time: u64,
     limit: u64,
 ) -> ReplyParts
-    requires { Sound (holding hand until (lent elapsed occupied tops heads values deadlines nexts prevs turns marks)) }
-    ensures { PollsOn (holding hand until (before elapsed occupied tops heads values deadlines nexts prevs turns marks))
+    requires { Sound (holding hand until (parts elapsed occupied.old tops.old heads.old values.now deadlines.old nexts.old prevs.old turns.old marks.old)) }
+    ensures { PollsOn (holding hand until (parts elapsed occupied.old tops.old heads.old values.now deadlines.old nexts.old prevs.old turns.old marks.old))
         time limit result.answer (holding result.hand result.until
-        (after result.elapsed occupied tops heads values deadlines nexts prevs turns marks)) }
+        (parts result.elapsed occupied.new tops.new heads.new values.now deadlines.new nexts.new prevs.new turns.new marks.new)) }
 {
     let no = poll_no(elapsed, hand, until, time);
     if no != 0 {
@@ -340,7 +339,7 @@ pub fn next_wake(
     parking: u16,
 ) -> Answer
     requires { CanLook elapsed occupied.now deadlines.now parking }
-    ensures { (v : View) → Shows elapsed (old occupied) (old deadlines) expired parking v → NextWake v (told result) }
+    ensures { (v : View) → Shows elapsed occupied.now deadlines.now expired parking v → NextWake v (told result) }
 {
     if expired != links::NOBODY {
         return Answer::Wake(elapsed);
@@ -355,7 +354,7 @@ pub fn next_wake(
 // How many of n records are pending: those in a slot, on the parking list or on the expired stack.
 pub fn length(n: u16, marks: &[u16]) -> u64
     requires { n ≤ length marks.now }
-    ensures { result ≡ pending_in (at (old marks)) n }
+    ensures { result ≡ pending_in (at marks.now) n }
 {
     let mut count = 0u16;
     let mut i = 0u16;
@@ -382,10 +381,10 @@ fn clear_one(
     marks: &mut [u16],
     item: u16,
 )
-    requires standing { Standing (lent elapsed occupied tops heads values deadlines nexts prevs turns marks) }
-    requires item_bound { item < count (lent elapsed occupied tops heads values deadlines nexts prevs turns marks) }
-    ensures { ClearsOne (before elapsed occupied tops heads values deadlines nexts prevs turns marks)
-        item (after elapsed occupied tops heads values deadlines nexts prevs turns marks) }
+    requires standing { Standing (parts elapsed occupied.old tops.old heads.old values.now deadlines.now nexts.old prevs.old turns.old marks.old) }
+    requires item_bound { item < count (parts elapsed occupied.old tops.old heads.old values.now deadlines.now nexts.old prevs.old turns.old marks.old) }
+    ensures { ClearsOne (parts elapsed occupied.old tops.old heads.old values.now deadlines.now nexts.old prevs.old turns.old marks.old)
+        item (parts elapsed occupied.new tops.new heads.new values.now deadlines.now nexts.new prevs.new turns.new marks.new) }
 {
     if !places::is_pending(marks[item as usize]) {
         return;
@@ -409,9 +408,9 @@ pub fn clear(
     turns: &mut [u64],
     marks: &mut [u16],
 ) -> Answer
-    requires { Standing (lent elapsed occupied tops heads values deadlines nexts prevs turns marks) }
-    ensures { (h u : ℕ) → ClearOn (holding h u (before elapsed occupied tops heads values deadlines nexts prevs turns marks))
-        result (after 0 occupied tops heads values deadlines nexts prevs turns marks) }
+    requires { Standing (parts elapsed occupied.old tops.old heads.old values.now deadlines.now nexts.old prevs.old turns.old marks.old) }
+    ensures { (h u : ℕ) → ClearOn (holding h u (parts elapsed occupied.old tops.old heads.old values.now deadlines.now nexts.old prevs.old turns.old marks.old))
+        result (parts 0 occupied.new tops.new heads.new values.now deadlines.now nexts.new prevs.new turns.new marks.new) }
 {
     let n = places::count_of(tops);
     let mut i = 0u16;

@@ -1,10 +1,9 @@
 -- Format: which number it answers, and the words that it makes.
 use Rattle.std.specs.Prelude.{◌≡◌, List, ℕ, ◌*◌, ◌^◌, ◌<◌, replicate}
-use Rattle.contracts.specs.Lent.{Returned, new as left}
 use Rattle.links.specs.Lists.{nobody}
 use Rattle.places.specs.Format.{over, formatted}
 use Rattle.wheel.specs.Words.{wheel_words}
-use Rattle.records.specs.Slices.{Slices, before as given}
+use Rattle.records.specs.Slices.{Slices}
 use Rattle.records.specs.Words.{QueueWords, parts}
 
 -- ---- the number
@@ -32,10 +31,7 @@ pub record Makes (n turn : ℕ) (l : Slices) (s' : QueueWords) : Type 0 where
   pub hand : s'.hand ≡ nobody
   pub until : s'.until ≡ 0
 
--- of the words that `make` is lent
-module _ (n turn : ℕ) (tops : Returned (List ℕ)) (heads : Returned (List (List ℕ)))
-    (values deadlines nexts prevs turns marks : Returned (List ℕ)) where
+-- of the slices that `make` is lent, and what it leaves
+module _ (n turn : ℕ) (l : Slices) (tops : List ℕ) (heads : List (List ℕ)) (values deadlines nexts prevs turns marks : List ℕ) where
   abbrev pub MakesOf : Type 0
-  MakesOf =
-      Makes n turn (given values deadlines nexts prevs turns marks)
-      (parts 0 (replicate 6 0) (left tops) (left heads) (left values) (left deadlines) (left nexts) (left prevs) (left turns) (left marks))
+  MakesOf = Makes n turn l (parts 0 (replicate 6 0) tops heads values deadlines nexts prevs turns marks)

@@ -1,6 +1,5 @@
 -- The six slices of a store, and when they are long enough.
 use Rattle.std.specs.Prelude.{List, ℕ, ◌+◌, ◌*◌, ◌≤◌, ◌<◌, length, set}
-use Rattle.contracts.specs.Lent.{Lent, Returned, old}
 use Rattle.links.specs.Links.{Links, links, at}
 use Rattle.links.specs.Links as linked
 
@@ -12,15 +11,6 @@ pub record Slices : Type 0 where
 
 abbrev pub slices_of : List ℕ → List ℕ → List ℕ → List ℕ → List ℕ → List ℕ → Slices
 slices_of vs ds ns ps ts ms = record { values = vs; deadlines = ds; links = links ns ps ms; turns = ts }
-
--- as the functions have them: in a `requires`, and in an `ensures` at the call
-abbrev pub lent : (values deadlines nexts prevs turns marks : Lent (List ℕ)) → Slices
-lent values deadlines nexts prevs turns marks =
-    slices_of values.now deadlines.now nexts.now prevs.now turns.now marks.now
-
-abbrev pub before : (values deadlines nexts prevs turns marks : Returned (List ℕ)) → Slices
-before values deadlines nexts prevs turns marks =
-    slices_of (old values) (old deadlines) (old nexts) (old prevs) (old turns) (old marks)
 
 -- a record has two words of `values`: its value and, behind it, its period
 abbrev pub value_at : List ℕ → ℕ → ℕ

@@ -1,6 +1,5 @@
 -- The words of a store, when they are sound, their view, and what is kept of them.
 use Rattle.std.specs.Prelude.{◌≡◌, ◌≢◌, List, ℕ, ◌*◌, ◌^◌, ◌≤◌, ◌<◌}
-use Rattle.contracts.specs.Lent.{Lent, Returned, old, new}
 use Rattle.links.specs.Lists.{nobody}
 use Rattle.links.specs.Links.{links, at}
 use Rattle.places.specs.Places.{places, retired}
@@ -33,23 +32,6 @@ words w hh vs ds ns ps ts ms =
 -- and as the functions below them have them, in parts, with no poll in hand
 abbrev pub parts : ℕ → List ℕ → List ℕ → List (List ℕ) → List ℕ → List ℕ → List ℕ → List ℕ → List ℕ → List ℕ → QueueWords
 parts e occ tops hh vs ds ns ps ts ms = queue_words (wheeled e occ tops hh ns ps ms) vs ds ts nobody 0
-
--- in a `requires`, and in an `ensures` at the call and at the return
-module _ (elapsed : ℕ) where
-  module _ (occupied tops : Lent (List ℕ)) (heads : Lent (List (List ℕ))) (values deadlines nexts prevs turns marks : Lent (List ℕ)) where
-    abbrev pub lent : QueueWords
-    lent =
-        parts elapsed occupied.now tops.now heads.now values.now deadlines.now nexts.now prevs.now turns.now
-        marks.now
-
-  module _ (occupied tops : Returned (List ℕ)) (heads : Returned (List (List ℕ)))
-      (values deadlines nexts prevs turns marks : Returned (List ℕ)) where
-    abbrev pub before : QueueWords
-    before =
-        parts elapsed (old occupied) (old tops) (old heads) (old values) (old deadlines) (old nexts) (old prevs) (old turns) (old marks)
-
-    abbrev pub after : QueueWords
-    after = parts elapsed (new occupied) (new tops) (new heads) (new values) (new deadlines) (new nexts) (new prevs) (new turns) (new marks)
 
 -- s with the drain of h in hand, of a poll at u
 abbrev pub holding : ℕ → ℕ → QueueWords → QueueWords

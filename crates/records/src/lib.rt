@@ -1,13 +1,12 @@
 // Records in lent slices: whether there is room for them and how all of them are made, their values, keys and turns, where a
 // deadline may lie, and how one joins the wheel or leaves the store.
 ghost use Rattle.std.specs.Prelude.{◌≡◌, ◌+◌, ◌*◌, ◌^◌, ◌≤◌, ◌<◌, max, length};
-ghost use Rattle.contracts.specs.Lent.{old, new};
 ghost use Rattle.contracts.specs.Tells.{Tells};
 ghost use Rattle.places.specs.Places.{slots, free};
 ghost use Rattle.places.specs.Format.{over};
-ghost use Rattle.wheel.specs.Words.{lent, before, after};
+ghost use Rattle.wheel.specs.Words.{words};
 ghost use Rattle.records.specs.Records.{packed, turn_in, number_in, target};
-ghost use Rattle.records.specs.Slices.{Room, Fits, lent as slicesLent, before as slices, value_at, period_at, given};
+ghost use Rattle.records.specs.Slices.{slices_of, Room, Fits, value_at, period_at, given};
 ghost use Rattle.records.specs.Store.{wheel_of};
 ghost use Rattle.records.specs.Format.{InRange, FormatNo, MakesOf};
 ghost use Rattle.records.specs.Inner.{HasSlot, PlacesTo, CanPlace, LeavesTo, CanFree};
@@ -61,7 +60,7 @@ pub fn has_room(
     turns: &[u64],
     marks: &[u16],
 ) -> bool
-    ensures { Tells (Room n (slices values deadlines nexts prevs turns marks)) result }
+    ensures { Tells (Room n (slices_of values.now deadlines.now nexts.now prevs.now turns.now marks.now)) result }
 {
     let k = n as usize;
     if values.len() < 2 * k {
@@ -93,7 +92,7 @@ pub fn format_no(
     n: u64,
     turn: u64,
 ) -> u64
-    ensures { FormatNo (Fits (slices values deadlines nexts prevs turns marks) n) (InRange turn) result }
+    ensures { FormatNo (Fits (slices_of values.now deadlines.now nexts.now prevs.now turns.now marks.now) n) (InRange turn) result }
 {
     if n == 0 {
         return refusals::NO_ROOM;
@@ -116,7 +115,7 @@ pub fn format_no(
 // The first n words become x.
 fn fill(words: &mut [u64], n: usize, x: u64)
     requires { n ≤ length words.old }
-    ensures { new words ≡ over n (λ i. x) (old words) }
+    ensures { words.new ≡ over n (λ i. x) words.old }
 {
     let mut i = 0usize;
     while i < n {
@@ -138,8 +137,8 @@ pub fn make(
     n: u16,
     turn: u64,
 )
-    requires { Fits (slicesLent values deadlines nexts prevs turns marks) n }
-    ensures { MakesOf n turn tops heads values deadlines nexts prevs turns marks }
+    requires { Fits (slices_of values.old deadlines.old nexts.old prevs.old turns.old marks.old) n }
+    ensures { MakesOf n turn (slices_of values.old deadlines.old nexts.old prevs.old turns.old marks.old) tops.new heads.new values.new deadlines.new nexts.new prevs.new turns.new marks.new }
 {
     places::format(tops, heads, nexts, prevs, marks, n);
     let k = n as usize;
@@ -151,21 +150,21 @@ pub fn make(
 // A record has two words of `values`, of which no other crate knows the order: its value and, behind it, its period.
 pub fn value_of(values: &[u64], item: u16) -> u64
     requires { 2 * item < length values.now }
-    ensures { result ≡ value_at (old values) item }
+    ensures { result ≡ value_at values.now item }
 {
     values[2 * (item as usize)]
 }
 
 pub fn period_of(values: &[u64], item: u16) -> u64
     requires { 2 * item + 1 < length values.now }
-    ensures { result ≡ period_at (old values) item }
+    ensures { result ≡ period_at values.now item }
 {
     values[2 * (item as usize) + 1]
 }
 
 pub fn give(values: &mut [u64], item: u16, value: u64, period: u64)
     requires { 2 * item + 1 < length values.old }
-    ensures { new values ≡ given (old values) item value period }
+    ensures { values.new ≡ given values.old item value period }
 {
     let k = 2 * (item as usize);
     values[k] = value;
@@ -255,9 +254,9 @@ pub fn place(
     item: u16,
     when: u64,
 )
-    requires { CanPlace (lent elapsed occupied tops heads nexts prevs marks) deadlines.old item when }
-    ensures { PlacesTo (before elapsed occupied tops heads nexts prevs marks) (old deadlines)
-        item when (after elapsed occupied tops heads nexts prevs marks) (new deadlines) }
+    requires { CanPlace (words elapsed occupied.old tops.old heads.old nexts.old prevs.old marks.old) deadlines.old item when }
+    ensures { PlacesTo (words elapsed occupied.old tops.old heads.old nexts.old prevs.old marks.old) deadlines.old
+        item when (words elapsed occupied.new tops.new heads.new nexts.new prevs.new marks.new) deadlines.new }
 {
     if has_slot(elapsed, when) {
         deadlines[item as usize] = when;
@@ -285,9 +284,9 @@ pub fn leave(
     marks: &mut [u16],
     item: u16,
 )
-    requires { CanFree (lent elapsed occupied tops heads nexts prevs marks) turns.old item }
-    ensures { LeavesTo (before elapsed occupied tops heads nexts prevs marks) (old turns)
-        item (after elapsed occupied tops heads nexts prevs marks) (new turns) }
+    requires { CanFree (words elapsed occupied.now tops.old heads.old nexts.old prevs.old marks.old) turns.old item }
+    ensures { LeavesTo (words elapsed occupied.now tops.old heads.old nexts.old prevs.old marks.old) turns.old
+        item (words elapsed occupied.now tops.new heads.new nexts.new prevs.new marks.new) turns.new }
 {
     let turn = turns[item as usize];
     if turn == LAST_TURN {
@@ -331,7 +330,7 @@ pub fn number_of(key: u64) -> u16
 // The pending record that the key names.
 pub fn find(n: u16, turns: &[u64], marks: &[u16], key: u64) -> Found
     requires { (n ≤ length turns.now) × (n ≤ length marks.now) }
-    ensures { FindIs n (old turns) (old marks) key result }
+    ensures { FindIs n turns.now marks.now key result }
 {
     let item = number_of(key);
     if n <= item {

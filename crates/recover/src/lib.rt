@@ -1,11 +1,9 @@
 // Recovery: the bytes of a journal, cut or damaged anywhere, and the store after the steps that are kept. They may come in
 // chunks: `scan` goes over them first and says how far they are kept; `apply` goes over those that are kept.
 ghost use Rattle.std.specs.Prelude.{◌≡◌, cond, ◌+◌, ◌^◌, ◌≤◌, ◌<◌};
-ghost use Rattle.contracts.specs.Lent.{old};
 ghost use Rattle.contracts.specs.Tells.{Tells};
-ghost use Rattle.records.specs.Slices.{Fits, before as slices};
-ghost use Rattle.records.specs.Store.{before, after};
-ghost use Rattle.records.specs.Words.{lent, before as given, after as left, holding, Sound};
+ghost use Rattle.records.specs.Slices.{slices_of, Fits};
+ghost use Rattle.records.specs.Words.{words, parts, holding, Sound};
 ghost use Rattle.recover.specs.Replay.{no_heads, without_store, found, size, ReplayClaim};
 ghost use Rattle.recover.specs.Scan.{Short, NumberOf, live_after, open_after, calls_of, at_start, is_cut, ScanClaim};
 ghost use Rattle.recover.specs.Apply.{Applies};
@@ -107,7 +105,7 @@ fn format_number(
     turns: &[u64],
     marks: &[u16],
 ) -> u64
-    ensures { Short (Fits (slices values deadlines nexts prevs turns marks) n) result }
+    ensures { Short (Fits (slices_of values.now deadlines.now nexts.now prevs.now turns.now marks.now) n) result }
 {
     if n == 0 {
         return refusals::NO_ROOM;
@@ -143,7 +141,7 @@ fn number_of(
     turns: &[u64],
     marks: &[u16],
 ) -> u64
-    ensures { NumberOf (slices values deadlines nexts prevs turns marks) live patch step result }
+    ensures { NumberOf (slices_of values.now deadlines.now nexts.now prevs.now turns.now marks.now) live patch step result }
 {
     match step {
         Step::Asks(call) => match call {
@@ -267,7 +265,7 @@ pub fn scan(
     turns: &[u64],
     marks: &[u16],
 ) -> Seen
-    ensures { ScanClaim (slices values deadlines nexts prevs turns marks) (old bytes) seen result }
+    ensures { ScanClaim (slices_of values.now deadlines.now nexts.now prevs.now turns.now marks.now) bytes.now seen result }
 {
     let ending = seen.ending;
     if !is_cut(ending) {
@@ -342,11 +340,11 @@ fn one(
     until: u64,
 ) -> Held
     requires { Tells (Sound (holding hand until
-        (lent elapsed occupied tops heads values deadlines nexts prevs turns marks))) sound }
+        (parts elapsed occupied.old tops.old heads.old values.old deadlines.old nexts.old prevs.old turns.old marks.old))) sound }
     ensures { MakesKnown step
-        (holding hand until (given elapsed occupied tops heads values deadlines nexts prevs turns marks))
+        (holding hand until (parts elapsed occupied.old tops.old heads.old values.old deadlines.old nexts.old prevs.old turns.old marks.old))
         (holding result.hand result.until
-        (left result.elapsed occupied tops heads values deadlines nexts prevs turns marks)) result.sound }
+        (parts result.elapsed occupied.new tops.new heads.new values.new deadlines.new nexts.new prevs.new turns.new marks.new)) result.sound }
 {
     match step {
         Step::Asks(call) => {
@@ -409,11 +407,11 @@ pub fn apply_parts(
     until: u64,
 ) -> AppliedParts
     requires { Tells (Sound (holding hand until
-        (lent elapsed occupied tops heads values deadlines nexts prevs turns marks))) sound }
-    ensures { Applies (old bytes) (holding hand until
-        (given elapsed occupied tops heads values deadlines nexts prevs turns marks)) result.used
+        (parts elapsed occupied.old tops.old heads.old values.old deadlines.old nexts.old prevs.old turns.old marks.old))) sound }
+    ensures { Applies bytes.now (holding hand until
+        (parts elapsed occupied.old tops.old heads.old values.old deadlines.old nexts.old prevs.old turns.old marks.old)) result.used
         (holding result.hand result.until
-        (left result.elapsed occupied tops heads values deadlines nexts prevs turns marks)) }
+        (parts result.elapsed occupied.new tops.new heads.new values.new deadlines.new nexts.new prevs.new turns.new marks.new)) }
 {
     let mut used: usize = 0;
     let mut e = elapsed;
@@ -459,8 +457,8 @@ pub fn apply(
     turns: &mut [u64],
     marks: &mut [u16],
 ) -> Applied
-    ensures { Applies (old bytes) (before state heads.heads values deadlines nexts prevs turns marks) result.used
-        (after result.state result.heads.heads values deadlines nexts prevs turns marks) }
+    ensures { Applies bytes.now (words state heads.heads values.old deadlines.old nexts.old prevs.old turns.old marks.old) result.used
+        (words result.state result.heads.heads values.new deadlines.new nexts.new prevs.new turns.new marks.new) }
 {
     let mut here = delay_queue::heads_in(heads);
     let sound = judge::is_sound(state, here, values, deadlines, nexts, prevs, turns, marks);
@@ -509,9 +507,9 @@ pub fn replay(
     turns: &mut [u64],
     marks: &mut [u16],
 ) -> Recovered
-    ensures { ReplayClaim (old bytes) (without_store (old values) (old deadlines) (old nexts) (old prevs) (old turns) (old marks))
+    ensures { ReplayClaim bytes.now (without_store values.old deadlines.old nexts.old prevs.old turns.old marks.old)
         (found result.kept result.at result.ending
-        (after result.state result.heads.heads values deadlines nexts prevs turns marks)) }
+        (words result.state result.heads.heads values.new deadlines.new nexts.new prevs.new turns.new marks.new)) }
 {
     let start = unread();
     let s = scan(start, bytes, values, deadlines, nexts, prevs, turns, marks);

@@ -1,10 +1,9 @@
 // Restores a store from the file of a journal, which is read twice: scanned first, and then what is kept of it is applied.
 // Which bytes are read no contract can say. What is claimed: of bytes as many as were counted the scan found what it says,
 // and bytes as many as are kept were applied; the law `restored` says what that means if they were the same.
+ghost use Rattle.records.specs.Words.{words};
 ghost use Rattle.std.specs.Prelude.{◌≡◌, true, ◌≤◌, ◌<◌};
-ghost use Rattle.records.specs.Slices.{before as slices};
-ghost use Rattle.contracts.specs.Lent.{old};
-ghost use Rattle.records.specs.Store.{after};
+ghost use Rattle.records.specs.Slices.{slices_of};
 ghost use Rattle.recover.specs.Replay.{without_store};
 ghost use Rattle.recover.specs.Scan.{is_cut};
 ghost use Rattle.restore.specs.Restore.{is_whole, ScannedSo, AppliedSo};
@@ -33,7 +32,7 @@ pub fn scan_file(
     turns: &[u64],
     marks: &[u16],
 ) -> Scanned
-    ensures { ScannedSo (slices values deadlines nexts prevs turns marks) result.bytes result.seen }
+    ensures { ScannedSo (slices_of values.now deadlines.now nexts.now prevs.now turns.now marks.now) result.bytes result.seen }
 {
     let mut buf = io::large_buffer();
     let mut seen = recover::unread();
@@ -117,8 +116,8 @@ pub fn apply_file(
     marks: &mut [u16],
 ) -> Restored
     ensures { result.fine ≡ true
-        → AppliedSo kept (without_store (old values) (old deadlines) (old nexts) (old prevs) (old turns) (old marks))
-        (after result.state result.heads.heads values deadlines nexts prevs turns marks) }
+        → AppliedSo kept (without_store values.old deadlines.old nexts.old prevs.old turns.old marks.old)
+        (words result.state result.heads.heads values.new deadlines.new nexts.new prevs.new turns.new marks.new) }
 {
     let mut buf = io::large_buffer();
     let mut at: usize = 0;

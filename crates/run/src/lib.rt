@@ -1,10 +1,8 @@
 // A run of commands over one store: it is judged once, and then worked on without judging again.
 ghost use Rattle.std.specs.Prelude.{◌≡◌, ◌≢◌, ◌+◌, ◌≤◌, not, ◌∷◌, [], length};
 ghost use Rattle.links.specs.Lists.{nobody};
-ghost use Rattle.contracts.specs.Lent.{old, new};
 ghost use Rattle.contracts.specs.Tells.{Tells};
-ghost use Rattle.records.specs.Words.{lent, before, after, holding, Sound};
-ghost use Rattle.records.specs.Store.{before as given, after as left};
+ghost use Rattle.records.specs.Words.{words, parts, holding, Sound};
 ghost use Rattle.delay_queue.specs.Claims.{FormatClaim, CallClaim};
 ghost use Rattle.queue.specs.Told.{told};
 ghost use Rattle.promises.specs.OneCall.{is_no};
@@ -119,7 +117,7 @@ pub fn command_of(call: Call) -> [u64; 4]
 // Six words from `at` on.
 fn write_words(to: &mut [u64], at: usize, n: u64, a: u64, b: u64, c: u64, d: u64, e: u64)
     requires { at + 6 ≤ length to.old }
-    ensures { Written at (n ∷ a ∷ b ∷ c ∷ d ∷ e ∷ []) (old to) (new to) }
+    ensures { Written at (n ∷ a ∷ b ∷ c ∷ d ∷ e ∷ []) to.old to.new }
 {
     to[at] = n;
     to[at + 1] = a;
@@ -132,7 +130,7 @@ fn write_words(to: &mut [u64], at: usize, n: u64, a: u64, b: u64, c: u64, d: u64
 // An answer as six words: its number, and its numbers in the papers' order, with 0 behind them.
 fn write_answer(to: &mut [u64], at: usize, answer: Answer)
     requires { at + 6 ≤ length to.old }
-    ensures { Written at (answer_words (told answer)) (old to) (new to) }
+    ensures { Written at (answer_words (told answer)) to.old to.new }
 {
     match answer {
         Answer::Done => write_words(to, at, 0, 0, 0, 0, 0, 0),
@@ -170,9 +168,9 @@ fn formats(
     n: u64,
     turn: u64,
 ) -> ReplyParts
-    ensures { FormatClaim (holding hand until (before elapsed occupied tops heads values deadlines nexts prevs turns marks))
+    ensures { FormatClaim (holding hand until (parts elapsed occupied.old tops.old heads.old values.old deadlines.old nexts.old prevs.old turns.old marks.old))
         n turn result.answer (holding result.hand result.until
-        (after result.elapsed occupied tops heads values deadlines nexts prevs turns marks)) }
+        (parts result.elapsed occupied.new tops.new heads.new values.new deadlines.new nexts.new prevs.new turns.new marks.new)) }
 {
     let number = records::format_no(values, deadlines, nexts, prevs, turns, marks, n, turn);
     if number != 0 {
@@ -227,11 +225,11 @@ fn on_sound(
     until: u64,
     call: Call,
 ) -> ReplyParts
-    requires { Sound (holding hand until (lent elapsed occupied tops heads values deadlines nexts prevs turns marks)) }
+    requires { Sound (holding hand until (parts elapsed occupied.old tops.old heads.old values.old deadlines.old nexts.old prevs.old turns.old marks.old)) }
     ensures { CallClaim call
-        (holding hand until (before elapsed occupied tops heads values deadlines nexts prevs turns marks))
+        (holding hand until (parts elapsed occupied.old tops.old heads.old values.old deadlines.old nexts.old prevs.old turns.old marks.old))
         result.answer (holding result.hand result.until
-        (after result.elapsed occupied tops heads values deadlines nexts prevs turns marks)) }
+        (parts result.elapsed occupied.new tops.new heads.new values.new deadlines.new nexts.new prevs.new turns.new marks.new)) }
 {
     if must_wait(hand, call) {
         return ReplyParts {
@@ -363,10 +361,10 @@ pub fn known(
     call: Call,
 ) -> KnownReply
     requires { Tells (Sound (holding hand until
-        (lent elapsed occupied tops heads values deadlines nexts prevs turns marks))) sound }
-    ensures { Knows call (holding hand until (before elapsed occupied tops heads values deadlines nexts prevs turns marks))
+        (parts elapsed occupied.old tops.old heads.old values.old deadlines.old nexts.old prevs.old turns.old marks.old))) sound }
+    ensures { Knows call (holding hand until (parts elapsed occupied.old tops.old heads.old values.old deadlines.old nexts.old prevs.old turns.old marks.old))
         result.answer (holding result.hand result.until
-        (after result.elapsed occupied tops heads values deadlines nexts prevs turns marks)) result.sound }
+        (parts result.elapsed occupied.new tops.new heads.new values.new deadlines.new nexts.new prevs.new turns.new marks.new)) result.sound }
 {
     if sound {
         let out = on_sound(
@@ -427,10 +425,10 @@ pub fn answer_all(
     answers: &mut [u64],
 ) -> RanParts
     requires { Tells (Sound (holding hand until
-        (lent elapsed occupied tops heads values deadlines nexts prevs turns marks))) sound }
-    ensures { RunKnown (holding hand until (before elapsed occupied tops heads values deadlines nexts prevs turns marks))
-        (old commands) (old answers) result.done result.why (holding result.hand result.until
-        (after result.elapsed occupied tops heads values deadlines nexts prevs turns marks)) (new answers) result.sound }
+        (parts elapsed occupied.old tops.old heads.old values.old deadlines.old nexts.old prevs.old turns.old marks.old))) sound }
+    ensures { RunKnown (holding hand until (parts elapsed occupied.old tops.old heads.old values.old deadlines.old nexts.old prevs.old turns.old marks.old))
+        commands.now answers.old result.done result.why (holding result.hand result.until
+        (parts result.elapsed occupied.new tops.new heads.new values.new deadlines.new nexts.new prevs.new turns.new marks.new)) answers.new result.sound }
 {
     let mut e = elapsed;
     let mut h = hand;
@@ -505,9 +503,9 @@ pub fn run(
     commands: &[u64],
     answers: &mut [u64],
 ) -> Ran
-    ensures { RunClaim (given state heads values deadlines nexts prevs turns marks)
-        (old commands) (old answers) result.done result.why
-        (left result.state result.heads.heads values deadlines nexts prevs turns marks) (new answers) }
+    ensures { RunClaim (words state heads values.old deadlines.old nexts.old prevs.old turns.old marks.old)
+        commands.now answers.old result.done result.why
+        (words result.state result.heads.heads values.new deadlines.new nexts.new prevs.new turns.new marks.new) answers.new }
 {
     let sound = judge::is_sound(state, heads, values, deadlines, nexts, prevs, turns, marks);
     let mut occupied = state.occupied;

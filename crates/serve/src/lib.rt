@@ -3,9 +3,8 @@
 // What is read and written no contract can say: it reads a chunk, has `feed` answer its lines until it is used up, and
 // writes all that was answered after each call, so that nothing waits while it reads. That is a `Serving` of the crate
 // feed, whose law `all_answered` says what is written; of what the loop claims, its law `ran_answers`.
+ghost use Rattle.records.specs.Words.{words};
 ghost use Rattle.std.specs.Prelude.{◌≡◌, true, false, [], ◌≤◌, length, take};
-ghost use Rattle.contracts.specs.Lent.{old, new};
-ghost use Rattle.records.specs.Store.{before, after};
 ghost use Rattle.feed.specs.Feed.{answer_room};
 ghost use Rattle.feed.specs.Serving.{LineAnswered};
 ghost use Rattle.lines.specs.Running.{Passes, Closes, ProgramRan};
@@ -38,7 +37,7 @@ fn show(
     nexts: &[u16],
 ) -> Pen
     requires { at ≤ length out.old }
-    ensures { result.at ≤ length (old out) }
+    ensures { result.at ≤ length out.old }
 {
     let pen = Pen { at, fine };
     if !lists {
@@ -103,13 +102,13 @@ fn answer(
     ensures kept_bound { result.kept ≤ 81 }
     ensures passes { Passes
         (LineAnswered limits)
-        (length (old line))
-        (take run.kept (old line))
-        (old got)
-        (before run.state run.heads.heads values deadlines nexts prevs turns marks)
-        (take result.kept (new line))
+        (length line.old)
+        (take run.kept line.old)
+        got.now
+        (words run.state run.heads.heads values.old deadlines.old nexts.old prevs.old turns.old marks.old)
+        (take result.kept line.new)
         []
-        (after result.state result.heads.heads values deadlines nexts prevs turns marks) }
+        (words result.state result.heads.heads values.new deadlines.new nexts.new prevs.new turns.new marks.new) }
 {
     let lists = run.lists;
     let most = room(lists);
@@ -168,10 +167,10 @@ fn finish(
     requires { (run.kept ≤ 81) × (length line.now ≡ 81) × (length out.old ≡ 4096) }
     ensures { Closes
         (LineAnswered limits)
-        (take run.kept (old line))
-        (before run.state run.heads.heads values deadlines nexts prevs turns marks)
+        (take run.kept line.now)
+        (words run.state run.heads.heads values.old deadlines.old nexts.old prevs.old turns.old marks.old)
         got.ended
-        (after result.state result.heads.heads values deadlines nexts prevs turns marks) }
+        (words result.state result.heads.heads values.new deadlines.new nexts.new prevs.new turns.new marks.new) }
 {
     if !input::at_end(got) {
         io::write_all(STDERR_FILENO, b"replay: cannot read\n");
@@ -248,12 +247,12 @@ fn serve(
     requires { (start.kept ≤ 81) × (length line.old ≡ 81) × (length out.old ≡ 4096) }
     ensures { ProgramRan
         (LineAnswered limits)
-        (length (old line))
-        (take start.kept (old line))
-        (before start.state start.heads.heads values deadlines nexts prevs turns marks)
+        (length line.old)
+        (take start.kept line.old)
+        (words start.state start.heads.heads values.old deadlines.old nexts.old prevs.old turns.old marks.old)
         result.bytes
         result.last.ended
-        (after result.state result.heads.heads values deadlines nexts prevs turns marks) }
+        (words result.state result.heads.heads values.new deadlines.new nexts.new prevs.new turns.new marks.new) }
 {
     let mut buf = io::buffer();
     let mut run = start;

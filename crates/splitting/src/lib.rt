@@ -1,5 +1,4 @@
 // Fields split by one space, for whoever reads lines: where the first ends, and the number that it is.
-ghost use Rattle.contracts.specs.Lent.{old};
 ghost use Rattle.splitting.specs.Fields.{EndsAt, Begins};
 
 use decimals::Num;
@@ -14,7 +13,7 @@ pub enum First {
 
 // Where the first field of s ends: at the first space, or at the end.
 fn field_end(s: &[u8]) -> usize
-    ensures { EndsAt (old s) result }
+    ensures { EndsAt s.now result }
 {
     let mut i = 0;
     while i < s.len() {
@@ -28,7 +27,7 @@ fn field_end(s: &[u8]) -> usize
 
 // The first of the numbers that begin behind a space.
 pub fn first_of(s: &[u8]) -> First
-    ensures { Begins (old s) result }
+    ensures { Begins s.now result }
 {
     let e = field_end(s);
     let x = decimals::number(&s[..e]);

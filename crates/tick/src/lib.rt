@@ -1,7 +1,7 @@
 // The front part of a board that counts milliseconds in 32 bits and starts again at 0: it keeps the 64-bit time. It
 // must be read again before 2^32 ms are over, that is within 49 days and 17 hours: a longer gap cannot be seen.
+ghost use Rattle.records.specs.Words.{words};
 ghost use Rattle.std.specs.Prelude.{◌≡◌};
-ghost use Rattle.records.specs.Store.{before, after};
 ghost use Rattle.tick.specs.Claims.{difference_of, StartClaim, ReadClaim, TickPollClaim, now_of, TickSomeClaim};
 
 use delay_queue::{Reply, unchanged};
@@ -74,9 +74,9 @@ pub fn poll(
     marks: &mut [u16],
     tick: u32,
 ) -> TickReply
-    ensures { TickPollClaim front.time (before state heads values deadlines nexts prevs turns marks)
+    ensures { TickPollClaim front.time (words state heads values.now deadlines.old nexts.old prevs.old turns.old marks.old)
         tick result.reply.answer result.front.time
-        (after result.reply.state result.reply.heads.heads values deadlines nexts prevs turns marks) }
+        (words result.reply.state result.reply.heads.heads values.now deadlines.new nexts.new prevs.new turns.new marks.new) }
 {
     let seen = read(front, tick);
     let answer = seen.answer;
@@ -123,9 +123,9 @@ pub fn poll_some(
     tick: u32,
     limit: u64,
 ) -> TickReply
-    ensures { TickSomeClaim front.time (before state heads values deadlines nexts prevs turns marks)
+    ensures { TickSomeClaim front.time (words state heads values.now deadlines.old nexts.old prevs.old turns.old marks.old)
         tick limit result.reply.answer result.front.time
-        (after result.reply.state result.reply.heads.heads values deadlines nexts prevs turns marks) }
+        (words result.reply.state result.reply.heads.heads values.now deadlines.new nexts.new prevs.new turns.new marks.new) }
 {
     let seen = read(front, tick);
     let answer = seen.answer;

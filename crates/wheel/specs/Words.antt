@@ -1,7 +1,6 @@
 -- The words of this layer, when they are whole, and what a function leaves of them.
 use Rattle.std.specs.Prelude.{◌≡◌, List, [], ◌∷◌, ℕ, ◌≤◌, ◌<◌}
 use Rattle.links.specs.Lists.{nobody, without, change}
-use Rattle.contracts.specs.Lent.{Lent, Returned, old, new}
 use Rattle.places.specs.Places.{slots, places, put}
 use Rattle.places.specs.Words.{PlaceWords, words as place_words_of, count as countIn, mark_of as markIn}
 use Rattle.places.specs.Whole as places
@@ -18,19 +17,6 @@ wheel_words e occ t = record { elapsed = e; occupied = occ; places = t }
 
 abbrev pub words : ℕ → List ℕ → List ℕ → List (List ℕ) → List ℕ → List ℕ → List ℕ → WheelWords
 words e occ tops hh ns ps ms = wheel_words e occ (place_words_of tops hh ns ps ms)
-
--- as the functions have them: in a `requires`, and in an `ensures` at the call and at the return
-module _ (elapsed : ℕ) where
-  module _ (occupied tops : Lent (List ℕ)) (heads : Lent (List (List ℕ))) (nexts prevs marks : Lent (List ℕ)) where
-    abbrev pub lent : WheelWords
-    lent = words elapsed occupied.now tops.now heads.now nexts.now prevs.now marks.now
-
-  module _ (occupied tops : Returned (List ℕ)) (heads : Returned (List (List ℕ))) (nexts prevs marks : Returned (List ℕ)) where
-    abbrev pub before : WheelWords
-    before = words elapsed (old occupied) (old tops) (old heads) (old nexts) (old prevs) (old marks)
-
-    abbrev pub after : WheelWords
-    after = words elapsed (new occupied) (new tops) (new heads) (new nexts) (new prevs) (new marks)
 
 abbrev pub count : WheelWords → ℕ
 count t = countIn t.places

@@ -4,7 +4,6 @@
 // `tops`, `heads`, `nexts`, `prevs` and `marks`. What it only reads, or only names in its contract, is shared.
 ghost use Rattle.std.specs.Prelude.{◌≡◌, ◌-◌, ◌^◌, ◌≤◌, ◌<◌};
 ghost use Rattle.times.specs.Times.{level_of};
-ghost use Rattle.contracts.specs.Lent.{old};
 ghost use Rattle.contracts.specs.Tells.{Tells};
 ghost use Rattle.links.specs.Links.{at};
 ghost use Rattle.places.specs.Places.{slot_place, slots, expired, places};
@@ -13,7 +12,7 @@ ghost use Rattle.places.specs.Words.{tops_of};
 ghost use Rattle.wheel.specs.Wheel.{Lists};
 ghost use Rattle.wheel.specs.Limited.{start};
 ghost use Rattle.wheel.specs.Expiration.{CanLook, Sees, NextIs, CanGo, GoesTo, WakeIs};
-ghost use Rattle.wheel.specs.Words.{lent, before, after, WheelWhole, Arrives, Comes, Pops, Leaves};
+ghost use Rattle.wheel.specs.Words.{words, WheelWhole, Arrives, Comes, Pops, Leaves};
 ghost use Rattle.wheel.specs.Words.{CanAdd, CanPush, CanPop, CanLeave};
 ghost use Rattle.wheel.specs.Judged.{CanJudge};
 ghost use Rattle.wheel.specs.Moves.{CanInsert, CanTake, CanMove, MovesOne, DrainsTo, CanPoll, PollsTo};
@@ -58,9 +57,9 @@ fn add_entry(
     when: u64,
     item: u16,
 )
-    requires { CanAdd (lent elapsed occupied tops heads nexts prevs marks) level item }
-    ensures { Arrives (before elapsed occupied tops heads nexts prevs marks)
-        level when item (after elapsed occupied tops heads nexts prevs marks) }
+    requires { CanAdd (words elapsed occupied.old tops.now heads.old nexts.old prevs.old marks.old) level item }
+    ensures { Arrives (words elapsed occupied.old tops.now heads.old nexts.old prevs.old marks.old)
+        level when item (words elapsed occupied.new tops.now heads.new nexts.new prevs.new marks.new) }
 {
     let slot = times::slot_for(when, level);
     places::push_slot(heads, nexts, prevs, marks, level, slot, item);
@@ -79,9 +78,9 @@ pub fn push(
     place: u16,
     item: u16,
 )
-    requires { CanPush (lent elapsed occupied tops heads nexts prevs marks) place item }
-    ensures { Comes (before elapsed occupied tops heads nexts prevs marks)
-        place item (after elapsed occupied tops heads nexts prevs marks) }
+    requires { CanPush (words elapsed occupied.now tops.old heads.old nexts.old prevs.old marks.old) place item }
+    ensures { Comes (words elapsed occupied.now tops.old heads.old nexts.old prevs.old marks.old)
+        place item (words elapsed occupied.now tops.new heads.new nexts.new prevs.new marks.new) }
 {
     places::push(tops, heads, nexts, prevs, marks, place, item);
 }
@@ -97,9 +96,9 @@ pub fn pop(
     marks: &mut [u16],
     place: u16,
 ) -> u16
-    requires { WheelWhole (lent elapsed occupied tops heads nexts prevs marks) × (slots ≤ place) × (place < places) }
-    ensures { Pops (before elapsed occupied tops heads nexts prevs marks)
-        place result (after elapsed occupied tops heads nexts prevs marks) }
+    requires { WheelWhole (words elapsed occupied.now tops.old heads.old nexts.old prevs.old marks.old) × (slots ≤ place) × (place < places) }
+    ensures { Pops (words elapsed occupied.now tops.old heads.old nexts.old prevs.old marks.old)
+        place result (words elapsed occupied.now tops.new heads.new nexts.new prevs.new marks.new) }
 {
     places::pop(tops, heads, nexts, prevs, marks, place)
 }
@@ -116,9 +115,9 @@ fn pop_entry(
     level: usize,
     slot: usize,
 ) -> u16
-    requires { CanPop (lent elapsed occupied tops heads nexts prevs marks) level slot }
-    ensures { Pops (before elapsed occupied tops heads nexts prevs marks)
-        (slot_place level slot) result (after elapsed occupied tops heads nexts prevs marks) }
+    requires { CanPop (words elapsed occupied.old tops.now heads.old nexts.old prevs.old marks.old) level slot }
+    ensures { Pops (words elapsed occupied.old tops.now heads.old nexts.old prevs.old marks.old)
+        (slot_place level slot) result (words elapsed occupied.new tops.now heads.new nexts.new prevs.new marks.new) }
 {
     let item = places::pop_slot(heads, nexts, prevs, marks, level, slot);
     if item == links::NOBODY {
@@ -142,9 +141,9 @@ pub fn remove(
     marks: &mut [u16],
     item: u16,
 )
-    requires { CanLeave (lent elapsed occupied tops heads nexts prevs marks) item }
-    ensures { Leaves (before elapsed occupied tops heads nexts prevs marks)
-        item (after elapsed occupied tops heads nexts prevs marks) }
+    requires { CanLeave (words elapsed occupied.old tops.old heads.old nexts.old prevs.old marks.old) item }
+    ensures { Leaves (words elapsed occupied.old tops.old heads.old nexts.old prevs.old marks.old)
+        item (words elapsed occupied.new tops.new heads.new nexts.new prevs.new marks.new) }
 {
     let place = marks[item as usize];
     places::remove(tops, heads, nexts, prevs, marks, item);
@@ -164,7 +163,7 @@ pub fn remove(
 // does: read off one of them, that is a u64 in the last block too.
 pub fn next_expiration(elapsed: u64, occupied: &[u64; 6], deadlines: &[u64], parking: u16) -> Next
     requires { CanLook elapsed occupied.now deadlines.now parking }
-    ensures { (L : Lists) → Sees (at (old deadlines)) elapsed (old occupied) parking L → NextIs elapsed L result }
+    ensures { (L : Lists) → Sees (at deadlines.now) elapsed occupied.now parking L → NextIs elapsed L result }
 {
     let mut level: usize = 0;
     while level < times::NUM_LEVELS {
@@ -200,7 +199,7 @@ pub enum Wake {
 // The start of what comes next, if anything does.
 pub fn poll_at(elapsed: u64, occupied: &[u64; 6], deadlines: &[u64], parking: u16) -> Wake
     requires { CanLook elapsed occupied.now deadlines.now parking }
-    ensures { (L : Lists) → Sees (at (old deadlines)) elapsed (old occupied) parking L → WakeIs elapsed L result }
+    ensures { (L : Lists) → Sees (at deadlines.now) elapsed occupied.now parking L → WakeIs elapsed L result }
 {
     let next = next_expiration(elapsed, occupied, deadlines, parking);
     match next {
@@ -221,9 +220,9 @@ pub fn insert(
     when: u64,
     item: u16,
 )
-    requires { CanInsert (lent elapsed occupied tops heads nexts prevs marks) when item }
-    ensures { Arrives (before elapsed occupied tops heads nexts prevs marks)
-        (level_of elapsed when) when item (after elapsed occupied tops heads nexts prevs marks) }
+    requires { CanInsert (words elapsed occupied.old tops.now heads.old nexts.old prevs.old marks.old) when item }
+    ensures { Arrives (words elapsed occupied.old tops.now heads.old nexts.old prevs.old marks.old)
+        (level_of elapsed when) when item (words elapsed occupied.new tops.now heads.new nexts.new prevs.new marks.new) }
 {
     let level = times::level_for(elapsed, when);
     add_entry(
@@ -243,9 +242,9 @@ fn take_entry(
     level: usize,
     slot: usize,
 ) -> u16
-    requires { CanTake (lent elapsed occupied tops heads nexts prevs marks) level slot }
-    ensures { Pops (before elapsed occupied tops heads nexts prevs marks)
-        (slot_place level slot) result (after elapsed occupied tops heads nexts prevs marks) }
+    requires { CanTake (words elapsed occupied.old tops.old heads.old nexts.old prevs.old marks.old) level slot }
+    ensures { Pops (words elapsed occupied.old tops.old heads.old nexts.old prevs.old marks.old)
+        (slot_place level slot) result (words elapsed occupied.new tops.new heads.new nexts.new prevs.new marks.new) }
 {
     if level < times::NUM_LEVELS {
         return pop_entry(
@@ -277,9 +276,9 @@ fn move_entry(
     level: usize,
     slot: usize,
 ) -> u16
-    requires { CanMove (lent elapsed occupied tops heads nexts prevs marks) deadlines.now level slot }
-    ensures { MovesOne (at (old deadlines)) (before elapsed occupied tops heads nexts prevs marks)
-        (level - 1) (slot_place level slot) result (after elapsed occupied tops heads nexts prevs marks) }
+    requires { CanMove (words elapsed occupied.old tops.old heads.old nexts.old prevs.old marks.old) deadlines.now level slot }
+    ensures { MovesOne (at deadlines.now) (words elapsed occupied.old tops.old heads.old nexts.old prevs.old marks.old)
+        (level - 1) (slot_place level slot) result (words elapsed occupied.new tops.new heads.new nexts.new prevs.new marks.new) }
 {
     let item = take_entry(
         elapsed, occupied, tops, heads, nexts, prevs, marks, level, slot,
@@ -318,9 +317,9 @@ fn poll_expiration(
     slot: usize,
     limit: u64,
 ) -> u64
-    requires { CanMove (lent elapsed occupied tops heads nexts prevs marks) deadlines.now level slot }
-    ensures { DrainsTo (at (old deadlines)) (before elapsed occupied tops heads nexts prevs marks)
-        (level - 1) (slot_place level slot) limit result (after elapsed occupied tops heads nexts prevs marks) }
+    requires { CanMove (words elapsed occupied.old tops.old heads.old nexts.old prevs.old marks.old) deadlines.now level slot }
+    ensures { DrainsTo (at deadlines.now) (words elapsed occupied.old tops.old heads.old nexts.old prevs.old marks.old)
+        (level - 1) (slot_place level slot) limit result (words elapsed occupied.new tops.new heads.new nexts.new prevs.new marks.new) }
 {
     let mut left = limit;
     loop {
@@ -351,7 +350,7 @@ fn list_place(level: usize, slot: usize) -> u16
 // The head of that list.
 fn list_head(tops: &[u16; 4], heads: &[[u16; 64]; 6], level: usize, slot: usize) -> u16
     requires { (slot < 64) × (slot_place level slot < expired) }
-    ensures { result ≡ head_of (tops_of (old tops)) (old heads) (slot_place level slot) }
+    ensures { result ≡ head_of (tops_of tops.now) heads.now (slot_place level slot) }
 {
     if level < times::NUM_LEVELS {
         return heads[level][slot];
@@ -384,7 +383,7 @@ pub struct Polled {
 // Where a poll goes on: with the list whose drain is in hand, and if there is none with the first one.
 fn next_list(elapsed: u64, occupied: &[u64; 6], deadlines: &[u64], parking: u16, hand: u16) -> Next
     requires { CanGo elapsed occupied.now deadlines.now parking hand }
-    ensures { GoesTo (at (old deadlines)) elapsed (old occupied) parking hand result }
+    ensures { GoesTo (at deadlines.now) elapsed occupied.now parking hand result }
 {
     if hand == links::NOBODY {
         return next_expiration(elapsed, occupied, deadlines, parking);
@@ -414,9 +413,9 @@ pub fn poll(
     time: u64,
     limit: u64,
 ) -> Polled
-    requires { CanPoll (lent elapsed occupied tops heads nexts prevs marks) deadlines.now hand time }
-    ensures { PollsTo (at (old deadlines)) time limit hand (before elapsed occupied tops heads nexts prevs marks)
-        result.item result.hand result.moves result.drains (after result.elapsed occupied tops heads nexts prevs marks) }
+    requires { CanPoll (words elapsed occupied.old tops.old heads.old nexts.old prevs.old marks.old) deadlines.now hand time }
+    ensures { PollsTo (at deadlines.now) time limit hand (words elapsed occupied.old tops.old heads.old nexts.old prevs.old marks.old)
+        result.item result.hand result.moves result.drains (words result.elapsed occupied.new tops.new heads.new nexts.new prevs.new marks.new) }
 {
     let mut e = elapsed;
     let mut place = hand;
@@ -470,8 +469,8 @@ pub fn is_whole(
     prevs: &[u16],
     marks: &[u16],
 ) -> bool
-    requires { CanJudge (lent elapsed occupied tops heads nexts prevs marks) }
-    ensures { Tells (WheelWhole (before elapsed occupied tops heads nexts prevs marks)) result }
+    requires { CanJudge (words elapsed occupied.now tops.now heads.now nexts.now prevs.now marks.now) }
+    ensures { Tells (WheelWhole (words elapsed occupied.now tops.now heads.now nexts.now prevs.now marks.now)) result }
 {
     let mut left = places::count_of(tops);
     let mut level: usize = 0;

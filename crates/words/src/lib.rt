@@ -1,6 +1,5 @@
 // What crosses to C and Rust as words: an answer as six, why a run or a recovery stopped, a flag, a gauge's light, what an inspector keeps.
 ghost use Rattle.std.specs.Prelude.{◌≡◌};
-ghost use Rattle.contracts.specs.Lent.{old};
 ghost use Rattle.queue.specs.Told.{told};
 ghost use Rattle.run.specs.Groups.{answer_words};
 ghost use Rattle.words.specs.Words.{why_word, refusal_in, ending_words, flag_word};
@@ -50,7 +49,7 @@ pub fn why_of(why: Why) -> u64
 
 // What of an answer decides whether its call is written (`written_as`), from its words: the number of a refusal.
 pub fn refusal_in(words: &[u64; 6]) -> Answer
-    ensures { result ≡ refusal_in (old words) }
+    ensures { result ≡ refusal_in words.now }
 {
     if words[0] == 9 {
         return Answer::No(words[1]);
@@ -134,7 +133,7 @@ pub fn value_of(reading: Reading) -> f64
 // What the lines so far have come to, as words: 0, how many are pending, the clock and the number of lines; or another number, and the number of
 // the first line that was bad.
 pub fn state_of(words: &[u64; 4]) -> State
-    ensures { result ≡ state_of (old words) }
+    ensures { result ≡ state_of words.now }
 {
     if words[0] == 0 {
         return State::Good(words[1] as usize, words[2], words[3]);

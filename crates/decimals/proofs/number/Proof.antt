@@ -39,7 +39,7 @@ returns-4 c =
     let t = c.before.before.before in
     front_odd t.before.loop.invariant t.loop-test.true (λ g. omega arith)
 
-cast-d : tie.Need-overflow-cast-d invariant-loop decreases-loop
+cast-d : tie.Need-overflow_cast-d invariant-loop decreases-loop
 cast-d c = omega arith
 
 sub-if6 : tie.Need-overflow-sub-if6 invariant-loop decreases-loop
@@ -50,13 +50,13 @@ returns-5 c =
     let t = c.before.before.before.before in
     front_big t.before.loop.invariant t.loop-test.true (omega arith)
 
-mul-acc : tie.Need-overflow-mul-acc invariant-loop decreases-loop
+mul-acc : tie.Need-overflow_mul-acc invariant-loop decreases-loop
 mul-acc c = omega arith
 
-add-acc : tie.Need-overflow-add-acc invariant-loop decreases-loop
+add-acc : tie.Need-overflow_add-acc invariant-loop decreases-loop
 add-acc c = omega arith
 
-add-i : tie.Need-overflow-add-i invariant-loop decreases-loop
+add-i : tie.Need-overflow_add-i invariant-loop decreases-loop
 add-i c = omega arith
 
 loop-less : tie.Need-loop-smaller invariant-loop decreases-loop

@@ -8,7 +8,7 @@ use Rattle.row.proofs.clear.Tie as tie
 
 returns : tie.Need-returns
 returns c =
-    ap (bit_xor c.before.args.occupied) c.occupied-bit.ensures
+    ap (bit_xor c.before.args.occupied) c.occupied_bit.ensures
     ∙ xor_clears _ _ c.before.ranges.occupied.fits c.before.requires.0 c.before.requires.1
 
 pub clear_spec : {M : Type 1} → statement M

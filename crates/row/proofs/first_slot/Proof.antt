@@ -6,7 +6,7 @@ use Rattle.row.proofs.laws.Code.{trailing_lowest}
 use Rattle.row.proofs.first_slot.Statement.{statement}
 use Rattle.row.proofs.first_slot.Tie as tie
 
-cast-result : tie.Need-overflow-cast-result
+cast-result : tie.Need-overflow_cast-result
 cast-result c = record { fits = lt_of_le_of_lt (trailing_le 64 _) (omega arith) }
 
 returns : tie.Need-returns

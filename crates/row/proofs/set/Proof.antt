@@ -7,7 +7,7 @@ use Rattle.row.proofs.set.Statement.{statement}
 use Rattle.row.proofs.set.Tie as tie
 
 returns : tie.Need-returns
-returns c = ap (bit_or c.before.args.occupied) c.occupied-bit.ensures ∙ or_sets _ _ c.before.ranges.occupied.fits c.before.requires
+returns c = ap (bit_or c.before.args.occupied) c.occupied_bit.ensures ∙ or_sets _ _ c.before.ranges.occupied.fits c.before.requires
 
 pub set_spec : {M : Type 1} → statement M
 set_spec = tie.close (tie.spec (λ c κs. search rules) returns)

@@ -5,7 +5,7 @@ use Rattle.times.specs.Times.{block_end}
 use Rattle.times.proofs.block_end.Statement.{statement}
 use Rattle.times.proofs.block_end.Tie as tie
 
-mul-result : tie.Need-overflow-mul-result
+mul-result : tie.Need-overflow_mul-result
 unfolding block_end
 mul-result c = record { fits = c.requires }
 

@@ -4,10 +4,10 @@ use Rattle.times.proofs.laws.Levels.{zeros_le, zeros_level}
 use Rattle.times.proofs.level_for.Statement.{statement}
 use Rattle.times.proofs.level_for.Tie as tie
 
-cast-leading-zeros : tie.Need-overflow-cast-leading-zeros
+cast-leading-zeros : tie.Need-overflow_cast-leading_zeros
 cast-leading-zeros c = omega (arith, zeros_le c.args.elapsed c.args.when c.requires)
 
-sub-significant : tie.Need-overflow-sub-significant
+sub-significant : tie.Need-overflow_sub-significant
 sub-significant c = omega (arith, zeros_le c.args.elapsed c.args.when c.requires)
 
 returns : tie.Need-returns

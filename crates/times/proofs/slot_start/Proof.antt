@@ -5,18 +5,18 @@ use Rattle.times.proofs.laws.Starts.{start_laps, start_lt, slots_lt}
 use Rattle.times.proofs.slot_start.Statement.{statement}
 use Rattle.times.proofs.slot_start.Tie as tie
 
-mul-result : tie.Need-overflow-mul-result
+mul-result : tie.Need-overflow_mul-result
 mul-result c = omega (arith, slots_lt _ _ _ c.requires.0 c.requires.1 c.ranges.elapsed.fits)
 
-add-result : tie.Need-overflow-add-result
+add-result : tie.Need-overflow_add-result
 add-result c = record { fits = slots_lt _ _ _ c.requires.0 c.requires.1 c.ranges.elapsed.fits }
 
-mul-result-2 : tie.Need-overflow-mul-result-2
+mul-result-2 : tie.Need-overflow_mul-result-2
 mul-result-2 c =
-    rw c.slot-range.ensures record { fits = start_lt _ _ _ c.before.requires.0 c.before.requires.1 c.before.ranges.elapsed.fits }
+    rw c.slot_range.ensures record { fits = start_lt _ _ _ c.before.requires.0 c.before.requires.1 c.before.ranges.elapsed.fits }
 
 returns : tie.Need-returns
-returns c = rw c.slot-range.ensures (start_laps _ _ _)
+returns c = rw c.slot_range.ensures (start_laps _ _ _)
 
 pub slot_start_spec : {M : Type 1} → statement M
 slot_start_spec =
