@@ -8,14 +8,14 @@ use delay_queue::Call;
 use splitting::First;
 
 // What a line asks: one call, or nothing that the bench knows.
-#[derive(Drop)]
+#[derive(Clone, Copy)]
 pub enum Line {
     Asks(Call),
     Bad,
 }
 
 // The numbers behind a line's letter, of which no call has more than three.
-#[derive(Drop)]
+#[derive(Clone, Copy)]
 enum Fields {
     None,
     One(u64),

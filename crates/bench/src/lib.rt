@@ -10,7 +10,7 @@ use delay_queue::Heads;
 use wheel::Wheel;
 
 // Where the answer ends in what is written, and the state and the heads after it.
-#[derive(Drop)]
+#[derive(Clone, Copy)]
 pub struct LineDone {
     pub at: usize,
     pub state: Wheel,
@@ -95,7 +95,7 @@ pub fn answer_line(
 }
 
 // Where the answer ends in what is written, elapsed and the poll in hand after it, and whether the store is sound then.
-#[derive(Drop)]
+#[derive(Clone, Copy)]
 pub struct Found {
     pub at: usize,
     pub elapsed: u64,

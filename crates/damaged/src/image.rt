@@ -48,7 +48,7 @@ const REST: usize = 481;
 pub type Image = [u64; 482];
 
 // How many calls answered no 2, and how many left every word as it was.
-#[derive(Drop)]
+#[derive(Clone, Copy)]
 struct Seen {
     refused: u64,
     kept: u64,
@@ -240,7 +240,7 @@ fn note_heads(image: &mut Image, heads: &[[u16; 64]; 6]) {
 }
 
 // A slice that is lent in part: where it begins in the row, and how many of its words are lent.
-#[derive(Drop)]
+#[derive(Clone, Copy)]
 struct Part {
     slice: usize,
     size: usize,

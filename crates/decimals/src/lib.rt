@@ -2,7 +2,7 @@
 ghost use Rattle.decimals.specs.Number.{NumberOf};
 
 // What bytes say as a decimal.
-#[derive(Drop)]
+#[derive(Clone, Copy)]
 pub enum Num {
     Is(u64),
     Bad,

@@ -12,7 +12,7 @@ use queue::Answer;
 use wheel::Wheel;
 
 // A call, with its arguments in the papers' order.
-#[derive(Drop)]
+#[derive(Clone, Copy)]
 pub enum Call {
     // N, first turn
     Format(u64, u64),
@@ -32,13 +32,13 @@ pub enum Call {
 }
 
 // The heads of the slots, 64 of each level, as a call hands them back.
-#[derive(Drop)]
+#[derive(Clone, Copy)]
 pub struct Heads {
     pub heads: [[u16; 64]; 6],
 }
 
 // An answer, and the state and the heads after the call.
-#[derive(Drop)]
+#[derive(Clone, Copy)]
 pub struct Reply {
     pub answer: Answer,
     pub state: Wheel,

@@ -9,7 +9,7 @@ ghost use Rattle.entries.specs.Writing.{blank, parts_bytes};
 use delay_queue::Call;
 
 // What is asked of a store that has a journal: a call, or that a patch is opened or closed.
-#[derive(Drop)]
+#[derive(Clone, Copy)]
 pub enum Step {
     Asks(Call),
     Open,
@@ -18,7 +18,7 @@ pub enum Step {
 
 // Where reading stops: at a cut, which is no damage; at a bad kind, a 1 where zero is due, a broken pair, or a step
 // that gets 1, 2 or 13.
-#[derive(Drop)]
+#[derive(Clone, Copy)]
 pub enum Ending {
     Cut,
     Kind,
@@ -28,14 +28,14 @@ pub enum Ending {
 }
 
 // What bytes begin with.
-#[derive(Drop)]
+#[derive(Clone, Copy)]
 pub enum NextStep {
     One(Step),
     Ends(Ending),
 }
 
 // An entry in its parts.
-#[derive(Drop)]
+#[derive(Clone, Copy)]
 pub struct Entry {
     pub kind: u64,
     pub spare: u64,
@@ -45,7 +45,7 @@ pub struct Entry {
 
 // What is written of a step: nothing, an entry by its kind and its fields, or a kind 9 with its fields and the period in
 // the kind 10 behind it.
-#[derive(Drop)]
+#[derive(Clone, Copy)]
 enum Parts {
     Nothing,
     Single(u8, u64, u64),
@@ -53,7 +53,7 @@ enum Parts {
 }
 
 // The first `size` of the bytes count; the others are 0.
-#[derive(Drop)]
+#[derive(Clone, Copy)]
 pub struct Bytes {
     pub size: usize,
     pub bytes: [u8; 36],

@@ -14,7 +14,7 @@ pub const ANSWER_ROOM: usize = 114;
 
 // Where to go on in the chunk, how many bytes of an unfinished line are kept, where the answers end, and the state and
 // the heads after them.
-#[derive(Drop)]
+#[derive(Clone, Copy)]
 pub struct Fed {
     pub next: usize,
     pub kept: usize,
@@ -38,7 +38,7 @@ fn goes(next: usize, len: usize, at: usize, size: usize) -> bool
 
 // Where to go on in the chunk, how many bytes of an unfinished line are kept, where the answers end, elapsed and the poll in
 // hand after them, and whether the store is sound then.
-#[derive(Drop)]
+#[derive(Clone, Copy)]
 struct FedParts {
     next: usize,
     kept: usize,

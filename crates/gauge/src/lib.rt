@@ -9,14 +9,14 @@ use queue::Answer;
 
 // `any` is false until a timer was handed out: the two numbers alone cannot tell a gauge that met no timer from one that
 // met lateness 0.
-#[derive(Drop)]
+#[derive(Clone, Copy)]
 pub struct Gauge {
     pub smoothed: f64,
     pub worst: f64,
     pub any: bool,
 }
 
-#[derive(Drop)]
+#[derive(Clone, Copy)]
 pub enum Light {
     Calm,
     // the smoothed lateness
@@ -26,7 +26,7 @@ pub enum Light {
 }
 
 // What a gauge reads at two limits: its light, or the number of the refusal.
-#[derive(Drop)]
+#[derive(Clone, Copy)]
 pub enum Reading {
     Shows(Light),
     No(u64),

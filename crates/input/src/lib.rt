@@ -6,7 +6,7 @@ ghost use Rattle.io.specs.Counts.{IsPrefixLen};
 use libc::STDIN_FILENO;
 
 // What a read gave: how many bytes, and whether the input has ended. Where it failed, none came and it has not.
-#[derive(Drop)]
+#[derive(Clone, Copy)]
 pub struct Got {
     bytes: usize,
     ended: bool,

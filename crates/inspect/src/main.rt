@@ -10,7 +10,7 @@ use inspector::State;
 use libc::{STDERR_FILENO, STDOUT_FILENO};
 
 // How many bytes of an unfinished line are kept, and what the lines have come to.
-#[derive(Drop)]
+#[derive(Clone, Copy)]
 struct Found {
     kept: usize,
     state: State,
@@ -58,7 +58,7 @@ fn finish(got: Got, line: &[u8], state: State, keys: &mut [u64], deadlines: &mut
 }
 
 // How many bytes were read, what the last read gave, and what the lines have come to then.
-#[derive(Drop)]
+#[derive(Clone, Copy)]
 struct Outcome {
     bytes: usize,
     last: Got,

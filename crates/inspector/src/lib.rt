@@ -11,7 +11,7 @@ use decimals::Num;
 use splitting::First;
 
 // A call with its answer: `i key when`, `s key when`, `r key`, `p now key`, `p now -`.
-#[derive(Drop)]
+#[derive(Clone, Copy)]
 pub enum Entry {
     Insert(u64, u64),
     Reset(u64, u64),
@@ -21,14 +21,14 @@ pub enum Entry {
 }
 
 // What a line says.
-#[derive(Drop)]
+#[derive(Clone, Copy)]
 enum Line {
     Says(Entry),
     Bad,
 }
 
 // What stands behind a line's letter.
-#[derive(Drop)]
+#[derive(Clone, Copy)]
 enum Fields {
     One(u64),
     Two(u64, u64),
@@ -38,14 +38,14 @@ enum Fields {
 }
 
 // How many are pending after an entry, and the clock; or the entry is wrong.
-#[derive(Drop)]
+#[derive(Clone, Copy)]
 enum Taken {
     On(usize, u64),
     Bad,
 }
 
 // What the lines so far have come to.
-#[derive(Drop)]
+#[derive(Clone, Copy)]
 pub enum State {
     // all were right: how many are pending, the clock, and the number of lines
     Good(usize, u64, u64),

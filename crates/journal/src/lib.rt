@@ -14,7 +14,7 @@ use wheel::Wheel;
 
 // The answer, whether a patch is open, the bytes to be written, of which the first `size` count, and the state and the
 // heads after the step.
-#[derive(Drop)]
+#[derive(Clone, Copy)]
 pub struct Acted {
     pub answer: Answer,
     pub patch: bool,

@@ -20,7 +20,7 @@ use wheel::Wheel;
 
 // How many bytes of an unfinished line are kept, whether a patch is open, the store, how far the journal is kept, and
 // whether all went well.
-#[derive(Drop)]
+#[derive(Clone, Copy)]
 struct Progress {
     kept: usize,
     patch: bool,
@@ -191,7 +191,7 @@ fn finish(
 }
 
 // How many bytes were read, what the last read gave, and what is held then.
-#[derive(Drop)]
+#[derive(Clone, Copy)]
 struct Outcome {
     bytes: usize,
     last: Got,
@@ -442,7 +442,7 @@ fn may_cut(fd: i32, seen: Seen, name: &[u8]) -> bool {
 }
 
 // Whether the file may be cut to the length kept, and the store that it holds up to there.
-#[derive(Drop)]
+#[derive(Clone, Copy)]
 struct Start {
     fine: bool,
     kept: usize,

@@ -11,14 +11,14 @@ use libc::STDOUT_FILENO;
 const LAST: u64 = 9223372036854775807;
 
 // A file, and how many bytes of it are written and synced.
-#[derive(Drop)]
+#[derive(Clone, Copy)]
 pub struct Synced {
     file: i32,
     length: u64,
 }
 
 // Whether all went well, and what is kept then.
-#[derive(Drop)]
+#[derive(Clone, Copy)]
 pub struct Keeping {
     pub fine: bool,
     pub kept: Synced,

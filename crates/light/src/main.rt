@@ -14,7 +14,7 @@ use input::Got;
 use libc::{STDERR_FILENO, STDOUT_FILENO};
 
 // What the lines so far have said.
-#[derive(Drop)]
+#[derive(Clone, Copy)]
 enum State {
     Nothing,
     // the slow limit
@@ -25,7 +25,7 @@ enum State {
 }
 
 // How many bytes of an unfinished line are kept, and what the lines have said.
-#[derive(Drop)]
+#[derive(Clone, Copy)]
 struct Found {
     kept: usize,
     state: State,
@@ -176,7 +176,7 @@ fn finish(got: Got, line: &[u8], state: State) -> State
 }
 
 // How many bytes were read, what the last read gave, and what the lines have said then.
-#[derive(Drop)]
+#[derive(Clone, Copy)]
 struct Outcome {
     bytes: usize,
     last: Got,

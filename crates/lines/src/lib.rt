@@ -5,7 +5,7 @@ ghost use Rattle.std.specs.Prelude.{◌≡◌, min};
 ghost use Rattle.lines.specs.Taking.{TakeClaim};
 
 // Where to go on in the chunk, how many bytes of the line are kept now, and whether the line has ended with them.
-#[derive(Drop)]
+#[derive(Clone, Copy)]
 pub struct Taken {
     pub next: usize,
     pub kept: usize,

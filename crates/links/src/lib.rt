@@ -10,7 +10,7 @@ ghost use Rattle.links.specs.Judge.{walk_of, bare, loose_of};
 pub const NOBODY: u16 = 65535;
 
 // What a walk of one list finds: that the list is wrong, or how much room its members leave.
-#[derive(Drop)]
+#[derive(Clone, Copy)]
 pub enum Walk {
     Wrong,
     Left(u16),

@@ -7,7 +7,7 @@ use places::Tops;
 use wheel::Wheel;
 
 // A run of record numbers that rise by one, if there is one.
-#[derive(Drop)]
+#[derive(Clone, Copy)]
 struct Run {
     some: bool,
     first: u16,
@@ -15,7 +15,7 @@ struct Run {
 }
 
 // What is written, and the run that is not yet.
-#[derive(Drop)]
+#[derive(Clone, Copy)]
 struct Held {
     pen: Pen,
     run: Run,
@@ -215,7 +215,7 @@ fn lists(
 }
 
 // What a record holds beside its links.
-#[derive(Drop)]
+#[derive(Clone, Copy)]
 struct Record {
     turn: u64,
     value: u64,
@@ -271,7 +271,7 @@ fn write_records(out: &mut [u8], pen: Pen, first: u16, last: u16, r: Record) -> 
 }
 
 // What is written, and the records that are not yet: from first on, each of which holds the same.
-#[derive(Drop)]
+#[derive(Clone, Copy)]
 struct Alike {
     pen: Pen,
     first: u16,

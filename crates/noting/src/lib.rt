@@ -17,14 +17,14 @@ use wheel::Wheel;
 pub const NOTE_ROOM: usize = 36;
 
 // What a line says.
-#[derive(Drop)]
+#[derive(Clone, Copy)]
 enum Said {
     Is(Step),
     Bad,
 }
 
 // Whether a patch is open, where what is noted ends, where the answers end, and the state and the heads after a line.
-#[derive(Drop)]
+#[derive(Clone, Copy)]
 struct LineDone {
     patch: bool,
     noted: usize,
@@ -34,7 +34,7 @@ struct LineDone {
 }
 
 // The same, and whether there was room: where there was none, nothing is done.
-#[derive(Drop)]
+#[derive(Clone, Copy)]
 pub struct Noted {
     pub done: bool,
     pub patch: bool,
@@ -45,7 +45,7 @@ pub struct Noted {
 }
 
 // Where to go on in the chunk, how many bytes of an unfinished line are kept, and the rest as after a line.
-#[derive(Drop)]
+#[derive(Clone, Copy)]
 pub struct Fed {
     pub next: usize,
     pub kept: usize,

@@ -28,7 +28,7 @@ pub const RETIRED: u16 = 387;
 
 // How many records there are, and the heads of the lists that are no slot, as the caller keeps them. Here they are lent as the four
 // words of `tops`. The heads of the slots are six times 64.
-#[derive(Drop)]
+#[derive(Clone, Copy)]
 pub struct Tops {
     pub n: u16,
     pub expired: u16,
@@ -257,7 +257,7 @@ pub fn pop_slot(
 }
 
 // What a walk of the lists of one level finds, and which of its slots have a head, as a row of flags.
-#[derive(Drop)]
+#[derive(Clone, Copy)]
 pub struct Level {
     pub walk: Walk,
     pub filled: u64,

@@ -12,7 +12,7 @@ ghost use Rattle.wheel.specs.Words.{words as wheeled};
 ghost use Rattle.wheel.specs.Expiration.{CanLook};
 
 // An answer.
-#[derive(Drop)]
+#[derive(Clone, Copy)]
 pub enum Answer {
     // format, reset and clear
     Done,
@@ -39,7 +39,7 @@ pub enum Answer {
 
 // The answer of a poll with elapsed after it, the slot whose drain is in hand and the poll's now: nobody and 0 if it has
 // ended. Of the other calls clear alone changes these: to 0, nobody and 0.
-#[derive(Drop)]
+#[derive(Clone, Copy)]
 pub struct ReplyParts {
     pub answer: Answer,
     pub elapsed: u64,

@@ -24,14 +24,14 @@ pub const LIMIT: u16 = 65535;
 pub const MAX_AGE: u64 = 3_600_000;
 
 // The record that a key names.
-#[derive(Drop)]
+#[derive(Clone, Copy)]
 pub enum Found {
     At(u16),
     Nowhere,
 }
 
 // When a repeating timer is set again.
-#[derive(Drop)]
+#[derive(Clone, Copy)]
 pub enum Again {
     At(u64),
     Never,

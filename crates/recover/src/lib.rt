@@ -14,7 +14,7 @@ use entries::{Ending, NextStep, Step};
 use wheel::Wheel;
 
 // The length kept, where reading stopped and why, and the state and the heads of the store.
-#[derive(Drop)]
+#[derive(Clone, Copy)]
 pub struct Recovered {
     pub kept: usize,
     pub at: usize,
@@ -26,7 +26,7 @@ pub struct Recovered {
 // How far a journal was read: the length kept so far, where the next step stands, how many calls lie between, which are of a
 // patch that is not closed, whether there is a store and a patch is open there, and why nothing more was read. A cut is no
 // damage: more bytes may come.
-#[derive(Drop)]
+#[derive(Clone, Copy)]
 pub struct Seen {
     pub kept: usize,
     pub at: usize,
@@ -37,7 +37,7 @@ pub struct Seen {
 }
 
 // How many bytes were used, and the state and the heads of the store behind them.
-#[derive(Drop)]
+#[derive(Clone, Copy)]
 pub struct Applied {
     pub used: usize,
     pub state: Wheel,
@@ -45,7 +45,7 @@ pub struct Applied {
 }
 
 // Elapsed and the poll in hand of a store, and whether it is sound.
-#[derive(Drop)]
+#[derive(Clone, Copy)]
 struct Held {
     elapsed: u64,
     hand: u16,
@@ -54,7 +54,7 @@ struct Held {
 }
 
 // How many bytes were used, and elapsed and the poll in hand of the store behind them.
-#[derive(Drop)]
+#[derive(Clone, Copy)]
 pub struct AppliedParts {
     pub used: usize,
     pub elapsed: u64,

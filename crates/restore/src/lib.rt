@@ -14,7 +14,7 @@ use recover::Seen;
 use wheel::Wheel;
 
 // How many bytes were seen, what was found in them, and what a read behind them gave.
-#[derive(Drop)]
+#[derive(Clone, Copy)]
 pub struct Scanned {
     pub bytes: usize,
     pub seen: Seen,
@@ -88,7 +88,7 @@ pub fn is_whole(scanned: Scanned) -> bool
 }
 
 // Whether all that is kept was applied, and the state and the heads of the store then.
-#[derive(Drop)]
+#[derive(Clone, Copy)]
 pub struct Restored {
     pub fine: bool,
     pub state: Wheel,

@@ -14,14 +14,14 @@ use queue::{Answer, ReplyParts};
 use wheel::Wheel;
 
 // What four words ask: a call, or nothing that is one.
-#[derive(Drop)]
+#[derive(Clone, Copy)]
 pub enum Group {
     Asks(Call),
     Not,
 }
 
 // An answer with elapsed and the poll in hand after it, and whether the store is sound then.
-#[derive(Drop)]
+#[derive(Clone, Copy)]
 pub struct KnownReply {
     pub answer: Answer,
     pub elapsed: u64,
@@ -31,7 +31,7 @@ pub struct KnownReply {
 }
 
 // Why a run stopped.
-#[derive(Drop)]
+#[derive(Clone, Copy)]
 pub enum Why {
     // fewer than four words are left
     NoWords,
@@ -43,7 +43,7 @@ pub enum Why {
 
 // How many commands were answered and why no more were, elapsed and the poll in hand after them, and whether the store is
 // sound then.
-#[derive(Drop)]
+#[derive(Clone, Copy)]
 pub struct RanParts {
     pub done: usize,
     pub why: Why,
@@ -54,7 +54,7 @@ pub struct RanParts {
 }
 
 // How many commands were answered and why no more were, and the state and the heads after them.
-#[derive(Drop)]
+#[derive(Clone, Copy)]
 pub struct Ran {
     pub done: usize,
     pub why: Why,

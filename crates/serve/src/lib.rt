@@ -17,7 +17,7 @@ use wheel::Wheel;
 
 // Whether each answer is followed by the contents of the lists, how many bytes of an unfinished line are kept, the
 // store, and whether all writes went well.
-#[derive(Drop)]
+#[derive(Clone, Copy)]
 struct Progress {
     lists: bool,
     kept: usize,
@@ -206,7 +206,7 @@ fn finish(
 }
 
 // How many bytes were read, what the last read gave, the store then, and whether all writes went well.
-#[derive(Drop)]
+#[derive(Clone, Copy)]
 struct Outcome {
     bytes: usize,
     last: Got,

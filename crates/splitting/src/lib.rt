@@ -4,7 +4,7 @@ ghost use Rattle.splitting.specs.Fields.{EndsAt, Begins};
 use decimals::Num;
 
 // What numbers begin with: no number, one that is all of them, or one behind which the next begins at that place.
-#[derive(Drop)]
+#[derive(Clone, Copy)]
 pub enum First {
     Only(u64),
     Then(u64, usize),

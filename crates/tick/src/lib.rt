@@ -9,20 +9,20 @@ use queue::Answer;
 use wheel::Wheel;
 
 // The time. A board keeps the last one only.
-#[derive(Drop)]
+#[derive(Clone, Copy)]
 pub struct Front {
     pub time: u64,
 }
 
 // What a reading answers, `ok` or number 10, and the front part after it.
-#[derive(Drop)]
+#[derive(Clone, Copy)]
 pub struct Seen {
     pub answer: Answer,
     pub front: Front,
 }
 
 // What a poll through the front part hands back.
-#[derive(Drop)]
+#[derive(Clone, Copy)]
 pub struct TickReply {
     pub reply: Reply,
     pub front: Front,

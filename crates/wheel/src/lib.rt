@@ -21,7 +21,7 @@ use places::Tops;
 
 // Elapsed, the occupied row of each level, the list layer's state, and the list whose drain is in hand with the now of its
 // poll (nobody and 0 if no poll is), as the caller keeps them.
-#[derive(Drop)]
+#[derive(Clone, Copy)]
 pub struct Wheel {
     pub elapsed: u64,
     pub occupied: [u64; 6],
@@ -31,14 +31,14 @@ pub struct Wheel {
 }
 
 // Indicates when a slot must be processed next. The parking list is told as slot 0 of level 6, where its place would lie.
-#[derive(Drop)]
+#[derive(Clone, Copy)]
 pub struct Expiration {
     pub level: usize,
     pub slot: usize,
     pub deadline: u64,
 }
 
-#[derive(Drop)]
+#[derive(Clone, Copy)]
 pub enum Next {
     At(Expiration),
     Nothing,
@@ -190,7 +190,7 @@ pub fn next_expiration(elapsed: u64, occupied: &[u64; 6], deadlines: &[u64], par
 }
 
 // When the wheel next has something to do.
-#[derive(Drop)]
+#[derive(Clone, Copy)]
 pub enum Wake {
     At(u64),
     Never,
@@ -371,7 +371,7 @@ pub fn list_start(elapsed: u64, place: u16) -> u64
 
 // What a poll hands out, or nobody, its moves and drains, and elapsed after it. With a drain in hand the poll has not ended:
 // `hand` is its list, and else nobody.
-#[derive(Drop)]
+#[derive(Clone, Copy)]
 pub struct Polled {
     pub elapsed: u64,
     pub item: u16,

@@ -1,0 +1,24 @@
+-- `format` meets its claim: refused with its number, or a fresh store (`formats`).
+use mathlib.Core.Path.{refl}
+use native.Mathlib.Omega.{arith}
+use Rattle.delay_queue.specs.Claims.{FormatClaim}
+use Rattle.delay_queue.proofs.laws.Format.{format_refused, format_done}
+use Rattle.delay_queue.proofs.laws.Back.{back}
+use Rattle.delay_queue.proofs.format.Goals as goal
+
+pub returns-then-number-ne0 : goal.returns-then-number-ne0
+returns-then-number-ne0 c =
+    format_refused _ _ _ _ _ _ c.format_no-number.ensures c.if-number-ne0.true c.refused.ensures
+
+pub overflow_cast-n : goal.overflow_cast-n
+overflow_cast-n c =
+    omega (arith, (c.format_no-number.ensures.taken c.if-number-ne0.false).0.few)
+
+pub make-requires : goal.make-requires
+make-requires c =
+    (c.format_no-number.ensures.taken c.if-number-ne0.false).0
+
+pub returns : goal.returns
+returns c =
+    back _ _ _ _ _ _ c.packed.ensures (FormatClaim _ _ _)
+    (format_done _ _ _ c.format_no-number.ensures c.if-number-ne0.false c.make.ensures refl)

@@ -1,0 +1,22 @@
+-- `check`: the kind (`kind_low`, `kind_high`), then the zeros (`zero_missed`).
+use borrow.Author.Tests.{not_true, not-false}
+use mathlib.Core.Path.{sym, ◌∙◌}
+use native.Mathlib.Omega.{arith}
+use Rattle.entries.proofs.laws.Reading.{kind_low, kind_high, zero_missed, no_damage}
+use Rattle.entries.proofs.check.Goals as goal
+
+pub returns-then-e-eq0 : goal.returns-then-e-eq0
+returns-then-e-eq0 c =
+    kind_low _ _ c.if-e-eq0.true
+
+pub returns-then-e-gt11 : goal.returns-then-e-gt11
+returns-then-e-gt11 c =
+    kind_high _ _ (omega (arith, c.if-e-gt11.true))
+
+pub returns-then-not-has_zeros : goal.returns-then-not-has_zeros
+returns-then-not-has_zeros c =
+    zero_missed _ _ c.if-e-eq0.false (omega (arith, c.if-e-gt11.false)) (sym c.has_zeros.ensures ∙ not_true _ c.if-not-has_zeros.true)
+
+pub returns : goal.returns
+returns c =
+    no_damage _ _ c.if-e-eq0.false (omega (arith, c.if-e-gt11.false)) (sym c.has_zeros.ensures ∙ not-false _ c.if-not-has_zeros.false)

@@ -1,0 +1,27 @@
+-- `records_agree` meets its contract: the records passed agree, and one that does not ends it.
+use Prim.Native.Nat.{◌-◌}
+use native.Mathlib.Omega.{arith}
+use borrow.Author.Tests.{not_true, not-false}
+use Rattle.contracts.proofs.laws.Tells.{tells_yes, tells_no}
+use Rattle.judge.proofs.laws.Judge.{record_next}
+use Rattle.judge.proofs.records_agree.Goals as goal
+
+pub loop-i-init : goal.loop-i-init
+loop-i-init c =
+    (omega arith, λ i h. absurd (omega arith))
+
+pub returns-then-not-record_agrees : goal.returns-then-not-record_agrees
+returns-then-not-record_agrees c =
+    tells_no (λ R. c.record_agrees.ensures.no (not_true _ c.if-not-record_agrees.true) (R _ c.loop-i-test.true))
+
+pub loop-i-preserved : goal.loop-i-preserved
+loop-i-preserved c =
+    (
+      omega arith,
+      record_next c.args.deadlines.now c.args.turns.now c.args.marks.now c.loop-i.invariant.1
+          (c.record_agrees.ensures.yes (not-false _ c.if-not-record_agrees.false)),
+    )
+
+pub returns : goal.returns
+returns c =
+    tells_yes (λ i h. c.loop-i.invariant.1 i (omega (arith, h)))

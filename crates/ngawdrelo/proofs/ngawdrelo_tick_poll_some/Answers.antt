@@ -1,0 +1,14 @@
+-- `ngawdrelo_tick_poll_some` meets its claim: the reading decides whether the store is asked (`polled_some`, `some_asks_nothing`).
+use Rattle.tick.proofs.laws.Reading.{not_ok, polled_some}
+use Rattle.ngawdrelo.proofs.laws.Face.{said, some_asks_nothing}
+use Rattle.ngawdrelo.proofs.ngawdrelo_tick_poll_some.Goals as goal
+
+pub returns-in-Done : goal.returns-in-Done
+returns-in-Done c =
+    let F = c.ask.ensures in
+    said F.what F.is (polled_some c.read-seen.ensures c.in-Done.is c.now_of-now.ensures F.holds)
+
+pub returns-in_default : goal.returns-in_default
+returns-in_default c =
+    let r = c.read-seen in
+    said r.result.answer c.words_of.ensures (some_asks_nothing r.result.answer r.ensures (not_ok r.result.answer c.in_default.in_default-own.keys2))

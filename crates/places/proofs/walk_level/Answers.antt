@@ -1,0 +1,27 @@
+-- `walk_level` meets its contract: the slots passed are walked and have their flags (`level_passed`, `level_taken`), or a list is wrong (`level_wrong`).
+use mathlib.Core.Path.{sym, ◌∙◌, subst}
+use Prim.Native.Nat.{◌-◌}
+use native.Mathlib.Omega.{arith}
+use Rattle.places.proofs.laws.Judge.{WalkedSo, level_begun, level_passed, level_taken, level_wrong, level_done}
+use Rattle.places.proofs.walk_level.Goals as goal
+use Rattle.places.proofs.walk_level.Goals.{else-head, then-head}
+
+pub loop-slot-init : goal.loop-slot-init
+loop-slot-init c =
+    level_begun _ _ (omega arith) _
+
+pub returns-in_default : goal.returns-in_default
+returns-in_default c =
+    level_wrong _ _ (omega arith) c.loop-slot.invariant c.loop-slot-test.true c.slot_place.ensures c.walk_list-walk.ensures c.in_default.is
+
+pub loop-slot-preserved : goal.loop-slot-preserved
+loop-slot-preserved c =
+    let S = c.loop-slot.invariant in
+    let h = c.loop-slot-test.true in
+    elim c.if-head.branch [ then-head w ↦ 
+    subst (λ l. WalkedSo _ _ _ _ l _) (sym w.IS0)
+    (level_taken _ _ (omega arith) S h w.slot_place.ensures w.walk_list-walk.ensures w.if-head.true _ w.in-Left.is (w.IS1 ∙ w.set-filled.ensures)) | else-head w ↦ rw (w.IS0, w.IS1) (level_passed _ _ (omega arith) S h w.if-head.false) ]
+
+pub returns : goal.returns
+returns c =
+    level_done _ _ (omega arith) c.loop-slot.invariant c.loop-slot-test.false

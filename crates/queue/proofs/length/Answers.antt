@@ -1,0 +1,22 @@
+-- `length` meets its contract: the count is that of the records passed (`pending_more`, `pending_same`).
+use mathlib.Core.Path.{◌≡◌, sym, ap, ◌∙◌}
+use Prim.Native.Nat.{ℕ, ◌-◌, ◌+◌}
+use native.Mathlib.Omega.{arith}
+use Rattle.queue.specs.Inner.{pending_in}
+use Rattle.queue.proofs.laws.Polls.{pending_zero, pending_more, pending_same}
+use Rattle.queue.proofs.length.Goals as goal
+use Rattle.queue.proofs.length.Goals.{else-is_pending, then-is_pending}
+
+pub loop-i-init : goal.loop-i-init
+loop-i-init c =
+    (omega arith, omega arith, sym (pending_zero _))
+
+pub loop-i-preserved : goal.loop-i-preserved
+loop-i-preserved c =
+    let e = sym c.is_pending.ensures in
+    elim c.if-is_pending.branch [ then-is_pending w ↦ (omega arith, omega arith, w.IS0 ∙ ap (λ (x : ℕ). x + 1) c.loop-i.invariant.2 ∙ sym (pending_more _ _ (e ∙ w.if-is_pending.true))) | else-is_pending w ↦ (omega arith, omega arith, w.IS0 ∙ c.loop-i.invariant.2 ∙ sym (pending_same _ _ (e ∙ w.if-is_pending.false))) ]
+
+pub returns : goal.returns
+returns c =
+    let e : c.loop-i.i ≡ c.args.n = omega arith in
+    c.loop-i.invariant.2 ∙ ap (pending_in _) e

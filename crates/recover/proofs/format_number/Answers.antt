@@ -1,0 +1,19 @@
+-- `format_number`: 1 where N is out of range or a slice is too short.
+use Rattle.recover.proofs.laws.Parts.{not_none, not_many, no_room, fits_so}
+use Rattle.recover.proofs.format_number.Goals as goal
+
+pub returns-then-n-eq0 : goal.returns-then-n-eq0
+returns-then-n-eq0 c =
+    not_none c.if-n-eq0.true
+
+pub returns-then-n : goal.returns-then-n
+returns-then-n c =
+    not_many c.if-n.true
+
+pub returns-then-not-has_room : goal.returns-then-not-has_room
+returns-then-not-has_room c =
+    no_room c.has_room.ensures c.if-not-has_room.true
+
+pub returns : goal.returns
+returns c =
+    fits_so c.if-n-eq0.false c.if-n.false c.has_room.ensures c.if-not-has_room.false

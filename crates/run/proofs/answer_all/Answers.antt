@@ -1,0 +1,66 @@
+-- `answer_all` meets its claim: every step answers one command more (`answered_more`), and it stops for one of three reasons (`stops_short` ..).
+use borrow.Author.Rules.{rules}
+use native.Mathlib.Omega.{arith}
+use mathlib.Core.Path.{refl, ◌∙◌}
+use Prim.Native.Nat.{◌-◌}
+use Rattle.run.proofs.laws.Run.{answered_none, answered_more, stops_short, stops_there, stops_full}
+use Rattle.run.proofs.answer_all.Goals as goal
+
+pub loop-i-init : goal.loop-i-init
+loop-i-init c =
+    (answered_none, c.requires, refl, refl, refl, refl, refl, refl, refl)
+
+pub returns-in_default : goal.returns-in_default
+returns-in_default c =
+    let I = c.loop-i.invariant in
+    record { run = stops_there I.0 (omega (arith, c.loop-i-test.true)) c.call_of-group.ensures c.in_default.is; tells = I.1 }
+
+pub returns-then-room-i : goal.returns-then-room-i
+returns-then-room-i c =
+    let I = c.loop-i.invariant in
+    record {
+      run = stops_full I.0 (omega (arith, c.loop-i-test.true)) c.call_of-group.ensures c.in-Asks.is
+          (omega (arith, c.if-room-i.true));
+      tells = I.1;
+    }
+
+pub overflow_mul-to : goal.overflow_mul-to
+overflow_mul-to c =
+    search rules
+
+pub overflow_add-next : goal.overflow_add-next
+overflow_add-next c =
+    search rules
+
+pub known-said-requires : goal.known-said-requires
+known-said-requires c =
+    c.loop-i.invariant.1
+
+pub write_answer-requires : goal.write_answer-requires
+write_answer-requires c =
+    omega (arith, c.if-room-i.false, c.loop-i.invariant.8)
+
+pub loop-i-smaller : goal.loop-i-smaller
+loop-i-smaller c =
+    omega (arith, c.loop-i-test.true)
+
+pub loop-i-preserved : goal.loop-i-preserved
+loop-i-preserved c =
+    let I = c.loop-i.invariant in
+    let six = c.known-said.kept.1.1.1.1.1 in (
+      answered_more I.0 (omega (arith, c.loop-i-test.true)) c.call_of-group.ensures c.in-Asks.is c.known-said.ensures
+          c.write_answer.ensures (omega (arith, c.if-room-i.false)),
+      c.known-said.ensures.tells,
+      six.0 ∙ I.2,
+      six.1.0 ∙ I.3,
+      six.1.1.0 ∙ I.4,
+      six.1.1.1.0 ∙ I.5,
+      six.1.1.1.1.0 ∙ I.6,
+      six.1.1.1.1.1.0 ∙ I.7,
+      c.write_answer.kept.0 ∙ I.8,
+    )
+
+pub returns : goal.returns
+returns c =
+    let I = c.loop-i.invariant in
+    record { run = stops_short I.0 refl (omega (arith, c.loop-i-test.false)); tells = I.1 }
