@@ -6,34 +6,34 @@ use Rattle.queue.proofs.insert.Goals as goal
 
 pub returns-then-first_free-eq-NOBODY : goal.returns-then-first_free-eq-NOBODY
 returns-then-first_free-eq-NOBODY c =
-    λ tie.Need-returns returns c. insert_full c.requires refl _ _ _ (sym c.first_free.ensures ∙ c.if-first_free-eq-NOBODY.true)
+    insert_full c.requires refl _ _ _ (sym c.first_free.ensures ∙ c.if-first_free-eq-NOBODY.true)
 
 pub returns-then-no-ne0 : goal.returns-then-no-ne0
 returns-then-no-ne0 c =
-    λ tie.Need-returns-2 returns-2 c. insert_refused c.requires refl _ _ _ (some c) c.deadline_no-no.ensures c.if-no-ne0.true
+    insert_refused c.requires refl _ _ _ (some c) c.deadline_no-no.ensures c.if-no-ne0.true
 
 pub pop-item-requires : goal.pop-item-requires
 pop-item-requires c =
-    λ tie.Need-pop-requires pop-requires c. (c.requires.standing.whole, omega arith, omega arith)
+    (c.requires.standing.whole, omega arith, omega arith)
 
 pub give-requires : goal.give-requires
 give-requires c =
-    λ tie.Need-give-requires give-requires c. (words c).0
+    (words c).0
 
 pub bounds-turns-item : goal.bounds-turns-item
 bounds-turns-item c =
-    λ tie.Need-shared-slice-read-key-of shared-slice-read-key-of c. (words c).1
+    (words c).1
 
 pub key_of-key-requires : goal.key_of-key-requires
 key_of-key-requires c =
-    λ tie.Need-key-of-requires key-of-requires c. (words c).2
+    (words c).2
 
 pub place-requires : goal.place-requires
 place-requires c =
-    λ tie.Need-place-requires place-requires c. insert_place c.requires refl 0 _ 0 (some c) c.deadline_no-no.ensures c.if-no-ne0.false c.pop-item.ensures
+    insert_place c.requires refl 0 _ 0 (some c) c.deadline_no-no.ensures c.if-no-ne0.false c.pop-item.ensures
 
 pub returns : goal.returns
 returns c =
-    λ tie.Need-returns-3 returns-3 c. rw c.give.ensures
+    rw c.give.ensures
     (insert_done c.requires refl _ _ _ (some c) c.deadline_no-no.ensures c.if-no-ne0.false
     c.pop-item.ensures _ c.key_of-key.ensures c.place.ensures)
