@@ -1,4 +1,6 @@
 // Any call of the queue, by one function.
+#![tactic(auto)]
+
 ghost use Rattle.records.specs.Words.{words};
 ghost use Rattle.delay_queue.specs.Claims.{CallClaim};
 

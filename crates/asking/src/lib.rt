@@ -1,4 +1,6 @@
 // Lines to calls.
+#![tactic(auto)]
+
 ghost use Rattle.std.specs.Prelude.{◌≡◌, ◌∷◌};
 ghost use Rattle.asking.specs.Text.{ReadClaim};
 ghost use Rattle.asking.specs.Parts.{Holds, in_front, call_of};

@@ -1,6 +1,8 @@
 // An arm that sleeps from wake to wake: it asks when to look, sleeps until then, and looks. Nothing is lost by that, nothing comes
 // out late, and after at most as many looks as the heights and the timers come to nothing is pending (`asleep`, `on_time` and
 // `wakes_all` of crate promises). How a store is lent is shown by `morning`.
+#![tactic(auto)]
+
 ghost use Rattle.std.specs.Prelude.{◌≤◌};
 
 use delay_queue::{Reply, format, insert, next_wake, no_store, poll};

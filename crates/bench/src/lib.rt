@@ -1,4 +1,6 @@
 // One line of the bench: it is read, asked of the store, and answered with a line.
+#![tactic(auto)]
+
 ghost use Rattle.contracts.specs.Tells.{Tells};
 ghost use Rattle.records.specs.Words.{words, parts, holding, Sound};
 ghost use Rattle.bench.specs.Line.{LineClaim};

@@ -1,6 +1,8 @@
 // A morning on an old board, whose tick counts milliseconds in 32 bits and starts again at 0 while the first cow is
 // milked. The board hands its raw tick to `tick::poll`, or to `tick::poll_some` where the arm must not wait for long, and
 // counts its deadlines from the front part's time. How a store is lent is shown by `morning`.
+#![tactic(auto)]
+
 use delay_queue::{Reply, format, insert, no_store};
 use libc::STDOUT_FILENO;
 use queue::Answer;

@@ -1,5 +1,7 @@
 // The contents of a store's lists as one line: `# e=64 x=[2] 0.6=[0,1]` is elapsed, the expired stack, and LEVEL.SLOT with the
 // records in it, head first. What lies in the lists is tested here and not asked for, so a broken store has its line too.
+#![tactic(auto)]
+
 ghost use Rattle.std.specs.Prelude.{◌≤◌, length};
 
 use pen::Pen;

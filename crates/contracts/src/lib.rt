@@ -1,1 +1,2 @@
 // Words that the contracts of all crates use: see specs/.
+#![tactic(auto)]

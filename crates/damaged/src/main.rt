@@ -1,6 +1,8 @@
 // What the calls do with a damaged store. Of a store of nine records one word is changed, or a slice is too short, and the eight
 // calls but format are asked, each of the store so changed. What is not sound gets no 2 from all eight, which change no word; what
 // is still sound gets it from none, and all but next wake and length change words. While a poll is in hand clear alone does.
+#![tactic(auto)]
+
 mod image;
 
 use image::{

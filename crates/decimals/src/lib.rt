@@ -1,4 +1,6 @@
 // Decimals of the bench: the reading of one. What decimals and fields are stands in specs/, their laws in proofs/laws/.
+#![tactic(auto)]
+
 ghost use Rattle.decimals.specs.Number.{NumberOf};
 
 // What bytes say as a decimal.

@@ -1,4 +1,6 @@
 // The delay queue: what users call. Whoever lends whatever gets an answer; an unsound store gets number 2 from every call but format.
+#![tactic(auto)]
+
 ghost use Rattle.records.specs.Words.{words};
 ghost use Rattle.std.specs.Prelude.{◌≡◌};
 ghost use Rattle.records.specs.Store.{wheel_of};

@@ -1,4 +1,6 @@
 // Entries of the journal: the bytes of a step, and what bytes say.
+#![tactic(auto)]
+
 ghost use Rattle.std.specs.Prelude.{◌≡◌, [], ◌+◌, ◌≤◌, ◌<◌, length, drop};
 ghost use Rattle.writing.specs.Writing.{Wrote, power};
 ghost use Rattle.entries.specs.Entries.{bytes_of, entry, insert_bytes, step_bytes};

@@ -1,4 +1,6 @@
 // The bench over what was read: the lines of a chunk are answered one after the other, as far as the output has room.
+#![tactic(auto)]
+
 ghost use Rattle.std.specs.Prelude.{◌+◌, ◌≤◌, ◌<◌};
 ghost use Rattle.contracts.specs.Tells.{Tells};
 ghost use Rattle.records.specs.Words.{words, parts, holding, Sound};

@@ -1,4 +1,6 @@
 // How late the timers are that are handed out: smoothed and worst, both f64, and the light that they give.
+#![tactic(auto)]
+
 ghost use Rattle.std.specs.Prelude.{◌≡◌, not, min};
 ghost use Rattle.queue.specs.Told.{told};
 ghost use Rattle.gauge.specs.Gauge.{zeros, most, float_of, lateness, noted, AnswerClaim};

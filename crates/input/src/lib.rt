@@ -1,5 +1,7 @@
 // Reads standard input, or a file from a place on, for every program that reads to the end. Which bytes come no contract can
 // say; but that they have ended only a read can tell, since no other crate can make a `Got`.
+#![tactic(auto)]
+
 ghost use Rattle.std.specs.Prelude.{◌≡◌, false, ◌<◌, ◌^◌};
 ghost use Rattle.io.specs.Counts.{IsPrefixLen};
 

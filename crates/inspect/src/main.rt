@@ -1,5 +1,7 @@
 // Checks another machine's log. Reads its lines, and when the input has ended writes `ok`, or `bad` and the number of
 // the first bad line.
+#![tactic(auto)]
+
 ghost use Rattle.std.specs.Prelude.{◌≡◌, [], length};
 ghost use Rattle.lines.specs.Running.{Chunk, Closes, ProgramRan};
 ghost use Rattle.inspector.specs.Words.{words, Inspected};

@@ -1,5 +1,7 @@
 // Another machine's log, line by line. A line is a call with its answer, and is held to what the lines before it left
 // pending.
+#![tactic(auto)]
+
 ghost use Rattle.std.specs.Prelude.{◌≡◌, ◌∷◌, ◌+◌, ◌-◌, ◌≤◌, ◌<◌, min, max, length, drop};
 ghost use Rattle.std.proofs.Math.Seq.{paste};
 ghost use Rattle.contracts.specs.Tells.{Tells};

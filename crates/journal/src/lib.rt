@@ -1,4 +1,6 @@
 // A store with its journal: a step acts, and leaves the bytes to be written before its answer is given.
+#![tactic(auto)]
+
 ghost use Rattle.records.specs.Words.{words};
 ghost use Rattle.std.specs.Prelude.{◌≡◌, cond};
 ghost use Rattle.queue.specs.Told.{told};

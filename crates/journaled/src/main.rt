@@ -4,6 +4,8 @@
 // written to FILE and synced, one sync for all of them, and only then are their answers given; where that fails, none
 // is, and the program ends. Which answers these are, and that the journal has grown by what the lines write to it, is
 // claimed; not what is written.
+#![tactic(auto)]
+
 ghost use Rattle.records.specs.Words.{words};
 ghost use Rattle.std.specs.Prelude.{◌≡◌, true, [], ◌+◌, ◌≤◌, ◌<◌, length, take};
 ghost use Rattle.contracts.specs.Tells.{Tells};

@@ -1,4 +1,6 @@
 // Whether a store is sound: what every call but format judges first.
+#![tactic(auto)]
+
 ghost use Rattle.std.specs.Prelude.{◌≤◌, ◌<◌, length};
 ghost use Rattle.contracts.specs.Tells.{Tells};
 ghost use Rattle.records.specs.Words.{words, parts, Sound, holding};

@@ -2,6 +2,8 @@
 // answers are given only behind what they need of it. What is written no contract can say; but how much of a file is
 // kept only a sync can tell, since no other crate can make a `Synced`, and without one that goes far enough there is no
 // answer.
+#![tactic(auto)]
+
 ghost use Rattle.std.specs.Prelude.{◌+◌, ◌≤◌, length};
 ghost use Rattle.keeping.specs.Keeping.{KeepsFile};
 

@@ -1,4 +1,6 @@
 // How a claim is cited: code that lends a store, with a contract of its own that follows from the claims of the calls it makes.
+#![tactic(auto)]
+
 ghost use Rattle.records.specs.Words.{words};
 ghost use Rattle.lending.specs.Lending.{CancelsTwice};
 

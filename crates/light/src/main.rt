@@ -1,5 +1,7 @@
 // How late are we running? Reads decimals, one a line: the slow limit, the late limit, and latenesses. When the input has
 // ended it writes the light's word and the bits of smoothed and worst, or `bad`.
+#![tactic(auto)]
+
 ghost use Rattle.std.specs.Prelude.{◌≡◌, cond, [], ◌++◌, ◌+◌, ◌≤◌, ◌<◌, length};
 ghost use Rattle.decimals.specs.Text.{bytes};
 ghost use Rattle.lines.specs.Running.{Chunk, Closes, ProgramRan};

@@ -1,6 +1,8 @@
 // Lines, cut out of an input that comes in chunks. A caller lends a line's room: what is kept of a line that has not
 // ended stands at its front, and of a longer line no more than it holds. So a line that fills it is too long for one
 // byte less.
+#![tactic(auto)]
+
 ghost use Rattle.std.specs.Prelude.{◌≡◌, min};
 ghost use Rattle.lines.specs.Taking.{TakeClaim};
 

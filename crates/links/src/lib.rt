@@ -1,5 +1,7 @@
 // The links of the records: doubly linked lists of record numbers in lent slices. The heads are the caller's. A list keeps its tail in
 // its head's back link, so that a list of one names itself there.
+#![tactic(auto)]
+
 ghost use Rattle.std.specs.Prelude.{◌≡◌, cond, ◌<◌, length, set, eqb};
 ghost use Rattle.links.specs.Family.{tail_or};
 ghost use Rattle.links.specs.Links.{links, at, set_n, between, joined, added, head_with, cut_out, head_after};

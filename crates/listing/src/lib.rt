@@ -1,5 +1,7 @@
 // A store as text: its free and retired records in runs, the lists where timers wait, and every record. What lies in the
 // lists is tested here and not asked for, so a broken store has its text too.
+#![tactic(auto)]
+
 ghost use Rattle.std.specs.Prelude.{◌≤◌, ◌<◌, length};
 
 use pen::Pen;

@@ -1,6 +1,8 @@
 // A milking arm's morning: how to lend a store. The store lies in six arrays that we make; its state and its slot heads go into
 // each call by value and come back with the answer. No call requires anything of us, so there is nothing to prove about the
 // store: what is wrong gets a number, and changes nothing.
+#![tactic(auto)]
+
 use delay_queue::{Reply, format, insert, next_wake, no_store, poll, remove};
 use libc::STDOUT_FILENO;
 use queue::Answer;

@@ -1,6 +1,8 @@
 // The queue as C and Rust call it. A store is what the caller keeps of it, each part lent by its address: elapsed, the occupied bits, n with
 // the heads of three lists, the poll in hand and its time, the heads of the slots, and six slices, each a pointer and a length. Where n is 0
 // there is no store, so memory that is all 0 holds none. An answer is six words: a kind, and numbers.
+#![tactic(auto)]
+
 ghost use Rattle.std.specs.Prelude.{◌≡◌, ◌∷◌, []};
 ghost use Rattle.contracts.specs.Tells.{Tells};
 ghost use Rattle.records.specs.Words.{parts, Sound, holding};

@@ -1,5 +1,7 @@
 // The bench with a journal: a line is done, what it writes to the journal is noted, and its answer is written behind
 // the others. What is noted is to be kept before the answers are given (crate keeping).
+#![tactic(auto)]
+
 ghost use Rattle.records.specs.Words.{words};
 ghost use Rattle.std.specs.Prelude.{◌≡◌, true, false, [], ◌∷◌, ◌+◌, ◌≤◌, ◌<◌, length};
 ghost use Rattle.contracts.specs.Tells.{Tells};

@@ -1,5 +1,7 @@
 // Text that is written to standard output by way of a room that is lent: what waits in it is written where it is full, and
 // by whoever lent it at the end.
+#![tactic(auto)]
+
 ghost use Rattle.std.specs.Prelude.{◌≤◌, length};
 
 use libc::STDOUT_FILENO;

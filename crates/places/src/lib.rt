@@ -1,4 +1,6 @@
 // The lists of the places: the slots of the six levels, the parking list, the expired stack and the free list.
+#![tactic(auto)]
+
 ghost use Rattle.std.specs.Prelude.{◌≡◌, ◌<◌, ltb};
 ghost use Rattle.links.specs.Links.{links, Room};
 ghost use Rattle.places.specs.Places.{slots, free, places, slot_place, level_at, slot_at};

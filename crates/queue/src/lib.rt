@@ -1,4 +1,6 @@
 // The delay queue on a sound store: records, keys and turns over the wheel.
+#![tactic(auto)]
+
 ghost use Rattle.std.specs.Prelude.{◌≡◌, ℕ, ◌≤◌, ◌<◌, length};
 ghost use Rattle.records.specs.Words.{parts, holding, count, Standing, SoundBut, Sound};
 ghost use Rattle.queue.specs.Calls.{InsertOn, ResetOn, RemoveOn, PollsOn, ClearOn};

@@ -1,5 +1,7 @@
 // Records in lent slices: whether there is room for them and how all of them are made, their values, keys and turns, where a
 // deadline may lie, and how one joins the wheel or leaves the store.
+#![tactic(auto)]
+
 ghost use Rattle.std.specs.Prelude.{◌≡◌, ◌+◌, ◌*◌, ◌^◌, ◌≤◌, ◌<◌, max, length};
 ghost use Rattle.contracts.specs.Tells.{Tells};
 ghost use Rattle.places.specs.Places.{slots, free};

@@ -1,5 +1,7 @@
 // Recovery: the bytes of a journal, cut or damaged anywhere, and the store after the steps that are kept. They may come in
 // chunks: `scan` goes over them first and says how far they are kept; `apply` goes over those that are kept.
+#![tactic(auto)]
+
 ghost use Rattle.std.specs.Prelude.{◌≡◌, cond, ◌+◌, ◌^◌, ◌≤◌, ◌<◌};
 ghost use Rattle.contracts.specs.Tells.{Tells};
 ghost use Rattle.records.specs.Slices.{slices_of, Fits};

@@ -1,5 +1,7 @@
 // What the file of a journal holds: `recovered FILE` writes the length kept, the damage and the store, and changes nothing. A
 // file that cannot be read is told on standard error, and nothing is written.
+#![tactic(auto)]
+
 ghost use Rattle.std.specs.Prelude.{◌≡◌, length};
 
 use entries::Ending;

@@ -1,4 +1,5 @@
 // The numbers of the refusals. A call that answers one has changed nothing.
+#![tactic(auto)]
 
 // Format: N is out of range, or a lent slice is too short for it.
 pub const NO_ROOM: u64 = 1;

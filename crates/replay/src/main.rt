@@ -1,3 +1,5 @@
+#![tactic(auto)]
+
 // The replay bench: standard input to its end, each line answered with one.
 fn main() {
     serve::replay();

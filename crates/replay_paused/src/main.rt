@@ -1,3 +1,5 @@
+#![tactic(auto)]
+
 // The replay bench with one line more, of a poll with a limit: `q now limit`.
 fn main() {
     serve::replay_paused();

@@ -1,6 +1,8 @@
 // Restores a store from the file of a journal, which is read twice: scanned first, and then what is kept of it is applied.
 // Which bytes are read no contract can say. What is claimed: of bytes as many as were counted the scan found what it says,
 // and bytes as many as are kept were applied; the law `restored` says what that means if they were the same.
+#![tactic(auto)]
+
 ghost use Rattle.records.specs.Words.{words};
 ghost use Rattle.std.specs.Prelude.{◌≡◌, true, ◌≤◌, ◌<◌};
 ghost use Rattle.records.specs.Slices.{slices_of};

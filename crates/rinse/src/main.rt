@@ -1,6 +1,8 @@
 // The rinse pump, which runs every 40 minutes: a timer that repeats. It is set once. Each poll that hands it out sets it
 // again under the same key, so that this key cancels it whenever that is. How a store is lent is shown by `morning`;
 // here one function lends it, for any call.
+#![tactic(auto)]
+
 use delay_queue::{Call, Reply, format, no_store};
 use libc::STDOUT_FILENO;
 use queue::Answer;

@@ -1,4 +1,6 @@
 // The occupied row of a level: a u64 as 64 flags, the least significant bit for slot 0.
+#![tactic(auto)]
+
 ghost use Rattle.std.specs.Prelude.{◌≡◌, true, false, ◌^◌, ◌<◌};
 ghost use Rattle.row.specs.Row.{flag_at, row_of, flagged, Lowest};
 

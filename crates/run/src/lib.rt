@@ -1,4 +1,6 @@
 // A run of commands over one store: it is judged once, and then worked on without judging again.
+#![tactic(auto)]
+
 ghost use Rattle.std.specs.Prelude.{◌≡◌, ◌≢◌, ◌+◌, ◌≤◌, not, ◌∷◌, [], length};
 ghost use Rattle.links.specs.Lists.{nobody};
 ghost use Rattle.contracts.specs.Tells.{Tells};

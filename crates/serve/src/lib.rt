@@ -3,6 +3,8 @@
 // What is read and written no contract can say: it reads a chunk, has `feed` answer its lines until it is used up, and
 // writes all that was answered after each call, so that nothing waits while it reads. That is a `Serving` of the crate
 // feed, whose law `all_answered` says what is written; of what the loop claims, its law `ran_answers`.
+#![tactic(auto)]
+
 ghost use Rattle.records.specs.Words.{words};
 ghost use Rattle.std.specs.Prelude.{◌≡◌, true, false, [], ◌≤◌, length, take};
 ghost use Rattle.feed.specs.Feed.{answer_room};

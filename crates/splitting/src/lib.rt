@@ -1,4 +1,6 @@
 // Fields split by one space, for whoever reads lines: where the first ends, and the number that it is.
+#![tactic(auto)]
+
 ghost use Rattle.splitting.specs.Fields.{EndsAt, Begins};
 
 use decimals::Num;

@@ -1,5 +1,7 @@
 // The front part of a board that counts milliseconds in 32 bits and starts again at 0: it keeps the 64-bit time. It
 // must be read again before 2^32 ms are over, that is within 49 days and 17 hours: a longer gap cannot be seen.
+#![tactic(auto)]
+
 ghost use Rattle.records.specs.Words.{words};
 ghost use Rattle.std.specs.Prelude.{◌≡◌};
 ghost use Rattle.tick.specs.Claims.{difference_of, StartClaim, ReadClaim, TickPollClaim, now_of, TickSomeClaim};

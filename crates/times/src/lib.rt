@@ -1,4 +1,6 @@
 // The wheel's times: the widths of the six levels, slots and their starts, the level of a deadline, and how far ahead one may lie.
+#![tactic(auto)]
+
 ghost use Rattle.std.specs.Prelude.{◌≡◌, ◌+◌, ◌-◌, ◌^◌, ◌<◌, eqb, ltb};
 ghost use Rattle.times.specs.Times.{width, slot_of, start_at, level_of, floor, max_duration, block, block_end};
 

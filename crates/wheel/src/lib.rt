@@ -2,6 +2,8 @@
 //
 // A function is lent the wheel in parts, always in this order: elapsed, the occupied row of each level, and the list layer's
 // `tops`, `heads`, `nexts`, `prevs` and `marks`. What it only reads, or only names in its contract, is shared.
+#![tactic(auto)]
+
 ghost use Rattle.std.specs.Prelude.{◌≡◌, ◌-◌, ◌^◌, ◌≤◌, ◌<◌};
 ghost use Rattle.times.specs.Times.{level_of};
 ghost use Rattle.contracts.specs.Tells.{Tells};

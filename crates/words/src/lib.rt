@@ -1,4 +1,6 @@
 // What crosses to C and Rust as words: an answer as six, why a run or a recovery stopped, a flag, a gauge's light, what an inspector keeps.
+#![tactic(auto)]
+
 ghost use Rattle.std.specs.Prelude.{◌≡◌};
 ghost use Rattle.queue.specs.Told.{told};
 ghost use Rattle.run.specs.Groups.{answer_words};

@@ -1,4 +1,6 @@
 // Bytes that are written behind others into a slice that is lent.
+#![tactic(auto)]
+
 ghost use Rattle.std.specs.Prelude.{◌+◌, ◌≤◌, length};
 ghost use Rattle.writing.specs.Writing.{Wrote};
 

@@ -10,4 +10,4 @@ put-requires c =
 pub returns : goal.returns
 unfolding head_with
 returns c =
-    record { value = c.choose.ensures;  marks_value = add_is _ _ _ _ _ c.tail_or.ensures c.put.ensures c.enter.ensures.prevs_value c.enter.ensures.marks_value }
+    record { value = c.choose.ensures; marks_value = add_is _ _ _ _ _ c.tail_or.ensures c.put.ensures c.enter.ensures.prevs_value c.enter.ensures.marks_value }

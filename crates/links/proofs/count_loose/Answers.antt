@@ -13,12 +13,15 @@ loop-i-init c =
 
 pub loop-i-preserved : goal.loop-i-preserved
 loop-i-preserved c =
-    elim c.if-is_loose.branch [ then-is_loose w ↦ (
-      omega arith,
-      omega arith,
-      w.count-is ∙ ap (λ (x : ℕ). x + 1) c.loop-i.invariant.2
-          ∙ sym (loose_more _ _ _ _ _ (sym c.is_loose.ensures ∙ w.if-is_loose.true)),
-    ) | else-is_loose w ↦ (omega arith, omega arith, w.count-is ∙ c.loop-i.invariant.2 ∙ sym (loose_same _ _ _ _ _ (sym c.is_loose.ensures ∙ w.if-is_loose.false))) ]
+    elim c.if-is_loose.branch [
+      | then-is_loose w ↦ (
+        omega arith,
+        omega arith,
+        w.count-is ∙ ap (λ (x : ℕ). x + 1) c.loop-i.invariant.2
+            ∙ sym (loose_more _ _ _ _ _ (sym c.is_loose.ensures ∙ w.if-is_loose.true)),
+      )
+      | else-is_loose w ↦ (omega arith, omega arith, w.count-is ∙ c.loop-i.invariant.2 ∙ sym (loose_same _ _ _ _ _ (sym c.is_loose.ensures ∙ w.if-is_loose.false)))
+    ]
 
 pub returns : goal.returns
 returns c =

@@ -14,4 +14,4 @@ put-requires-2 c =
 pub returns : goal.returns
 unfolding head_after
 returns c =
-    record { value = c.choose-first.ensures;  marks_value = cut_is _ _ _ c.choose-first.ensures c.choose.ensures c.choose-2.ensures c.put.ensures c.put-2.ensures }
+    record { value = c.choose-first.ensures; marks_value = cut_is _ _ _ c.choose-first.ensures c.choose.ensures c.choose-2.ensures c.put.ensures c.put-2.ensures }

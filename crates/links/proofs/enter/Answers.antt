@@ -10,4 +10,4 @@ put-requires c =
 
 pub returns : goal.returns
 returns c =
-    record { prevs_value = between_is _ _ _ _ c.tail_or-tail.ensures c.put.ensures;  marks_value = refl }
+    record { prevs_value = between_is _ _ _ _ c.tail_or-tail.ensures c.put.ensures; marks_value = refl }

@@ -33,12 +33,11 @@ returns-then-prevs-k c =
     sym (scan_prev _ _ _ _ _ _ _ _ _ c.loop-item-test.true c.if-prevs-k.true) ∙ c.loop-item.invariant.1
 
 pub loop-item-preserved : goal.loop-item-preserved
-loop-item-preserved c =
-    (
-      omega (arith, c.shared_slice_known-in-loop-item-3-1.given c.loop-item.item),
-      sym (scan_go _ _ _ _ _ _ _ _ _ c.loop-item-test.true (omega arith) (omega arith) c.if-marks-k.false c.if-prevs-k.false)
-          ∙ c.loop-item.invariant.1,
-    )
+loop-item-preserved c = (
+  omega (arith, c.shared_slice_known-in-loop-item-3-1.given c.loop-item.item),
+  sym (scan_go _ _ _ _ _ _ _ _ _ c.loop-item-test.true (omega arith) (omega arith) c.if-marks-k.false c.if-prevs-k.false)
+      ∙ c.loop-item.invariant.1,
+)
 
 pub returns-then-prev-tail : goal.returns-then-prev-tail
 returns-then-prev-tail c =
