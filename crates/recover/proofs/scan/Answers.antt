@@ -3,7 +3,7 @@ use mathlib.Core.Path.{refl, sym, ◌∙◌}
 use mathlib.Core.Bool.{true≢false}
 use Prim.Native.Nat.{◌-◌}
 use native.Mathlib.Omega.{arith}
-use borrow.Author.Tests.{not_true, not-false}
+use borrow.Author.Tests.{not-true, not-false}
 use Rattle.entries.specs.declared.Ending.TheVariants as E
 use Rattle.recover.proofs.laws.Apply.{step_forth}
 use Rattle.recover.proofs.laws.Scan.{scans_after, scan_start, scan_ends, scan_gets, scan_inside, scan_outside, cannot}
@@ -11,7 +11,7 @@ use Rattle.recover.proofs.scan.Goals as goal
 
 pub returns-then-not-is_cut : goal.returns-then-not-is_cut
 returns-then-not-is_cut c =
-    cannot (λ C. true≢false (sym C.cut ∙ sym c.is_cut.ensures ∙ not_true _ c.if-not-is_cut.true))
+    cannot (λ C. true≢false (sym C.cut ∙ sym c.is_cut.ensures ∙ not-true _ c.if-not-is_cut.true))
 
 pub returns-then-start-bytes : goal.returns-then-start-bytes
 returns-then-start-bytes c =
@@ -70,7 +70,7 @@ pub loop-e-preserved-then-not-patch : goal.loop-e-preserved-then-not-patch
 loop-e-preserved-then-not-patch c =
     scan_outside c.loop-e.invariant (sym r.Read-step.ensures ∙ c.in-One.is) c.number_of-number.ensures
     c.if-number-ne0.false z.type_size.ensures c.lives-live.ensures
-    c.opens-patch.ensures z.before.left_After.ensures (not_true _ c.if-not-patch.true)
+    c.opens-patch.ensures z.before.left_After.ensures (not-true _ c.if-not-patch.true)
 
 pub loop-e-smaller : goal.loop-e-smaller
 loop-e-smaller c =
