@@ -25,11 +25,10 @@ slot_for-slot-requires c =
     omega (arith, c.level_for-level.ensures, (level_is c.args.clock c.args.when).within)
 
 pub slot_place-requires : goal.slot_place-requires
-slot_place-requires c =
-    (
-      omega (arith, c.level_for-level.ensures, (level_is c.args.clock c.args.when).within),
-      omega (arith, c.slot_for-slot.ensures, slot_lt c.args.when c.level_for-level.result),
-    )
+slot_place-requires c = (
+  omega (arith, c.level_for-level.ensures, (level_is c.args.clock c.args.when).within),
+  omega (arith, c.slot_for-slot.ensures, slot_lt c.args.when c.level_for-level.result),
+)
 
 pub returns-then-low-level : goal.returns-then-low-level
 returns-then-low-level c =

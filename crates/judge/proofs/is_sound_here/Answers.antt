@@ -1,6 +1,4 @@
 -- `is_sound_here` meets its contract: the parts together are soundness (`sound_judged`, `judged_sound`).
--- no poll is in hand
--- a poll is in hand
 use native.Mathlib.Omega.{arith}
 use Rattle.contracts.proofs.laws.Tells.{tells_no}
 use Rattle.judge.proofs.laws.Judge.{sound_judged, judged_rest, judged_mid}
@@ -28,6 +26,8 @@ pub returns-then-not-is_whole : goal.returns-then-not-is_whole
 returns-then-not-is_whole c =
     tells_no (λ S. c.is_whole.ensures.no c.if-not-is_whole.true S.standing.whole)
 
+-- no poll is in hand
+
 pub returns-then-until-ne0 : goal.returns-then-until-ne0
 returns-then-until-ne0 c =
     tells_no (λ S. c.if-until-ne0.true (S.no_now c.if-hand-eq-NOBODY.true))
@@ -46,6 +46,8 @@ returns-then-hand-eq-NOBODY c =
     })
     (c.is_whole.ensures.yes c.if-not-is_whole.false) _ c.if-hand-eq-NOBODY.true c.if-hand-eq-NOBODY.true c.if-until-ne0.false c.records_agree.ensures
 
+-- a poll is in hand
+
 pub returns-then-not-can_hold : goal.returns-then-not-can_hold
 returns-then-not-can_hold c =
     tells_no (λ S. c.can_hold.ensures.no c.if-not-can_hold.true ((sound_judged S).mid c.if-hand-eq-NOBODY.false).0)
@@ -53,7 +55,7 @@ returns-then-not-can_hold c =
 pub list_start-start-requires : goal.list_start-start-requires
 list_start-start-requires c =
     let H = c.can_hold.ensures.yes c.if-not-can_hold.false in
-                (H.below, omega (arith, H.due))
+    (H.below, omega (arith, H.due))
 
 pub overflow_sub-level : goal.overflow_sub-level
 overflow_sub-level c =
@@ -63,7 +65,7 @@ overflow_sub-level c =
 pub records_agree-requires-2 : goal.records_agree-requires-2
 records_agree-requires-2 c =
     let H = c.can_hold.ensures.yes c.if-not-can_hold.false in
-                let R = c.has_room.ensures.yes c.if-not-has_room.false in
+    let R = c.has_room.ensures.yes c.if-not-has_room.false in
     (omega (arith, H.below, c.level_of-level.ensures), R.deadlines, R.turns, R.links.marks)
 
 pub returns : goal.returns

@@ -1,5 +1,4 @@
 -- `records_agree` meets its contract: the records passed agree, and one that does not ends it.
-use Prim.Native.Nat.{◌-◌}
 use native.Mathlib.Omega.{arith}
 use Rattle.contracts.proofs.laws.Tells.{tells_yes, tells_no}
 use Rattle.judge.proofs.laws.Judge.{record_next}
@@ -14,12 +13,11 @@ returns-then-not-record_agrees c =
     tells_no (λ R. c.record_agrees.ensures.no c.if-not-record_agrees.true (R _ c.loop-i-test.true))
 
 pub loop-i-preserved : goal.loop-i-preserved
-loop-i-preserved c =
-    (
-      omega arith,
-      record_next c.args.deadlines.now c.args.turns.now c.args.marks.now c.loop-i.invariant.1
-          (c.record_agrees.ensures.yes c.if-not-record_agrees.false),
-    )
+loop-i-preserved c = (
+  omega arith,
+  record_next c.args.deadlines.now c.args.turns.now c.args.marks.now c.loop-i.invariant.1
+      (c.record_agrees.ensures.yes c.if-not-record_agrees.false),
+)
 
 pub returns : goal.returns
 returns c =
