@@ -6,8 +6,9 @@
 ghost use Rattle.std.specs.Prelude.{◌≤◌};
 
 use delay_queue::{Reply, format, insert, next_wake, no_store, poll};
-use libc::STDOUT_FILENO;
 use queue::Answer;
+
+const STDOUT_FILENO: i32 = 1;
 
 // Room for eight records: an array for the values and periods, and one for each other field.
 type Pairs = [u64; 16];

@@ -4,9 +4,10 @@
 #![tactic(auto)]
 
 use delay_queue::{Reply, format, insert, no_store};
-use libc::STDOUT_FILENO;
 use queue::Answer;
 use tick::{Front, TickReply};
+
+const STDOUT_FILENO: i32 = 1;
 
 // Room for four records: an array for the values and periods, and one for each other field.
 type Pairs = [u64; 8];

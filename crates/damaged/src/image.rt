@@ -3,10 +3,11 @@ ghost use Rattle.std.specs.Prelude.{◌≡◌, ◌+◌, ◌-◌, ◌≤◌, ◌<
 ghost use Rattle.places.specs.Places.{slots};
 
 use delay_queue::Call;
-use libc::STDOUT_FILENO;
 use places::Tops;
 use queue::Answer;
 use wheel::Wheel;
+
+const STDOUT_FILENO: i32 = 1;
 
 // Where each part begins in the row. Each slice lends the words of 1,025 records, and the row has those of the first 12; the store
 // has 9. Of values a record has two words, its value and its period, and of each other slice one.

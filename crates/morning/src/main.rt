@@ -4,8 +4,9 @@
 #![tactic(auto)]
 
 use delay_queue::{Reply, format, insert, next_wake, no_store, poll, remove};
-use libc::STDOUT_FILENO;
 use queue::Answer;
+
+const STDOUT_FILENO: i32 = 1;
 
 // Room for four records: an array for the values and periods, and one for each other field.
 type Pairs = [u64; 8];
