@@ -5,7 +5,8 @@
 ghost use Rattle.std.specs.Prelude.{◌≡◌, false, ◌<◌, ◌^◌};
 ghost use Rattle.io.specs.Counts.{IsPrefixLen};
 
-use libc::STDIN_FILENO;
+use std::io::Read;
+use std::os::unix::fs::FileExt;
 
 // What a read gave: how many bytes, and whether the input has ended. Where it failed, none came and it has not.
 #[derive(Clone, Copy)]
@@ -15,31 +16,35 @@ pub struct Got {
 }
 
 // What a read into buf gave, by its answer.
-fn told(got: isize, buf: &[u8]) -> Got
+fn told(got: std::io::Result<usize>, buf: &[u8]) -> Got
     ensures { IsPrefixLen result.bytes buf.now × (0 < result.bytes → result.ended ≡ false) }
 {
-    if got == 0 {
-        return Got {
+    match got {
+        Ok(0) => Got {
             bytes: 0,
             ended: true,
-        };
-    }
-    Got {
-        bytes: io::count(got, buf),
-        ended: false,
+        },
+        Ok(n) => Got {
+            bytes: n.min(buf.len()),
+            ended: false,
+        },
+        Err(_) => Got {
+            bytes: 0,
+            ended: false,
+        },
     }
 }
 
 // Reads the next bytes of the input to the front of buf.
-pub fn more(buf: &mut [u8]) -> Got
+pub fn more<R: Read>(from: &mut R, buf: &mut [u8]) -> Got
     ensures { IsPrefixLen result.bytes buf.new × (0 < result.bytes → result.ended ≡ false) }
 {
-    let got = libc::read(STDIN_FILENO, buf);
+    let got = from.read(buf);
     told(got, buf)
 }
 
 // Reads the bytes of the file from `at` on to the front of buf. No file has a byte from 2^63 on.
-pub fn more_from(fd: i32, at: usize, buf: &mut [u8]) -> Got
+pub fn more_from<F: FileExt>(file: &F, at: usize, buf: &mut [u8]) -> Got
     ensures { IsPrefixLen result.bytes buf.new × (0 < result.bytes → result.ended ≡ false) × (0 < result.bytes → at < 2 ^ 63) }
 {
     if 9223372036854775807 < at {
@@ -48,7 +53,7 @@ pub fn more_from(fd: i32, at: usize, buf: &mut [u8]) -> Got
             ended: false,
         };
     }
-    let got = libc::pread(fd, buf, at as i64);
+    let got = file.read_at(buf, at as u64);
     told(got, buf)
 }
 

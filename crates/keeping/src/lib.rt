@@ -7,27 +7,31 @@
 ghost use Rattle.std.specs.Prelude.{◌+◌, ◌≤◌, length};
 ghost use Rattle.keeping.specs.Keeping.{KeepsFile};
 
-use libc::STDOUT_FILENO;
+use std::fs::{File, OpenFile};
+use std::os::unix::fs::FileExt;
+
+// Standard output.
+const STDOUT_FILENO: i32 = 1;
 
 // The last place in a file.
 const LAST: u64 = 9223372036854775807;
 
 // A file, and how many bytes of it are written and synced.
 #[derive(Clone, Copy)]
-pub struct Synced {
-    file: i32,
+pub struct Synced<'a> {
+    file: &'a File,
     length: u64,
 }
 
 // Whether all went well, and what is kept then.
 #[derive(Clone, Copy)]
-pub struct Keeping {
+pub struct Keeping<'a> {
     pub fine: bool,
-    pub kept: Synced,
+    pub kept: Synced<'a>,
 }
 
 // The file is cut to that length and synced. Where that fails nothing is said to be kept.
-pub fn cut(file: i32, length: u64) -> Keeping
+pub fn cut(file: &File, length: u64) -> Keeping<'_>
     ensures { KeepsFile 0 length result.fine result.kept.length }
 {
     let none = Synced { file, length: 0 };
@@ -37,13 +41,13 @@ pub fn cut(file: i32, length: u64) -> Keeping
             kept: none,
         };
     }
-    if libc::ftruncate(file, length as i64) != 0 {
+    if file.set_len(length).is_err() {
         return Keeping {
             fine: false,
             kept: none,
         };
     }
-    if libc::fsync(file) != 0 {
+    if file.sync_all().is_err() {
         return Keeping {
             fine: false,
             kept: none,
@@ -54,13 +58,13 @@ pub fn cut(file: i32, length: u64) -> Keeping
 }
 
 // Writes the bytes to the file from at on, and says whether all of them are written. A short write is carried on.
-fn write_at(file: i32, at: u64, bytes: &[u8]) -> bool
+fn write_at(file: &File, at: u64, bytes: &[u8]) -> bool
     requires { at + length bytes.now ≤ 9223372036854775807 }
 {
     let mut i: usize = 0;
     while i < bytes.len() {
-        let put = libc::pwrite(file, &bytes[i..], (at + i as u64) as i64);
-        let done = io::count(put, &bytes[i..]);
+        let put = file.write_at(&bytes[i..], at + i as u64);
+        let done = put.unwrap_or(0);
         if done == 0 {
             return false;
         }
@@ -70,8 +74,8 @@ fn write_at(file: i32, at: u64, bytes: &[u8]) -> bool
 }
 
 // The bytes are written behind what is kept, and synced; where there are none neither is done.
-pub fn keep(kept: Synced, bytes: &[u8]) -> Keeping
-    ensures { KeepsFile kept.length (length bytes.now) result.fine result.kept.length }
+pub fn keep<'a>(kept: Synced<'a>, bytes: &[u8]) -> Keeping<'a>
+    ensures { KeepsFile kept.entry.length (length bytes.now) result.fine result.kept.length }
 {
     let n = bytes.len() as u64;
     if n == 0 {
@@ -88,7 +92,7 @@ pub fn keep(kept: Synced, bytes: &[u8]) -> Keeping
     if !write_at(file, at, bytes) {
         return Keeping { fine: false, kept };
     }
-    if libc::fdatasync(file) != 0 {
+    if file.sync_data().is_err() {
         return Keeping { fine: false, kept };
     }
     let more = Synced {
@@ -103,7 +107,7 @@ pub fn keep(kept: Synced, bytes: &[u8]) -> Keeping
 
 // Gives the answers to calls that write n bytes behind what was kept `before` them, now that these are kept, and says
 // whether all went well.
-pub fn say(before: Synced, n: usize, kept: Synced, answers: &[u8]) -> bool
+pub fn say(before: Synced<'_>, n: usize, kept: Synced<'_>, answers: &[u8]) -> bool
     requires { before.length + n ≤ kept.length }
 {
     io::write_all(STDOUT_FILENO, answers)

@@ -264,7 +264,7 @@ fn write_contents(out: &mut [u8], pen: Pen, r: Record) -> Pen {
 
 // The line of the records from first to last, which hold r.
 fn write_records(out: &mut [u8], pen: Pen, first: u16, last: u16, r: Record) -> Pen
-    ensures { result.at ≤ length (old out) }
+    ensures { result.at ≤ length out.old }
 {
     let p = pen::text(out, pen, b"rec ");
     let q = range(out, p, first, last);

@@ -2,13 +2,14 @@
 use Rattle.std.specs.Prelude.{◌≡◌, Bool, cond, not, List, [], ◌∷◌, ℕ, eqb, Float}
 use Rattle.links.specs.Links.{at}
 use Rattle.queue.specs.declared.Answer.{Answer}
-use Rattle.queue.specs.declared.Answer.TheVariants as A
+use Rattle.queue.specs.Told.{told}
 use Rattle.queue.specs.Told as T
 use Rattle.run.specs.declared.Why.{Why}
 use Rattle.run.specs.declared.Why.TheVariants as W
 use Rattle.run.specs.Groups.{answer_words}
 use Rattle.entries.specs.declared.Ending.{Ending}
 use Rattle.entries.specs.declared.Ending.TheVariants as E
+use Rattle.journal.specs.Journal.{unwritten}
 use Rattle.gauge.specs.declared.Gauge.{Gauge}
 use Rattle.gauge.specs.declared.Light.TheVariants as L
 use Rattle.gauge.specs.declared.Reading.{Reading}
@@ -27,9 +28,9 @@ why_word W.NoRoom = 2
 
 -- ---- the journal
 
--- the refusal that six words are, and else an answer that is none
-abbrev pub refusal_in : List ℕ → Answer
-refusal_in w = cond (eqb (at w 0) 9) (A.No (at w 1)) A.Done
+-- a call that answers a is written just where one is whose answer has the words w
+abbrev pub WrittenAs : List ℕ → Answer → Type 0
+WrittenAs w a = (x : T.Told) → w ≡ answer_words x → unwritten (told a) ≡ unwritten x
 
 -- in the order of `Ending`, and the number that a step gets
 abbrev pub ending_words : Ending → List ℕ

@@ -4,7 +4,7 @@
 ghost use Rattle.std.specs.Prelude.{◌≡◌};
 ghost use Rattle.queue.specs.Told.{told};
 ghost use Rattle.run.specs.Groups.{answer_words};
-ghost use Rattle.words.specs.Words.{why_word, refusal_in, ending_words, flag_word};
+ghost use Rattle.words.specs.Words.{why_word, WrittenAs, ending_words, flag_word};
 ghost use Rattle.words.specs.Words.{NoteClaim, light_words, light_value, state_of, state_words};
 
 use entries::Ending;
@@ -49,9 +49,9 @@ pub fn why_of(why: Why) -> u64
 
 // ---- the journal
 
-// What of an answer decides whether its call is written (`written_as`), from its words: the number of a refusal.
+// What of an answer decides whether its call is written, from its words: the number of a refusal.
 pub fn refusal_in(words: &[u64; 6]) -> Answer
-    ensures { result ≡ refusal_in words.now }
+    ensures { WrittenAs words.now result }
 {
     if words[0] == 9 {
         return Answer::No(words[1]);

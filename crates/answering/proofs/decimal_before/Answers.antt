@@ -1,11 +1,20 @@
 -- `decimal_before` writes a decimal, the last digit first: the invariant is `Tail`, kept by `tail_more`, and `tail_end` makes the decimal.
-use mathlib.Core.List.{[]}
-use mathlib.Core.Path.{refl}
+use mathlib.Core.List.{List, []}
+use mathlib.Core.Path.{◌≡◌, refl}
+use Prim.Native.Nat.{ℕ, ◌^◌, ◌≤◌, ◌<◌}
 use native.Mathlib.Omega.{arith}
-use lib.ListN.{length-set}
-use Rattle.decimals.proofs.laws.Decimals.{tail_none, tail_more, tail_end}
+use lib.ListN.{length, length-set}
+use Rattle.decimals.proofs.laws.Decimals.{Tail, tail_none, tail_more, tail_short, tail_end}
+use Rattle.answering.specs.Parts.{Before}
 use Rattle.answering.proofs.laws.Writing.{push}
 use Rattle.answering.proofs.decimal_before.Goals as goal
+
+-- there is room for one digit more
+room : {n m : ℕ} {o b : List ℕ} {end i : ℕ} → n < 2 ^ 64 → (20 ≤ end) × (end ≤ length o) → Before (λ t. Tail n m t) o end i b × (length b ≡ length o)
+    → (0 < i) × (i ≤ length b)
+room f p b =
+    let t = tail_short f b.0.is in
+    (omega (arith, b.0.start), omega (arith, b.0.start))
 
 pub loop-m-init : goal.loop-m-init
 loop-m-init c =
@@ -13,7 +22,7 @@ loop-m-init c =
 
 pub overflow_sub-i : goal.overflow_sub-i
 overflow_sub-i c =
-    (room c).0
+    (room c.ranges.n.fits c.requires c.loop-m.invariant).0
 
 pub overflow_cast-buf : goal.overflow_cast-buf
 overflow_cast-buf c =
@@ -25,11 +34,12 @@ overflow_add-buf c =
 
 pub bounds-buf-i : goal.bounds-buf-i
 bounds-buf-i c =
-    let r = room c in omega arith
+    let r = room c.ranges.n.fits c.requires c.loop-m.invariant in omega arith
 
 pub returns-then-m-eq0 : goal.returns-then-m-eq0
 returns-then-m-eq0 c =
-    push _ _ _ (λ t h. tail_end h c.ranges.n.fits c.if-m-eq0.true) c.loop-m.invariant.0 (room c).0 (room c).1
+    let r = room c.ranges.n.fits c.requires c.loop-m.invariant in
+    push _ _ _ (λ t h. tail_end h c.ranges.n.fits c.if-m-eq0.true) c.loop-m.invariant.0 r.0 r.1
 
 pub loop-m-smaller : goal.loop-m-smaller
 loop-m-smaller c =
@@ -37,4 +47,5 @@ loop-m-smaller c =
 
 pub loop-m-preserved : goal.loop-m-preserved
 loop-m-preserved c =
-    (push _ _ _ (λ t h. tail_more h (omega arith)) c.loop-m.invariant.0 (room c).0 (room c).1, simp length-set c.loop-m.invariant.1)
+    let r = room c.ranges.n.fits c.requires c.loop-m.invariant in
+    (push _ _ _ (λ t h. tail_more h (omega arith)) c.loop-m.invariant.0 r.0 r.1, simp length-set c.loop-m.invariant.1)

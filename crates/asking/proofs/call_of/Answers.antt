@@ -1,4 +1,5 @@
 -- `call_of` finds the call by its letter and its numbers (`here`), and where the letter is that of no call with these numbers there is none (`nowhere`).
+use Rattle.std.proofs.Common.{rules}
 use Rattle.delay_queue.specs.declared.Call.TheVariants as C
 use Rattle.asking.proofs.laws.Finding.{here, nowhere}
 use Rattle.asking.proofs.call_of.Goals as goal
@@ -17,7 +18,7 @@ returns-in-99 c =
 
 pub returns-in_default : goal.returns-in_default
 returns-in_default c =
-    nowhere _ c.in-None.is (c.in_default.in_default-own.rest.0.0.1, (c.in_default.in_default-own.rest.0.1, (c.in_default.in_default-own.rest.1, tt)))
+    nowhere _ c.in-None.is (λ h. search rules, (λ h. search rules, (λ h. search rules, tt)))
 
 pub returns-in-114 : goal.returns-in-114
 returns-in-114 c =
@@ -29,7 +30,7 @@ returns-in-112 c =
 
 pub returns-in_default-letter : goal.returns-in_default-letter
 returns-in_default-letter c =
-    nowhere _ c.in-One.is (c.in_default-letter.in_default-letter-own.rest.0.1, (c.in_default-letter.in_default-letter-own.rest.1, tt))
+    nowhere _ c.in-One.is (λ h. search rules, (λ h. search rules, tt))
 
 pub returns-in-102 : goal.returns-in-102
 returns-in-102 c =
@@ -45,7 +46,7 @@ returns-in-113 c =
 
 pub returns-in_default-letter-2 : goal.returns-in_default-letter-2
 returns-in_default-letter-2 c =
-    nowhere _ c.in-Two.is (c.in_default-letter-2.in_default-letter-2-own.rest.0.0.1, (c.in_default-letter-2.in_default-letter-2-own.rest.0.1, (c.in_default-letter-2.in_default-letter-2-own.rest.1, tt)))
+    nowhere _ c.in-Two.is (λ h. search rules, (λ h. search rules, (λ h. search rules, tt)))
 
 pub returns-in-105 : goal.returns-in-105
 returns-in-105 c =
@@ -53,7 +54,7 @@ returns-in-105 c =
 
 pub returns-in_default-letter-3 : goal.returns-in_default-letter-3
 returns-in_default-letter-3 c =
-    nowhere _ c.in-Three.is (c.in_default-letter-3.in_default-letter-3-own.rest.1, tt)
+    nowhere _ c.in-Three.is (λ h. search rules, tt)
 
 pub returns-in-Bad : goal.returns-in-Bad
 returns-in-Bad c =

@@ -1,13 +1,12 @@
 -- `one_to_three` reads the first number (`first_of`) and one or two behind it: `more` has the number of them.
 use native.Mathlib.Omega.{arith}
-use Rattle.splitting.specs.declared.First.TheVariants as S
 use Rattle.asking.proofs.laws.Reading.{none_at_all, more}
 use Rattle.splitting.proofs.laws.Fields.{the_one}
 use Rattle.asking.proofs.one_to_three.Goals as goal
 
 pub slice_bounds-one_or_two-count : goal.slice_bounds-one_or_two-count
 slice_bounds-one_or_two-count c =
-    (first c).0
+    let w = rw c.in-Then.is at c.first_of-x.ensures in omega arith
 
 pub returns-in-Only : goal.returns-in-Only
 returns-in-Only c =
@@ -15,7 +14,7 @@ returns-in-Only c =
 
 pub returns-in-Then : goal.returns-in-Then
 returns-in-Then c =
-    more 2 c.in-Then.f (first c).1 (omega arith) c.one_or_two-rest.result c.in_front_lem.result c.one_or_two-rest.ensures c.in_front_lem.ensures
+    more 2 c.in-Then.f (rw c.in-Then.is at c.first_of-x.ensures).1 (omega arith) c.one_or_two-rest.result c.in_front.result c.one_or_two-rest.ensures c.in_front.ensures
 
 pub returns-in-Bad : goal.returns-in-Bad
 returns-in-Bad c =

@@ -6,7 +6,7 @@ use mathlib.Core.List.{List}
 use Prim.Native.Nat.{ℕ, ◌-◌, ◌^◌, ◌≤◌}
 use native.Mathlib.Omega.{arith}
 use lib.ListN.{length}
-use borrow.Author.Tests.{not_true, not-false}
+use borrow.Author.Tests.{not-true, not-false}
 use Rattle.links.specs.Lists.{nobody}
 use Rattle.places.specs.Places.{expired}
 use Rattle.places.specs.declared.Tops.{Tops}
@@ -56,12 +56,12 @@ module _ (vs ds ns ps ts ms : List ℕ) where
   sent_back {b = b} T e G =
       record {
         bad = λ f. record { told = ap told G.0; same = λ i. words (G.1 i) (G.2 i) vs ds ns ps ts ms };
-        good = λ S. absurd (T.no (not_true b e) S);
+        good = λ S. absurd (T.no (not-true b e) S);
       }
 
 -- the same, where nothing is handed back
 pub no_answer : {s : QueueWords} {b : Bool} {On : Type 0} → Tells (Sound s) b → not b ≡ true → Judging s (A.No 2) s On
-no_answer {s} {b} T e = record { bad = λ f. record { told = refl; same = refl }; good = λ S. absurd (T.no (not_true b e) S) }
+no_answer {s} {b} T e = record { bad = λ f. record { told = refl; same = refl }; good = λ S. absurd (T.no (not-true b e) S) }
 
 -- sound
 pub is_sound : {s : QueueWords} {b : Bool} → Tells (Sound s) b → not b ≡ false → Sound s
@@ -74,7 +74,7 @@ taken_up S x = record { bad = λ f. absurd (f S); good = λ _. x }
 
 pub free_bad : {s : QueueWords} {b : Bool} → Tells (Sound s) b → not b ≡ true → FreeNo s 2
 free_bad {s} {b} T e =
-    let f : Sound s → ⊥ = T.no (not_true b e) in
+    let f : Sound s → ⊥ = T.no (not-true b e) in
     record { bad = λ _. refl; held = λ S. absurd (f S); near = λ S. absurd (f S); taken = λ z. absurd (omega arith) }
 
 pub free_held : {s : QueueWords} {b : Bool} → Tells (Sound s) b → not b ≡ false → MidPoll s → FreeNo s 12

@@ -1,5 +1,4 @@
 -- `check`: the kind (`kind_low`, `kind_high`), then the zeros (`zero_missed`).
-use borrow.Author.Tests.{not_true, not-false}
 use mathlib.Core.Path.{sym, ◌∙◌}
 use native.Mathlib.Omega.{arith}
 use Rattle.entries.proofs.laws.Reading.{kind_low, kind_high, zero_missed, no_damage}
@@ -15,8 +14,8 @@ returns-then-e-gt11 c =
 
 pub returns-then-not-has_zeros : goal.returns-then-not-has_zeros
 returns-then-not-has_zeros c =
-    zero_missed _ _ c.if-e-eq0.false (omega (arith, c.if-e-gt11.false)) (sym c.has_zeros.ensures ∙ not_true _ c.if-not-has_zeros.true)
+    zero_missed _ _ c.if-e-eq0.false (omega (arith, c.if-e-gt11.false)) (sym c.has_zeros.ensures ∙ c.if-not-has_zeros.true)
 
 pub returns : goal.returns
 returns c =
-    no_damage _ _ c.if-e-eq0.false (omega (arith, c.if-e-gt11.false)) (sym c.has_zeros.ensures ∙ not-false _ c.if-not-has_zeros.false)
+    no_damage _ _ c.if-e-eq0.false (omega (arith, c.if-e-gt11.false)) (sym c.has_zeros.ensures ∙ c.if-not-has_zeros.false)

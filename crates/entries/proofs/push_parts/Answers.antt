@@ -7,8 +7,7 @@ use Rattle.entries.proofs.push_parts.Goals as goal
 pub push_entry-requires-in-Double : goal.push_entry-requires-in-Double
 push_entry-requires-in-Double c =
     let w = c.push_entry-i.ensures in
-    let x = c.parts-in-Double-1.given.0 in
-    omega (arith, w.end, w.size, entry_length 9 x.0 x.1.0)
+    omega (arith, w.end, w.size, entry_length 9 c.in-Double.value c.in-Double.when)
 
 pub returns-in-Nothing : goal.returns-in-Nothing
 returns-in-Nothing c =

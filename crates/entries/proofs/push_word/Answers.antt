@@ -1,12 +1,16 @@
 -- `push_word` writes byte after byte, the first first (`digits_step`).
 use mathlib.Core.Path.{refl}
 use native.Mathlib.Omega.{arith}
-use Rattle.writing.proofs.laws.Writing.{digits_start, digits_step, digits_end}
+use Rattle.writing.proofs.laws.Writing.{power_pos, digits_start, digits_step, digits_end}
 use Rattle.entries.proofs.push_word.Goals as goal
 
 pub loop-i-init : goal.loop-i-init
 loop-i-init c =
     digits_start c.requires.1
+
+pub nonzero_div-out : goal.nonzero_div-out
+nonzero_div-out c =
+    let I = c.loop-i.invariant in rw I.weight (power_pos 256 _ (omega arith) c.loop-i-test.true)
 
 pub overflow_cast-out : goal.overflow_cast-out
 overflow_cast-out c =

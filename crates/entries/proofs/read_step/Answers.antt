@@ -14,4 +14,4 @@ returns-then-bytes-at-lt18 c =
 pub returns : goal.returns
 returns c =
     let a = c.args in
-    next_read a.bytes.now a.at (omega (arith, c.if-bytes-at-lt18.false)) c.entry_at-e.ensures c.before.step_of_lem.ensures c.check.ensures
+    next_read a.bytes.now a.at (omega (arith, c.if-bytes-at-lt18.false)) c.entry_at-e.ensures c.step_of-x.ensures c.check.ensures

@@ -1,5 +1,6 @@
 -- `step_of`: by the kind (`step_kind`); kind 10 alone is no step (`no_step`).
 use mathlib.Core.Path.{◌∙◌}
+use native.Mathlib.Omega.{arith}
 use Rattle.entries.specs.Reading.{step_of}
 use Rattle.entries.proofs.laws.Reading.{step_kind, step_nine, no_step}
 use Rattle.entries.proofs.step_of.Goals as goal
@@ -55,7 +56,4 @@ returns-in-11 c =
 
 pub returns-in_default : goal.returns-in_default
 returns-in_default c =
-    let m = c.in_default.in_default-own.rest in
-    let h = m.0 in
-    let g = h.0.0.0.0 in
-    no_step _ _ g.0.0.0.0.1 g.0.0.0.1 g.0.0.1 g.0.1 g.1 h.0.0.0.1 h.0.0.1 h.0.1 h.1 m.1
+    no_step _ _ (omega arith) (omega arith) (omega arith) (omega arith) (omega arith) (omega arith) (omega arith) (omega arith) (omega arith) (omega arith)

@@ -28,7 +28,7 @@ pub overflow_add-acc-in-loop-i : goal.overflow_add-acc-in-loop-i
 overflow_add-acc-in-loop-i c =
     let i = c.loop-i.i in
     let few : i < 8 = omega (arith, c.loop-i-test.true, c.requires.1) in
-    omega (arith, c.shared_slice_known-1.given (c.args.at + i), word_fits i few c.loop-i.invariant.0.below)
+    omega (arith, c.type_inv.bytes (c.args.at + i), word_fits i few c.loop-i.invariant.0.below)
 
 pub overflow_add-i : goal.overflow_add-i
 overflow_add-i c =
@@ -40,7 +40,7 @@ loop-i-smaller c =
 
 pub loop-i-preserved : goal.loop-i-preserved
 loop-i-preserved c =
-    let byte = c.shared_slice_known-1.given (c.args.at + c.loop-i.i) in
+    let byte = c.type_inv.bytes (c.args.at + c.loop-i.i) in
     (word_step c.loop-i.invariant.0 (omega arith) (omega (arith, byte)), omega arith)
 
 pub returns : goal.returns

@@ -1,11 +1,11 @@
 -- `light_at` gives the light of the gauge: a law for each way out.
-use borrow.Author.Tests.{not_true, not-false}
+use borrow.Author.Tests.{not-true, not-false}
 use Rattle.gauge.proofs.laws.Reading.{calm_before, late_first, slow_then, calm_else}
 use Rattle.gauge.proofs.light_at.Goals as goal
 
 pub returns-then-not-g : goal.returns-then-not-g
 returns-then-not-g c =
-    let a = c.args in calm_before a.g a.slow a.late (not_true _ c.if-not-g.true)
+    let a = c.args in calm_before a.g a.slow a.late (not-true _ c.if-not-g.true)
 
 pub returns-then-late-w : goal.returns-then-late-w
 returns-then-late-w c =

@@ -1,13 +1,13 @@
 -- `note` gives the gauge after one lateness more: the first (`noted_first`), or another, worse or not (`noted_next`).
 use mathlib.Core.Bool.{true, false}
-use borrow.Author.Tests.{not_true, not-false}
+use borrow.Author.Tests.{not-true, not-false}
 use Rattle.gauge.proofs.laws.Floats.{smoother_bits}
 use Rattle.gauge.proofs.laws.Noting.{noted_first, noted_next}
 use Rattle.gauge.proofs.note.Goals as goal
 
 pub returns-then-not-g : goal.returns-then-not-g
 returns-then-not-g c =
-    noted_first c.args.g c.args.late (not_true _ c.if-not-g.true)
+    noted_first c.args.g c.args.late (not-true _ c.if-not-g.true)
 
 pub returns-then-g-late : goal.returns-then-g-late
 returns-then-g-late c =

@@ -1,4 +1,5 @@
 -- `entry_of` finds the entry by its letter and its fields (`here`), and where the letter is that of none with these fields there is none (`nowhere`).
+use Rattle.std.proofs.Common.{rules}
 use Rattle.inspector.specs.declared.Entry.TheVariants as E
 use Rattle.inspector.proofs.laws.Reading.{here, nowhere}
 use Rattle.inspector.proofs.entry_of.Goals as goal
@@ -9,7 +10,7 @@ returns-in-114 c =
 
 pub returns-in_default : goal.returns-in_default
 returns-in_default c =
-    nowhere _ c.in-One.is (c.in_default.in_default-own.rest.1, tt)
+    nowhere _ c.in-One.is (λ h. search rules, tt)
 
 pub returns-in-105 : goal.returns-in-105
 returns-in-105 c =
@@ -25,7 +26,7 @@ returns-in-112 c =
 
 pub returns-in_default-letter : goal.returns-in_default-letter
 returns-in_default-letter c =
-    nowhere _ c.in-Two.is (c.in_default-letter.in_default-letter-own.rest.0.0.1, (c.in_default-letter.in_default-letter-own.rest.0.1, (c.in_default-letter.in_default-letter-own.rest.1, tt)))
+    nowhere _ c.in-Two.is (λ h. search rules, (λ h. search rules, (λ h. search rules, tt)))
 
 pub returns-in-112-letter : goal.returns-in-112-letter
 returns-in-112-letter c =
@@ -33,7 +34,7 @@ returns-in-112-letter c =
 
 pub returns-in_default-letter-2 : goal.returns-in_default-letter-2
 returns-in_default-letter-2 c =
-    nowhere _ c.in-Dash.is (c.in_default-letter-2.in_default-letter-2-own.rest.1, tt)
+    nowhere _ c.in-Dash.is (λ h. search rules, tt)
 
 pub returns-in-Bad : goal.returns-in-Bad
 returns-in-Bad c =

@@ -1,6 +1,5 @@
 -- `hand_none` is right where nothing is due: `none_due` and `none_done`.
 use native.Mathlib.Omega.{arith}
-use borrow.Author.Tests.{not_true, not-false}
 use Rattle.inspector.proofs.laws.Taking.{none_due, none_done}
 use Rattle.inspector.proofs.hand_none.Goals as goal
 
@@ -10,8 +9,8 @@ none_due-requires c =
 
 pub returns-then-not-none_due : goal.returns-then-not-none_due
 returns-then-not-none_due c =
-    none_due _ _ _ _ c.requires _ _ (c.none_due.ensures.no (not_true _ c.if-not-none_due.true))
+    none_due _ _ _ _ c.requires _ _ (c.none_due.ensures.no c.if-not-none_due.true)
 
 pub returns : goal.returns
 returns c =
-    none_done _ _ _ _ c.requires _ _ (c.none_due.ensures.yes (not-false _ c.if-not-none_due.false)) _ c.later.ensures
+    none_done _ _ _ _ c.requires _ _ (c.none_due.ensures.yes c.if-not-none_due.false) _ c.later.ensures

@@ -1,6 +1,5 @@
 -- `hand_out` is right where the key is pending and due, and nothing is due before it: one law of `Taking` for each way out.
 use native.Mathlib.Omega.{arith}
-use borrow.Author.Tests.{not_true, not-false}
 use Rattle.inspector.proofs.laws.Taking.{out_free, out_early, out_other, out_done}
 use Rattle.inspector.proofs.hand_out.Goals as goal
 
@@ -18,9 +17,9 @@ returns-then-time-d c =
 
 pub returns-then-not-none_before : goal.returns-then-not-none_before
 returns-then-not-none_before c =
-    out_other _ _ _ _ c.requires _ _ c.place-i.ensures _ c.if-n-i.false (c.none_before.ensures.no (not_true _ c.if-not-none_before.true))
+    out_other _ _ _ _ c.requires _ _ c.place-i.ensures _ c.if-n-i.false (c.none_before.ensures.no c.if-not-none_before.true)
 
 pub returns : goal.returns
 returns c =
     out_done _ _ _ _ c.requires _ _ c.place-i.ensures c.if-n-i.false c.close.ensures c.close-2.ensures _ c.if-time-d.false
-    (c.none_before.ensures.yes (not-false _ c.if-not-none_before.false))
+    (c.none_before.ensures.yes c.if-not-none_before.false)

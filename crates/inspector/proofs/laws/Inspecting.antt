@@ -11,7 +11,6 @@ use Rattle.inspector.specs.declared.Taken.{Taken}
 use Rattle.inspector.specs.declared.Taken.TheVariants as T
 use Rattle.inspector.specs.declared.State.{State}
 use Rattle.inspector.specs.declared.State.TheVariants as S
-use Rattle.inspector.specs.Text.{Says}
 use Rattle.inspector.specs.Log.{Store, Step}
 use Rattle.inspector.specs.Verdict.{Right, most}
 use Rattle.inspector.specs.Words.{room_of, store_of, counted, LineClaim, InspectClaim}

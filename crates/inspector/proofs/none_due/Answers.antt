@@ -2,7 +2,6 @@
 use borrow.Author.Count.{below_more}
 use borrow.Author.Rules.{rules}
 use native.Mathlib.Omega.{arith}
-use Prim.Native.Nat.{◌-◌}
 use Rattle.contracts.proofs.laws.Tells.{tells_yes, tells_no}
 use Rattle.inspector.proofs.none_due.Goals as goal
 

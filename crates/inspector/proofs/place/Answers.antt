@@ -2,7 +2,6 @@
 use borrow.Author.Count.{below_more}
 use borrow.Author.Rules.{rules}
 use native.Mathlib.Omega.{arith}
-use Prim.Native.Nat.{◌-◌}
 use Rattle.inspector.proofs.place.Goals as goal
 
 pub returns-then-keys-i : goal.returns-then-keys-i

@@ -1,5 +1,7 @@
 -- `is_own` meets its contract: a block's start is a multiple of every width (`own_block`), and at the top level nothing else is (`own_top`).
 use native.Mathlib.Omega.{arith}
+use Prim.Native.Nat.{◌+◌}
+use Rattle.times.proofs.laws.Widths.{width_pos}
 use Rattle.contracts.proofs.laws.Tells.{tells_no}
 use Rattle.judge.proofs.laws.Judge.{own_block, own_told, own_top}
 use Rattle.judge.proofs.is_own.Goals as goal
@@ -23,3 +25,7 @@ slot_range-requires c =
 pub returns : goal.returns
 returns c =
     own_told _ (omega arith) c.if-elapsed-eq0.false c.slot_range.ensures
+
+pub nonzero_rem-result : goal.nonzero_rem-result
+nonzero_rem-result c =
+    omega (arith, c.slot_range.ensures, width_pos (c.args.level + 1))

@@ -1,7 +1,7 @@
 -- `is_place` meets its contract, test by test.
 use mathlib.Core.Path.{sym, ◌∙◌}
 use native.Mathlib.Omega.{arith}
-use borrow.Author.Tests.{eqb-true, eqb-false, not_true, not-false}
+use borrow.Author.Tests.{eqb-true, eqb-false}
 use Rattle.times.proofs.laws.Levels.{level_is}
 use Rattle.times.proofs.laws.Quotients.{slot_lt}
 use Rattle.contracts.proofs.laws.Tells.{tells_no}
@@ -14,31 +14,30 @@ returns-then-when-clock c =
 
 pub returns-then-not-same_block : goal.returns-then-not-same_block
 returns-then-not-same_block c =
-    tells_no (λ o. eqb-false _ _ (sym c.same_block.ensures ∙ not_true _ c.if-not-same_block.true) o.near)
+    tells_no (λ o. eqb-false _ _ (sym c.same_block.ensures ∙ c.if-not-same_block.true) o.near)
 
 pub level_for-level-requires : goal.level_for-level-requires
 level_for-level-requires c =
-    sym (eqb-true _ _ (sym c.same_block.ensures ∙ not-false _ c.if-not-same_block.false))
+    sym (eqb-true _ _ (sym c.same_block.ensures ∙ c.if-not-same_block.false))
 
 pub slot_for-slot-requires : goal.slot_for-slot-requires
 slot_for-slot-requires c =
     omega (arith, c.level_for-level.ensures, (level_is c.args.clock c.args.when).within)
 
 pub slot_place-requires : goal.slot_place-requires
-slot_place-requires c =
-    (
-      omega (arith, c.level_for-level.ensures, (level_is c.args.clock c.args.when).within),
-      omega (arith, c.slot_for-slot.ensures, slot_lt c.args.when c.level_for-level.result),
-    )
+slot_place-requires c = (
+  omega (arith, c.level_for-level.ensures, (level_is c.args.clock c.args.when).within),
+  omega (arith, c.slot_for-slot.ensures, slot_lt c.args.when c.level_for-level.result),
+)
 
 pub returns-then-low-level : goal.returns-then-low-level
 returns-then-low-level c =
-    place_above c.if-when-clock.false (eqb-true _ _ (sym c.same_block.ensures ∙ not-false _ c.if-not-same_block.false))
+    place_above c.if-when-clock.false (eqb-true _ _ (sym c.same_block.ensures ∙ c.if-not-same_block.false))
     c.level_for-level.ensures c.if-low-level.true c.slot_for-slot.ensures c.slot_place.ensures
 
 pub returns-then-place-hand : goal.returns-then-place-hand
 returns-then-place-hand c =
-    place_hand c.if-when-clock.false (eqb-true _ _ (sym c.same_block.ensures ∙ not-false _ c.if-not-same_block.false))
+    place_hand c.if-when-clock.false (eqb-true _ _ (sym c.same_block.ensures ∙ c.if-not-same_block.false))
     c.level_for-level.ensures c.if-low-level.false c.if-place-hand.true
 
 pub slot_place-requires-2 : goal.slot_place-requires-2
@@ -47,5 +46,5 @@ slot_place-requires-2 c =
 
 pub returns : goal.returns
 returns c =
-    place_low c.if-when-clock.false (eqb-true _ _ (sym c.same_block.ensures ∙ not-false _ c.if-not-same_block.false))
+    place_low c.if-when-clock.false (eqb-true _ _ (sym c.same_block.ensures ∙ c.if-not-same_block.false))
     c.level_for-level.ensures c.if-low-level.false c.if-place-hand.false c.slot_for-slot-2.ensures c.slot_place-2.ensures

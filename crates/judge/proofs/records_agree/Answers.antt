@@ -1,7 +1,5 @@
 -- `records_agree` meets its contract: the records passed agree, and one that does not ends it.
-use Prim.Native.Nat.{◌-◌}
 use native.Mathlib.Omega.{arith}
-use borrow.Author.Tests.{not_true, not-false}
 use Rattle.contracts.proofs.laws.Tells.{tells_yes, tells_no}
 use Rattle.judge.proofs.laws.Judge.{record_next}
 use Rattle.judge.proofs.records_agree.Goals as goal
@@ -12,15 +10,14 @@ loop-i-init c =
 
 pub returns-then-not-record_agrees : goal.returns-then-not-record_agrees
 returns-then-not-record_agrees c =
-    tells_no (λ R. c.record_agrees.ensures.no (not_true _ c.if-not-record_agrees.true) (R _ c.loop-i-test.true))
+    tells_no (λ R. c.record_agrees.ensures.no c.if-not-record_agrees.true (R _ c.loop-i-test.true))
 
 pub loop-i-preserved : goal.loop-i-preserved
-loop-i-preserved c =
-    (
-      omega arith,
-      record_next c.args.deadlines.now c.args.turns.now c.args.marks.now c.loop-i.invariant.1
-          (c.record_agrees.ensures.yes (not-false _ c.if-not-record_agrees.false)),
-    )
+loop-i-preserved c = (
+  omega arith,
+  record_next c.args.deadlines.now c.args.turns.now c.args.marks.now c.loop-i.invariant.1
+      (c.record_agrees.ensures.yes c.if-not-record_agrees.false),
+)
 
 pub returns : goal.returns
 returns c =

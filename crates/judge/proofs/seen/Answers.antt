@@ -7,7 +7,7 @@ use Rattle.judge.proofs.seen.Goals as goal
 pub returns : goal.returns
 returns c =
     record {
-      few = omega (arith, c.well-formed.0);
+      few = omega (arith, c.well_formed.0);
       six = search rules;
-      shape = shaped c.args.heads c.well-formed.1.1.0.0 c.well-formed.1.1.0.1.0.1 c.well-formed.1.1.0.1.1;
+      shape = shaped c.args.heads c.well_formed.1.1.0.0 c.well_formed.1.1.0.1.0.1 c.well_formed.1.1.0.1.1;
     }

@@ -1,13 +1,12 @@
 -- `take_line` meets its claim: every step takes one byte (`so_more`), and what is taken so far is a part of the line (`So`), to its
 -- newline (`to_newline`) or to the end of the chunk (`to_end`).
 use mathlib.Core.Path.{◌≡◌}
-use mathlib.Core.Logic.{⊎_elim}
 use mathlib.Core.Bool.{true, false, true≢false, false≢true}
 use native.Mathlib.Omega.{arith}
-use Prim.Native.Nat.{◌-◌}
 use lib.ListN.{length, get_or}
 use Rattle.lines.proofs.laws.Parts.{KeepsByte, so_none, so_more, byte_kept, byte_lost, to_newline, to_end}
 use Rattle.lines.proofs.take_line.Goals as goal
+use Rattle.lines.proofs.take_line.Goals.{then-k-line, else-k-line}
 
 pub loop-i-init : goal.loop-i-init
 loop-i-init c =
@@ -35,9 +34,10 @@ loop-i-preserved c =
     let b = get_or args.got.now c.loop-i.i 0 in
     let m = length args.line.now in
     let K : KeepsByte m line k b c.if-k-line.line c.if-k-line.k =
-    ⊎_elim (λ t. byte_kept line k b S.size t.0.taken t.1 t.2)
-    (λ t. byte_lost line k b S.size t.0.left S.fits t.1 t.2)
-    c.if-k-line.branch
+    elim c.if-k-line.branch [
+      | then-k-line w ↦ byte_kept line k b S.size w.if-k-line.true w.line-is w.k-is
+      | else-k-line w ↦ byte_lost line k b S.size w.if-k-line.false S.fits w.line-is w.k-is
+    ]
     in
     so_more S c.loop-i-test.true c.if-b-eq10.false K
 

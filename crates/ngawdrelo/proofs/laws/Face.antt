@@ -29,9 +29,8 @@ use Rattle.journal.specs.Journal as J
 use Rattle.journal.specs.Journal.{Acts, opened, open_twice, closed, not_open, written}
 use Rattle.tick.specs.Claims.{ReadClaim, TickPollClaim, TickSomeClaim}
 use Rattle.gauge.specs.declared.Gauge.{Gauge}
-use Rattle.words.specs.Words.{is_set, flag_word, FlagKept, gauge_of, NoteClaim}
+use Rattle.words.specs.Words.{WrittenAs, is_set, flag_word, FlagKept, gauge_of, NoteClaim}
 use Rattle.words.proofs.laws.Flags.{flag_says, flag_kept}
-use Rattle.words.proofs.laws.Journal.{WrittenAs}
 use Rattle.ngawdrelo.specs.Face.{Told, Faced, no_command, ActsOn, asks, none, Patches}
 
 -- the words of an answer that the claim allows

@@ -1,6 +1,5 @@
 -- `ngawdrelo_act`: the four words are a call, which is asked and noted (`acts_asked`), or none (`acts_none`).
 use mathlib.Core.Path.{refl}
-use Rattle.words.proofs.laws.Journal.{written_as}
 use Rattle.ngawdrelo.proofs.laws.Face.{acts_asked, acts_none}
 use Rattle.ngawdrelo.proofs.ngawdrelo_act.Goals as goal
 
@@ -10,5 +9,5 @@ returns-in_default c =
 
 pub returns : goal.returns
 returns c =
-    acts_asked c.call_of-group.ensures _ c.in-Asks.is c.ask.ensures c.refusal_in.result (written_as c.refusal_in.ensures)
+    acts_asked c.call_of-group.ensures _ c.in-Asks.is c.ask.ensures c.refusal_in.result c.refusal_in.ensures
     c.note-noted.ensures

@@ -6,4 +6,4 @@ use Rattle.ngawdrelo.proofs.ngawdrelo_gauge_read.Goals as goal
 pub returns : goal.returns
 returns c =
     let e = c.read-r.ensures in
-    (c.light_of.ensures ∙ ap light_words e, c.value_of_lem.ensures ∙ ap light_value e)
+    (c.light_of.ensures ∙ ap light_words e, c.value_of.ensures ∙ ap light_value e)

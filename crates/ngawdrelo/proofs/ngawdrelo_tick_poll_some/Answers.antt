@@ -1,5 +1,7 @@
 -- `ngawdrelo_tick_poll_some` meets its claim: the reading decides whether the store is asked (`polled_some`, `some_asks_nothing`).
-use Rattle.tick.proofs.laws.Reading.{not_ok, polled_some}
+use Rattle.queue.specs.declared.Answer.TheVariants as A
+use Rattle.promises.proofs.laws.Once.{told_one}
+use Rattle.tick.proofs.laws.Reading.{polled_some}
 use Rattle.ngawdrelo.proofs.laws.Face.{said, some_asks_nothing}
 use Rattle.ngawdrelo.proofs.ngawdrelo_tick_poll_some.Goals as goal
 
@@ -11,4 +13,4 @@ returns-in-Done c =
 pub returns-in_default : goal.returns-in_default
 returns-in_default c =
     let r = c.read-seen in
-    said r.result.answer c.words_of.ensures (some_asks_nothing r.result.answer r.ensures (not_ok r.result.answer c.in_default.in_default-own.keys2))
+    said r.result.answer c.words_of.ensures (some_asks_nothing r.result.answer r.ensures (λ e. c.in_default.not-Done (told_one r.result.answer A.Done e)))

@@ -1,5 +1,4 @@
 -- `format` meets its contract: after i steps i records are chained (`fill_step`), and the last has nobody after it (`fill_done`).
-use Prim.Native.Nat.{◌-◌}
 use native.Mathlib.Omega.{arith}
 use Rattle.places.proofs.laws.Format.{fill_none, fill_step, fill_last, fill_done}
 use Rattle.places.proofs.format.Goals as goal

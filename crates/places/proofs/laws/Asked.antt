@@ -4,7 +4,7 @@ use mathlib.Core.Bool.{Bool, true, false, not}
 use Prim.Native.Nat.{ℕ, ◌≤◌, ◌<◌}
 use native.Mathlib.Omega.{arith}
 use lib.Dec.{ltb}
-use borrow.Author.Tests.{ltb-true, ltb-false, not_true, not-false}
+use borrow.Author.Tests.{ltb-true, ltb-false, not-true, not-false}
 use Rattle.places.specs.Places.{slot_place, slots, level_at, slot_at}
 
 module _ {p m : ℕ} {b : Bool} (e : b ≡ ltb p m) where
@@ -18,7 +18,7 @@ module _ {p m : ℕ} {b : Bool} (e : b ≡ ltb p m) where
   is_below n = below (not-false b n)
 
   pub not_below : not b ≡ true → m ≤ p
-  not_below n = past (not_true b n)
+  not_below n = past (not-true b n)
 
 -- a slot's level and slot
 pub slot_parts : {p k s : ℕ} {b : Bool} → b ≡ ltb p slots → not b ≡ false → k ≡ level_at p → s ≡ slot_at p

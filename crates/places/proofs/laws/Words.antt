@@ -7,7 +7,7 @@ use Prim.Native.Nat.{ℕ, ◌<◌}
 use native.Mathlib.Omega.{arith}
 use borrow.Author.Tests.{eq-eqb, ne_eqb}
 use Rattle.links.specs.Lists.{nobody}
-use Rattle.links.specs.Links.{Links, links, at, net, joined, added, head_with, cut_out, head_after}
+use Rattle.links.specs.Links.{Links, at, net, joined, added, head_with, cut_out, head_after}
 use Rattle.links.proofs.laws.Judge.{judge}
 use Rattle.places.specs.declared.Tops.{Tops}
 use Rattle.places.specs.Places.{slot_place, free, places}

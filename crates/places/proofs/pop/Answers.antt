@@ -4,7 +4,7 @@ use Rattle.places.proofs.pop.Goals as goal
 
 pub returns-then-item : goal.returns-then-item
 returns-then-item c =
-    (c.head_of-item.ensures, pop_none _ _ _ c.head_of-item.ensures c.if-item.true)
+    record { value = c.head_of-item.ensures; marks_value = pop_none _ _ _ c.head_of-item.ensures c.if-item.true }
 
 pub remove-requires : goal.remove-requires
 remove-requires c =
@@ -12,4 +12,4 @@ remove-requires c =
 
 pub returns : goal.returns
 returns c =
-    record { value = c.head_of-item.ensures;  marks_value = pop_some _ _ _ c.head_of-item.ensures c.if-item.false c.remove.ensures }
+    record { value = c.head_of-item.ensures; marks_value = pop_some _ _ _ c.head_of-item.ensures c.if-item.false c.remove.ensures }

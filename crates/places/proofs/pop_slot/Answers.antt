@@ -6,7 +6,7 @@ use Rattle.places.proofs.pop_slot.Goals as goal
 
 pub returns-then-item : goal.returns-then-item
 returns-then-item c =
-    (refl, λ st. pop_none _ _ _ (slot_head_lem _ _ c.requires.level c.requires.slot st _) c.if-item.true)
+    record { value = refl; slotwise = λ st. pop_none _ _ _ (slot_head_lem _ _ c.requires.level c.requires.slot st _) c.if-item.true }
 
 pub cut-left-requires : goal.cut-left-requires
 cut-left-requires c =
@@ -16,4 +16,4 @@ pub returns : goal.returns
 returns c =
     let there = c.if-item.false in
     let pre = c.requires in
-    record { value = refl;  slotwise = pop_slot_is _ _ pre.level pre.slot _ _ _ _ refl there (pre.marked there) c.cut-left.ensures.value refl c.cut-left.ensures.marks_value }
+    record { value = refl; slotwise = pop_slot_is _ _ pre.level pre.slot _ _ _ _ refl there (pre.marked there) c.cut-left.ensures.value refl c.cut-left.ensures.marks_value }

@@ -7,19 +7,20 @@ use Rattle.places.proofs.set_head.Goals as goal
 pub returns-then-place-lt-SLOTS : goal.returns-then-place-lt-SLOTS
 unfolding heads_with tops_with
 returns-then-place-lt-SLOTS c =
-    simp (lt-ltb _ _ c.if-place-lt-SLOTS.true) (refl, refl)
+    simp (lt-ltb _ _ c.if-place-lt-SLOTS.true) (record { tops_value = refl; heads_value = refl })
 
 pub returns-then-place-eq-PARKING : goal.returns-then-place-eq-PARKING
 unfolding heads_with tops_with
 returns-then-place-eq-PARKING c =
-    simp (le-ltb _ _ c.if-place-lt-SLOTS.false, eq-eqb _ _ c.if-place-eq-PARKING.true) (refl, refl)
+    simp (le-ltb _ _ c.if-place-lt-SLOTS.false, eq-eqb _ _ c.if-place-eq-PARKING.true) (record { tops_value = refl; heads_value = refl })
 
 pub returns-then-place-eq-EXPIRED : goal.returns-then-place-eq-EXPIRED
 unfolding heads_with tops_with
 returns-then-place-eq-EXPIRED c =
-    simp (le-ltb _ _ c.if-place-lt-SLOTS.false, ne_eqb _ _ c.if-place-eq-PARKING.false, eq-eqb _ _ c.if-place-eq-EXPIRED.true) (refl, refl)
+    simp (le-ltb _ _ c.if-place-lt-SLOTS.false, ne_eqb _ _ c.if-place-eq-PARKING.false, eq-eqb _ _ c.if-place-eq-EXPIRED.true) (record { tops_value = refl; heads_value = refl })
 
 pub returns : goal.returns
 unfolding heads_with tops_with
 returns c =
-    let p = simp (le-ltb _ _ c.if-place-lt-SLOTS.false, ne_eqb _ _ c.if-place-eq-PARKING.false, ne_eqb _ _ c.if-place-eq-EXPIRED.false) (refl, refl) in record { tops_value = p.0;  heads_value = p.1 }
+    simp (le-ltb _ _ c.if-place-lt-SLOTS.false, ne_eqb _ _ c.if-place-eq-PARKING.false, ne_eqb _ _ c.if-place-eq-EXPIRED.false)
+    (record { tops_value = refl; heads_value = refl })

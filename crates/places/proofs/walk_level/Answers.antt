@@ -1,10 +1,9 @@
 -- `walk_level` meets its contract: the slots passed are walked and have their flags (`level_passed`, `level_taken`), or a list is wrong (`level_wrong`).
 use mathlib.Core.Path.{sym, ◌∙◌, subst}
-use Prim.Native.Nat.{◌-◌}
 use native.Mathlib.Omega.{arith}
 use Rattle.places.proofs.laws.Judge.{WalkedSo, level_begun, level_passed, level_taken, level_wrong, level_done}
 use Rattle.places.proofs.walk_level.Goals as goal
-use Rattle.places.proofs.walk_level.Goals.{else-head, then-head}
+use Rattle.places.proofs.walk_level.Goals.{else-head, then-head+in-Left}
 
 pub loop-slot-init : goal.loop-slot-init
 loop-slot-init c =
@@ -18,9 +17,12 @@ pub loop-slot-preserved : goal.loop-slot-preserved
 loop-slot-preserved c =
     let S = c.loop-slot.invariant in
     let h = c.loop-slot-test.true in
-    elim c.if-head.branch [ then-head w ↦ 
-    subst (λ l. WalkedSo _ _ _ _ l _) (sym w.IS0)
-    (level_taken _ _ (omega arith) S h w.slot_place.ensures w.walk_list-walk.ensures w.if-head.true _ w.in-Left.is (w.IS1 ∙ w.set-filled.ensures)) | else-head w ↦ rw (w.IS0, w.IS1) (level_passed _ _ (omega arith) S h w.if-head.false) ]
+    elim c.if-head.branch [
+      | then-head+in-Left w ↦
+          subst (λ l. WalkedSo _ _ _ _ l _) (sym w.left-is)
+          (level_taken _ _ (omega arith) S h w.slot_place.ensures w.walk_list-walk.ensures w.if-head.true _ w.in-Left.is (w.filled-is ∙ w.set-filled.ensures))
+      | else-head w ↦ rw (w.left-is, w.filled-is) (level_passed _ _ (omega arith) S h w.if-head.false)
+    ]
 
 pub returns : goal.returns
 returns c =

@@ -1,7 +1,6 @@
 -- `walk_rest` meets its contract: what the walk of the places finds from here is what it finds from the first that is no slot (`judge_go`, and a
 -- law for each way out).
 use mathlib.Core.Path.{refl, ◌∙◌}
-use Prim.Native.Nat.{◌-◌}
 use native.Mathlib.Omega.{arith}
 use Rattle.places.proofs.laws.Judge.{judge_go, judge_wrong, rest_wrong, rest_end}
 use Rattle.places.proofs.walk_rest.Goals as goal

@@ -2,7 +2,7 @@
 -- due timer is out or removed within as many accepted polls as timers were pending.
 use mathlib.Core.Path.{◌≡◌, refl, sym, ap, ◌∙◌, subst}
 use mathlib.Core.Logic.{inl, ⊎_elim, by_cases}
-use mathlib.Core.Bool.{Bool, true, false, not, ◌&&◌, cond, true≢false, and_false}
+use mathlib.Core.Bool.{Bool, true, false, not, ◌&&◌, cond, true≢false, and-false}
 use mathlib.Core.List.{List, [], ◌∷◌}
 use mathlib.Core.Option.{Option, none, some}
 use Prim.Native.Nat.{ℕ, ◌+◌, ◌-◌, ◌≤◌, ◌<◌, max}
@@ -186,9 +186,9 @@ due_counted d (C.Insert value when period) b f = refl
 due_counted d (C.Reset key when) b f = refl
 due_counted d (C.Remove key) b f = refl
 due_counted d (C.Poll now) true f = rw (le-leb d now (f now whole refl))
-due_counted d (C.Poll now) false f = rw (and_false (due_poll d (C.Poll now)))
+due_counted d (C.Poll now) false f = rw (and-false (due_poll d (C.Poll now)))
 due_counted d (C.PollSome now limit) true f = rw (le-leb d now (f now limited refl))
-due_counted d (C.PollSome now limit) false f = rw (and_false (due_poll d (C.PollSome now limit)))
+due_counted d (C.PollSome now limit) false f = rw (and-false (due_poll d (C.PollSome now limit)))
 due_counted d C.Wake b f = refl
 due_counted d C.Length b f = refl
 due_counted d C.Clear b f = refl

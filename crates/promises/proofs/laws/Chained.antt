@@ -23,7 +23,7 @@ use Rattle.wheel.proofs.laws.Moves.{got_none, got_some}
 use Rattle.queue.specs.declared.Answer.{Answer}
 use Rattle.queue.specs.Told.{Told, told}
 use Rattle.queue.specs.Told as T
-use Rattle.queue.specs.Steps.{once, again, ended, TakesSome, popped_some, polled_some, PollsSome, handed_some, nothing_some, not_yet}
+use Rattle.queue.specs.Steps.{GoesOn, once, again, ended, TakesSome, popped_some, polled_some, PollsSome, handed_some, nothing_some, not_yet}
 use Rattle.queue.specs.Steps.{PollsRest, handed_rest, nothing_rest}
 use Rattle.queue.proofs.laws.Polls.{rest_size}
 use Rattle.records.specs.View.{View, with_elapsed, with_lists, with_hand}
@@ -105,6 +105,7 @@ chain_rested S K (next {x = x} P rest) (last p f) = last_rested S K p x.answer _
 chain_rested {s} {t} S K (next {t = u} {x = x} P R) (more p e H) =
     let Y = (yet_to S K p x.answer u P e).2 in
     more_rested S K p x.answer u t P e (chain_rested (call_sound x.call s x.answer u P S) (taken_on S K Y) R H)
+chain_rested S K rest H = elim H [ ]
 
 -- ---- "Chained calls give the whole poll's answer, store and summed counts."
 
@@ -113,6 +114,7 @@ chain_refused : {s t : QueueWords} {now k : ℕ} {l : List Asked} {x : Told} →
     → (x ≡ T.no k) × (t ≡ s) × (length l ≡ 1)
 chain_refused {s} N (next {t = t} {x = x} P rest) (last p f) = let R = N x.call p x.answer t P in (R.told, R.same, refl)
 chain_refused {s} N (next {t = u} {x = x} P R) (more p e H) = absurd (no_yet (N x.call p x.answer u P).told e)
+chain_refused N rest H = elim H [ ]
 
 -- whatever is lent, whatever limits, ended by a limited or by the whole poll: the whole poll's answer with the summed counts, and its store, word for word
 pub chained : {s t : QueueWords} {now : ℕ} {l : List Asked} {x : Told} → Runs s l t → Chain now l x
@@ -146,10 +148,13 @@ rest_of_whole {s} {u} {t} {now} {limit} y a P e Q =
 -- ---- how many calls
 
 -- the moves of an answer that is added to are its own and those
+goes_moves : {v : View} {r i j : ℕ} {u : View} {x : Told} {w : View} (m n : ℕ) → GoesOn v r i j u x w → moves_of (added m n x) ≡ m + moves_of x
+goes_moves m n (once z) = refl
+goes_moves m n (again q f) = refl
+goes_moves m n (ended q f) = refl
+
 rest_moves : {v : View} {now : ℕ} {x : Told} {w : View} (m n : ℕ) → PollsRest v now x w → moves_of (added m n x) ≡ m + moves_of x
-rest_moves m n (handed_rest T (once z)) = refl
-rest_moves m n (handed_rest T (again q f)) = refl
-rest_moves m n (handed_rest T (ended q f)) = refl
+rest_moves m n (handed_rest T G) = goes_moves m n G
 rest_moves m n (nothing_rest T) = refl
 
 -- a call that ends makes no more moves than it may
@@ -212,6 +217,7 @@ chain_counts {s} {t} {now} {b} S K (next {t = u} {x = x} P R) (more {l = l} {m =
     let q = rest_moves m n (chain_rested U J R H).polls in
     let h : suc (length l) * b < moves_of (added m n y) + b = omega (arith, q, yet_all Y.polls, N.1 D) in
     (record { few = omega (arith, q, yet_all Y.polls, N.0.few); many = inr h }, λ _. h)
+chain_counts S K rest H A = elim H [ ]
 
 -- "For a limit b of at least 1 and m moves in all, it takes exactly the larger of 1 and m/b rounded up calls": from any words, begun or gone on with
 pub calls_exact : {s t : QueueWords} {now b : ℕ} {l : List Asked} {x : Told} → 0 < b → Runs s l t → Chain now l x → Limits now b l
@@ -287,11 +293,15 @@ Filled none L = Unit {0}
 Filled (some p) L = (x : ℕ) × (l : List ℕ) × (L p ≡ x ∷ l)
 
 -- it stops where it is
+no_room : {d : ℕ → ℕ} {now e p m n c : ℕ} {h : Option ℕ} {L N : Lists} → Limited d now h 0 e L (yet p) m n c N → Filled h L
+    → (m ≡ 0) × (n ≡ 0) × (c ≡ e) × (N ≡ L)
+no_room (finds X h r) f = no_room r (list_some X)
+no_room (stops i) f = (refl, refl, refl, refl)
+no_room (empties i r) f = absurd (nil≢cons (sym i ∙ f.2))
+
 zero_stops : {d : ℕ → ℕ} {now e p m n c : ℕ} {h : Option ℕ} {L N : Lists} → Filled h L → Limited d now h 0 e L (yet p) m n c N
     → (m ≡ 0) × (n ≡ 0) × (c ≡ e) × (N ≡ L)
-zero_stops f (finds X h r) = zero_stops (list_some X) r
-zero_stops f (stops i) = (refl, refl, refl, refl)
-zero_stops f (empties i r) = absurd (nil≢cons (sym i ∙ f.2))
+zero_stops f r = no_room r f
 
 module _ {s t : QueueWords} (S : Sound s) (U : Sound t) (kept : PastKept (count s) s t) {now p m n : ℕ} (K : PollTaken (view s) now)
     (Y : YetTo (view s) now 0 p m n (view t)) where

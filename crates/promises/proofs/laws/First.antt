@@ -156,11 +156,13 @@ module _ {s : QueueWords} (S : Sound s) where
         key = omega (arith, q, b);
         clock = inl refl;
       }
+  insert_placed (polls c h Q) z = elim c [ ]
 
   reset_placed : {k when : ℕ} {x : Told} {w : View} → ViewGoes (view s) (C.Reset k when) x w → x ≡ T.ok → PlacedAt s k when w
   unfolding left
   reset_placed refuses z = let y : ◌≡◌ {A = ℕ} 0 1 = cc in absurd (omega arith)
   reset_placed (resets {r = i} {p = p} M) z = record { number = i; from = left p i (view s); is = refl; key = M.number; clock = inl refl }
+  reset_placed (polls c h Q) z = elim c [ ]
 
   -- "places it at w plus period under the same key"
   again_placed : {now limit i m n : ℕ} {u : View} {x : Told} {w : View} → PollTaken (view s) now → TakesSome (view s) now limit (stopped (some i)) m n u

@@ -30,7 +30,7 @@ use Rattle.promises.proofs.laws.OneCall.{call_sound, one_sound, insert_shown}
 use Rattle.promises.specs.Runs.{Asked, Runs, rest, next, All, NoFormat}
 use Rattle.promises.proofs.laws.Runs.{run_sound}
 use Rattle.promises.proofs.laws.Clock.{Stands, other_stands}
-use Rattle.promises.proofs.laws.Views.{ViewGoes, refuses, removes, call_goes, goes_rest}
+use Rattle.promises.proofs.laws.Views.{ViewGoes, refuses, removes, polls, call_goes, goes_rest}
 use Rattle.promises.proofs.laws.KeysOne.{Onward, onward_same, onward_then, freed_more, does_onward}
 use Rattle.promises.proofs.laws.KeysGone.{Given, Spent, given_onward, spent_onward, names_given, spent_unnamed, given_kept, out_spent, spent_kept, remove_spent, clear_spent}
 use Rattle.promises.specs.KeysStay.{HandsKey}
@@ -58,6 +58,7 @@ module _ {s : QueueWords} (S : Sound s) {k : ℕ} where
   remove_left : {x : Told} {w : View} → ViewGoes (view s) (C.Remove k) x w → {v d : ℕ} → x ≡ T.gone v d → Spent w k
   remove_left refuses z = let y : ◌≡◌ {A = ℕ} 0 1 = cc in absurd (omega arith)
   remove_left (removes N) z = remove_spent S N
+  remove_left (polls c h Q) z = elim c [ ]
 
   left_spent : (c : Call) (a : Answer) (t : QueueWords) → Leaves s k (told a) c → CallClaim c s a t → Spent (view t) k
   left_spent c a t (polled {r = r} {p = p} at e N d) A =
@@ -169,6 +170,7 @@ taken_next {u} {k} (removes {r = i} {p = p} N) z d =
     let u = left p i u in
     rw (freed_more i u (λ e. d (sym N.turn ∙ e)), ← N.number, ← N.turn)
     (_, change_same u.lists free (put free i (u.lists free)), upd_same u.turn i (u.turn i + 1))
+taken_next (polls c h Q) z d = elim c [ ]
 
 -- and the clock, which stood at 0, stands there
 at_zero : {e : ℕ} → Stands 0 e → e ≡ 0

@@ -27,7 +27,7 @@ use Rattle.delay_queue.specs.Claims.{ClearClaim}
 use Rattle.delay_queue.proofs.laws.Back.{taken_up}
 use Rattle.promises.proofs.laws.Met.{clear_first}
 use Rattle.promises.proofs.laws.Once.{clear_once}
-use Rattle.promises.proofs.laws.Views.{ViewGoes, refuses, inserts, call_goes, key_inserts, out_polls}
+use Rattle.promises.proofs.laws.Views.{ViewGoes, refuses, inserts, polls, call_goes, key_inserts, out_polls}
 use Rattle.promises.proofs.laws.TakesOut.{one_list, key_of_names, moved_out, taken_out}
 use Rattle.promises.proofs.laws.KeysOne.{Onward, freed_last, freed_more, does_onward}
 use Rattle.promises.specs.Polling.{Finished}
@@ -176,6 +176,7 @@ module _ {s : QueueWords} (S : Sound s) {k : ℕ} where
       let number : i ≡ number_in k = omega arith in
       let turn : (view s).turn i ≡ turn_in k = omega arith in
       (rw (← number) at G.taken) turn (rw e (inl refl))
+  insert_new G (polls c h Q) z = elim c [ ]
 
   module _ {c : Call} {x : Told} {w : View} (D : ViewGoes (view s) c x w) where
     -- a key that was given is not answered

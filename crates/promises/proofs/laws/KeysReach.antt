@@ -26,7 +26,7 @@ use Rattle.delay_queue.specs.Claims.{CallClaim}
 use Rattle.promises.proofs.laws.OneCall.{call_sound}
 use Rattle.promises.specs.Runs.{Asked, Runs, rest, next, All}
 use Rattle.promises.proofs.laws.Runs.{run_sound}
-use Rattle.promises.proofs.laws.Views.{ViewGoes, refuses, inserts, resets, call_goes, out_polls}
+use Rattle.promises.proofs.laws.Views.{ViewGoes, refuses, inserts, resets, polls, call_goes, out_polls}
 use Rattle.promises.proofs.laws.Polling.{target_timed, says_of, Fairly, PolledBy, poll_works, none_out}
 use Rattle.promises.proofs.laws.KeysStay.{Stays, does_stays}
 use Rattle.promises.specs.KeysReach.{Reaches, Spares}
@@ -71,6 +71,7 @@ module _ {s : QueueWords} (S : Sound s) where
       subst (λ x. Reaches (placed i when u) k x period (max when (elapsed s))) (upd_same (view s).value i value)
       (subst (λ x. Reaches (placed i when u) k (upd (view s).value i value i) x (max when (elapsed s))) (upd_same (view s).period i period)
       (placed_reaches u i when number h turn))
+  insert_does (polls c h Q) z = elim c [ ]
 
   reset_does : {k when : ℕ} {x : Told} {w : View} → ViewGoes (view s) (C.Reset k when) x w → x ≡ T.ok → {y q d : ℕ} → Reaches (view s) k y q d
       → Reaches w k y q (max when (elapsed s))
@@ -81,6 +82,7 @@ module _ {s : QueueWords} (S : Sound s) where
       let e : (view s).value i ≡ y = ap (view s).value j ∙ R.value in
       let f : (view s).period i ≡ q = ap (view s).period j ∙ R.period in
       rw (← e, ← f) (placed_reaches (left p i (view s)) i when N.number N.below N.turn)
+  reset_does (polls c h Q) z R = elim c [ ]
 
   -- what is handed out under the key is the record that the key names
   pub poll_tells : {now limit : ℕ} {x : Told} {w : View} → PollTaken (view s) now → PollsSome (view s) now limit x w → {k y q d v e m n : ℕ}

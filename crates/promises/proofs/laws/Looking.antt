@@ -143,14 +143,17 @@ next_now (at_once n) e = refl
 next_now (from_wheel n W) e = absurd (nil≢cons (sym n ∙ e))
 
 -- all that is pending is parked, and something is
-next_parked : {v : View} {x : Told} {r : ℕ} → NextWake v x → At v r parking → ((y p : ℕ) → At v y p → p ≡ parking) → x ≡ T.wake (block_end v.elapsed)
-next_parked (at_once {r} n) a only = absurd (omega (arith, only r expired (record { timed = omega arith; member = rw n (inl refl) })))
-next_parked {r = r} (from_wheel n (sleeps E)) a only = absurd (none_waits E parking r (omega arith) a.member)
-next_parked (from_wheel n (starts (in_slot {k} {s} F))) a only =
+parked_start : {v : View} {k p c : ℕ} → NextList v.elapsed v.lists k p c → ((y p : ℕ) → At v y p → p ≡ parking) → c ≡ block_end v.elapsed
+parked_start (in_slot {k} {s} F) only =
     let z : slot_place k s ≡ parking = only F.head (slot_place k s)
     (record { timed = omega (arith, F.within, F.is); member = rw F.filled (inl refl) }) in
     absurd (omega (arith, z, F.within, F.is))
-next_parked (from_wheel n (starts (in_parking E is))) a only = refl
+parked_start (in_parking E is) only = refl
+
+next_parked : {v : View} {x : Told} {r : ℕ} → NextWake v x → At v r parking → ((y p : ℕ) → At v y p → p ≡ parking) → x ≡ T.wake (block_end v.elapsed)
+next_parked (at_once {r} n) a only = absurd (omega (arith, only r expired (record { timed = omega arith; member = rw n (inl refl) })))
+next_parked {r = r} (from_wheel n (sleeps E)) a only = absurd (none_waits E parking r (omega arith) a.member)
+next_parked {v} (from_wheel n (starts X)) a only = rw (parked_start X only) refl
 
 -- while no poll is in hand: else it is refused with 12 (02 [10])
 module _ {s : QueueWords} {a : Answer} (W : WakeClaim s a) (S : Sound s) (z : AtRest s) where

@@ -70,16 +70,14 @@ looks {s} S e = accepted (record { says = e; sound = S; kept = past_refl (count 
 left_so : {s t : QueueWords} {a : Answer} → t ≡ s → Ends (count s) s a s → Ends (count s) s a t
 left_so {s} {t} {a} e E = rw e E
 
-pub polls_says : {v : View} {now : ℕ} {x : Told} {u : View} → QueuePolls v now x u → is_no x ≡ false
-polls_says (handed T (once z)) = refl
-polls_says (handed T (again p f)) = refl
-polls_says (handed T (ended p f)) = refl
-polls_says (nothing (polled e P)) = refl
-
 goes_says : {v : View} {r m n : ℕ} {u : View} {x : Told} {w : View} → GoesOn v r m n u x w → is_no x ≡ false
 goes_says (once z) = refl
 goes_says (again p f) = refl
 goes_says (ended p f) = refl
+
+pub polls_says : {v : View} {now : ℕ} {x : Told} {u : View} → QueuePolls v now x u → is_no x ≡ false
+polls_says (handed T G) = goes_says G
+polls_says (nothing (polled e P)) = refl
 
 pub some_says : {v : View} {now limit : ℕ} {x : Told} {u : View} → PollsSome v now limit x u → is_no x ≡ false
 some_says (handed_some T G) = goes_says G

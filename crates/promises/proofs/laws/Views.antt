@@ -57,10 +57,13 @@ call_goes c s a t S A = of (does S c A)
 
 -- ---- who answers so
 
+goes_no_key : {v : View} {r m n : ℕ} {u : View} {x : Told} {w : View} → GoesOn v r m n u x w → {k : ℕ} → x ≡ T.key k → ⊥
+goes_no_key (once p) z = let y : ◌≡◌ {A = ℕ} 0 1 = cc in omega arith
+goes_no_key (again p f) z = let y : ◌≡◌ {A = ℕ} 0 1 = cc in omega arith
+goes_no_key (ended p f) z = let y : ◌≡◌ {A = ℕ} 0 1 = cc in omega arith
+
 poll_no_key : {v : View} {now limit : ℕ} {x : Told} {w : View} → PollsSome v now limit x w → {k : ℕ} → x ≡ T.key k → ⊥
-poll_no_key (handed_some T (once p)) z = let y : ◌≡◌ {A = ℕ} 0 1 = cc in omega arith
-poll_no_key (handed_some T (again p f)) z = let y : ◌≡◌ {A = ℕ} 0 1 = cc in omega arith
-poll_no_key (handed_some T (ended p f)) z = let y : ◌≡◌ {A = ℕ} 0 1 = cc in omega arith
+poll_no_key (handed_some T G) z = goes_no_key G z
 poll_no_key (nothing_some T) z = let y : ◌≡◌ {A = ℕ} 0 1 = cc in omega arith
 poll_no_key (not_yet T) z = let y : ◌≡◌ {A = ℕ} 0 1 = cc in omega arith
 

@@ -1,7 +1,7 @@
 -- How long a due timer waits: no more accepted polls than timers were pending.
 use mathlib.Core.Path.{◌≡◌, refl, sym, ap, ◌∙◌}
 use mathlib.Core.Logic.{inl, inr, ⊎_elim, by_cases, ◌≢◌}
-use mathlib.Core.Bool.{Bool, true, false, not, ◌&&◌, cond, true≢false, and_false}
+use mathlib.Core.Bool.{Bool, true, false, not, ◌&&◌, cond, true≢false, and-false}
 use mathlib.Core.List.{List, [], ◌∷◌}
 use mathlib.Core.Option.{none}
 use Prim.Native.Nat.{ℕ, ◌+◌, ◌≤◌, ◌<◌}
@@ -120,7 +120,7 @@ module _ {s : QueueWords} (S : Sound s) (once : NoneRepeats (view s)) {k y d : �
       let O = taken_out S h T in
       waits_on (polls at h (not_yet T)) (λ a. absurd (no_aim at a)) (λ o. none_out o.4)
       (λ i q. ap (λ g. g i) O.period ∙ once i (O.was i q.0 q.1))
-      (rw (and_false (due_poll d c)) (omega (arith, yet_fewer (takes_works S h T))))
+      (rw (and-false (due_poll d c)) (omega (arith, yet_fewer (takes_works S h T))))
   went_poll {c} {now} {x = x} {w = w} at h (handed_some {r = i} {m} {n} {u} T G) =
       let a = (taken_out S h T).out i refl in
       let z : Hands x (key_of (view s) i) ((view s).value i) ((view s).deadline i) m n = goes_on_says G in
@@ -147,7 +147,7 @@ module _ {s : QueueWords} (S : Sound s) (once : NoneRepeats (view s)) {k y d : �
           let z : timer a b c e f ≡ timer a' b' c' e' f' = sym p ∙ q in cc
 
   pub went : {c : Call} {x : Told} {w : View} → ViewGoes (view s) c x w → (disturbs c && not (is_no x)) ≡ false → Went (view s) k y d c x w
-  went (refuses {c}) quiet = waits R once (rw (and_false (due_poll d c)) (omega arith))
+  went (refuses {c}) quiet = waits R once (rw (and-false (due_poll d c)) (omega arith))
   went formats quiet = absurd (true≢false quiet)
   went (inserts e) quiet = absurd (true≢false quiet)
   went (resets N) quiet = absurd (true≢false quiet)

@@ -1,6 +1,5 @@
 -- `clear` meets its contract: the records passed are done (`clear_step`), and then all are (`clear_done`).
 use borrow.Author.Rules.{rules}
-use Prim.Native.Nat.{◌-◌}
 use native.Mathlib.Omega.{arith}
 use Rattle.queue.proofs.laws.Polls.{clear_none, clear_step, clear_done}
 use Rattle.queue.proofs.clear.Goals as goal
@@ -10,12 +9,11 @@ loop-i-init c =
     (omega arith, c.count_of-n.ensures, clear_none c.requires)
 
 pub loop-i-preserved : goal.loop-i-preserved
-loop-i-preserved c =
-    (
-      omega arith,
-      c.loop-i.invariant.1,
-      clear_step c.loop-i.invariant.2 (search rules) c.clear_one.ensures,
-    )
+loop-i-preserved c = (
+  omega arith,
+  c.loop-i.invariant.1,
+  clear_step c.loop-i.invariant.2 (search rules) c.clear_one.ensures,
+)
 
 pub returns : goal.returns
 returns c =

@@ -23,7 +23,7 @@ leave-requires c =
 
 pub returns-then-period-eq0 : goal.returns-then-period-eq0
 returns-then-period-eq0 c =
-    rw at-period.before.value_of_lem.ensures
+    rw c.value_of-value.ensures
     (out_done c.requires.sound_but c.requires.loose_at _ _ c.key_of-key.ensures (sym c.period_of-period.ensures ∙ c.if-period-eq0.true)
     c.leave.ensures)
 
@@ -33,7 +33,7 @@ leave-requires-in_default c =
 
 pub returns-in_default : goal.returns-in_default
 returns-in_default c =
-    rw at-period.before.value_of_lem.ensures
+    rw c.value_of-value.ensures
     (out_last c.requires.sound_but c.requires.loose_at _ _ c.key_of-key.ensures (λ z. c.if-period-eq0.false (c.period_of-period.ensures ∙ z))
     (again_never _ c.period_of-period.ensures c.next_time-next.ensures c.in_default.is)
     c.leave-in_default.ensures)
@@ -45,7 +45,7 @@ place-requires c =
 
 pub returns : goal.returns
 returns c =
-    rw at-period.before.value_of_lem.ensures
+    rw c.value_of-value.ensures
     (out_again c.requires.sound_but c.requires.loose_at _ _ c.key_of-key.ensures (λ z. c.if-period-eq0.false (c.period_of-period.ensures ∙ z))
     (again_at _ c.period_of-period.ensures c.next_time-next.ensures _ c.in-At.is)
     c.place.ensures)

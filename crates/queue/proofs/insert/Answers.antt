@@ -1,7 +1,7 @@
 -- `insert` meets its contract: full, a deadline that is refused, or taken, given its value and period and placed (`insert_done`).
 use mathlib.Core.Path.{refl, sym, ◌∙◌}
 use native.Mathlib.Omega.{arith}
-use Rattle.queue.proofs.laws.Calls.{insert_full, insert_refused, insert_place, insert_done}
+use Rattle.queue.proofs.laws.Calls.{insert_full, insert_refused, insert_words, insert_place, insert_done}
 use Rattle.queue.proofs.insert.Goals as goal
 
 pub returns-then-first_free-eq-NOBODY : goal.returns-then-first_free-eq-NOBODY
@@ -10,7 +10,7 @@ returns-then-first_free-eq-NOBODY c =
 
 pub returns-then-no-ne0 : goal.returns-then-no-ne0
 returns-then-no-ne0 c =
-    insert_refused c.requires refl _ _ _ (some c) c.deadline_no-no.ensures c.if-no-ne0.true
+    insert_refused c.requires refl _ _ _ (λ z. c.if-first_free-eq-NOBODY.false (c.first_free.ensures ∙ z)) c.deadline_no-no.ensures c.if-no-ne0.true
 
 pub pop-item-requires : goal.pop-item-requires
 pop-item-requires c =
@@ -18,22 +18,25 @@ pop-item-requires c =
 
 pub give-requires : goal.give-requires
 give-requires c =
-    (words c).0
+    (insert_words c.requires refl 0 _ 0 (λ z. c.if-first_free-eq-NOBODY.false (c.first_free.ensures ∙ z))
+    c.deadline_no-no.ensures c.if-no-ne0.false c.pop-item.ensures).0
 
 pub bounds-turns-item : goal.bounds-turns-item
 bounds-turns-item c =
-    (words c).1
+    (insert_words c.requires refl 0 _ 0 (λ z. c.if-first_free-eq-NOBODY.false (c.first_free.ensures ∙ z))
+    c.deadline_no-no.ensures c.if-no-ne0.false c.pop-item.ensures).1
 
 pub key_of-key-requires : goal.key_of-key-requires
 key_of-key-requires c =
-    (words c).2
+    (insert_words c.requires refl 0 _ 0 (λ z. c.if-first_free-eq-NOBODY.false (c.first_free.ensures ∙ z))
+    c.deadline_no-no.ensures c.if-no-ne0.false c.pop-item.ensures).2
 
 pub place-requires : goal.place-requires
 place-requires c =
-    insert_place c.requires refl 0 _ 0 (some c) c.deadline_no-no.ensures c.if-no-ne0.false c.pop-item.ensures
+    insert_place c.requires refl 0 _ 0 (λ z. c.if-first_free-eq-NOBODY.false (c.first_free.ensures ∙ z)) c.deadline_no-no.ensures c.if-no-ne0.false c.pop-item.ensures
 
 pub returns : goal.returns
 returns c =
     rw c.give.ensures
-    (insert_done c.requires refl _ _ _ (some c) c.deadline_no-no.ensures c.if-no-ne0.false
+    (insert_done c.requires refl _ _ _ (λ z. c.if-first_free-eq-NOBODY.false (c.first_free.ensures ∙ z)) c.deadline_no-no.ensures c.if-no-ne0.false
     c.pop-item.ensures _ c.key_of-key.ensures c.place.ensures)

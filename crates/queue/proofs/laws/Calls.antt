@@ -2,7 +2,6 @@
 use mathlib.Core.Path.{◌≡◌, refl, sym, ap, ◌∙◌}
 use mathlib.Core.Logic.{◌≢◌}
 use mathlib.Core.List.{List, [], ◌∷◌, nil≢cons}
-use mathlib.Core.Option.{some}
 use Prim.Native.Nat.{ℕ, ◌+◌, ◌*◌, ◌^◌, ◌≤◌, ◌<◌}
 use native.Mathlib.Omega.{arith}
 use lib.ListN.{length}
@@ -19,7 +18,6 @@ use Rattle.queue.specs.Told.{Told, told, no}
 use Rattle.queue.specs.Told as T
 use Rattle.records.specs.View.{View, with_value, with_period, upd}
 use Rattle.records.specs.Records.{packed, Names, Near, taken, left, placed, freed}
-use Rattle.queue.specs.Steps.{kept}
 use Rattle.records.specs.Words.{QueueWords, queue_words, count, elapsed, mark_of, view, AtRest, Sound}
 use Rattle.records.proofs.laws.Words.{past_then}
 use Rattle.queue.specs.Calls.{Answered, InsertOn, ResetOn, RemoveOn}

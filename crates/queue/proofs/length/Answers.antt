@@ -1,6 +1,6 @@
 -- `length` meets its contract: the count is that of the records passed (`pending_more`, `pending_same`).
 use mathlib.Core.Path.{◌≡◌, sym, ap, ◌∙◌}
-use Prim.Native.Nat.{ℕ, ◌-◌, ◌+◌}
+use Prim.Native.Nat.{ℕ, ◌+◌}
 use native.Mathlib.Omega.{arith}
 use Rattle.queue.specs.Inner.{pending_in}
 use Rattle.queue.proofs.laws.Polls.{pending_zero, pending_more, pending_same}
@@ -14,7 +14,10 @@ loop-i-init c =
 pub loop-i-preserved : goal.loop-i-preserved
 loop-i-preserved c =
     let e = sym c.is_pending.ensures in
-    elim c.if-is_pending.branch [ then-is_pending w ↦ (omega arith, omega arith, w.IS0 ∙ ap (λ (x : ℕ). x + 1) c.loop-i.invariant.2 ∙ sym (pending_more _ _ (e ∙ w.if-is_pending.true))) | else-is_pending w ↦ (omega arith, omega arith, w.IS0 ∙ c.loop-i.invariant.2 ∙ sym (pending_same _ _ (e ∙ w.if-is_pending.false))) ]
+    elim c.if-is_pending.branch [
+      | then-is_pending w ↦ (omega arith, omega arith, w.count-is ∙ ap (λ (x : ℕ). x + 1) c.loop-i.invariant.2 ∙ sym (pending_more _ _ (e ∙ w.if-is_pending.true)))
+      | else-is_pending w ↦ (omega arith, omega arith, w.count-is ∙ c.loop-i.invariant.2 ∙ sym (pending_same _ _ (e ∙ w.if-is_pending.false)))
+    ]
 
 pub returns : goal.returns
 returns c =

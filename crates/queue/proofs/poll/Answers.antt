@@ -22,7 +22,8 @@ returns-then-item c =
 
 pub hand_out-answer-requires : goal.hand_out-answer-requires
 hand_out-answer-requires c =
-    poll_loose c.requires _ _ c.poll_no-no.ensures c.if-no-ne0.false c.poll_idx-due.ensures c.if-place.false c.if-item.false
+    let p = poll_loose c.requires _ _ c.poll_no-no.ensures c.if-no-ne0.false c.poll_idx-due.ensures c.if-place.false c.if-item.false in
+    record { sound_but = p.0; loose_at = p.1 }
 
 pub returns : goal.returns
 returns c =

@@ -37,4 +37,4 @@ pub returns : goal.returns
 returns c =
     remove_done c.requires refl _ 0
     (find_at c.count_of.ensures c.find-found.ensures _ c.in-At.is)
-    c.remove.ensures _ _ at_value.value_of_lem.ensures refl c.leave.ensures
+    c.remove.ensures _ _ c.value_of-value.ensures refl c.leave.ensures

@@ -1,5 +1,4 @@
 -- `fill` meets its contract: the words passed are x (`fill_next`).
-use Prim.Native.Nat.{◌-◌}
 use Rattle.records.proofs.laws.Format.{fill_begun, fill_next, fill_end}
 use Rattle.records.proofs.fill.Goals as goal
 

@@ -1,6 +1,5 @@
 -- `format_no` meets its contract, test by test.
 use native.Mathlib.Omega.{arith}
-use borrow.Author.Tests.{not_true, not-false}
 use Rattle.records.proofs.laws.Format.{no_one, no_eight, no_none}
 use Rattle.records.proofs.format_no.Goals as goal
 
@@ -14,11 +13,11 @@ returns-then-n c =
 
 pub returns-then-not-has_room : goal.returns-then-not-has_room
 returns-then-not-has_room c =
-    no_one (λ F. c.has_room.ensures.no (not_true _ c.if-not-has_room.true) F.room)
+    no_one (λ F. c.has_room.ensures.no c.if-not-has_room.true F.room)
 
 pub returns-then-turn-eq0 : goal.returns-then-turn-eq0
 returns-then-turn-eq0 c =
-    no_eight (record { some = omega arith; few = omega arith; room = c.has_room.ensures.yes (not-false _ c.if-not-has_room.false) })
+    no_eight (record { some = omega arith; few = omega arith; room = c.has_room.ensures.yes c.if-not-has_room.false })
     (λ T. omega (arith, T.some))
 
 pub returns-then-turn-gt-LAST_TURN : goal.returns-then-turn-gt-LAST_TURN
@@ -26,7 +25,7 @@ returns-then-turn-gt-LAST_TURN c =
     no_eight (record {
       some = omega arith;
       few = omega arith;
-      room = c.has_room.ensures.yes (not-false _ c.if-not-has_room.false);
+      room = c.has_room.ensures.yes c.if-not-has_room.false;
     })
     (λ T. omega (arith, T.last))
 
@@ -35,6 +34,6 @@ returns c =
     no_none (record {
       some = omega arith;
       few = omega arith;
-      room = c.has_room.ensures.yes (not-false _ c.if-not-has_room.false);
+      room = c.has_room.ensures.yes c.if-not-has_room.false;
     })
     (record { some = omega arith; last = omega arith })

@@ -9,7 +9,7 @@ use lib.ListN.{length, set, length-set}
 use lib.Seq.{ext_get_or, get_or-set_same, get_or-set_other}
 use borrow.Author.Tests.{eq-eqb, ne_eqb}
 use Rattle.links.specs.Lists.{nobody}
-use Rattle.links.specs.Links.{links, at}
+use Rattle.links.specs.Links.{at}
 use Rattle.links.proofs.laws.Whole.{kept_refl, kept_trans, links_refl, links_trans}
 use Rattle.places.proofs.laws.Whole as place_laws
 use Rattle.wheel.proofs.laws.Occupied.{occupied_fixed}

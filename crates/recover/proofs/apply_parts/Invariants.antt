@@ -1,5 +1,4 @@
 -- `apply_parts` meets its claim: one pass asks one step (`apply_pass`), and it ends where there is none (`apply_ends`).
-use mathlib.Core.Path.{◌≡◌}
 use Prim.Native.Nat.{◌-◌}
 use lib.ListN.{length}
 use Rattle.contracts.specs.Tells.{Tells}
@@ -12,12 +11,6 @@ invariant-loop-e l =
     Applying l.bytes (holding l.hand l.until (parts l.elapsed l.initial.occupied l.initial.tops l.initial.heads l.initial.values l.initial.deadlines l.initial.nexts l.initial.prevs l.initial.turns l.initial.marks))
     (holding l.h l.u (parts l.e l.occupied l.tops l.heads l.values l.deadlines l.nexts l.prevs l.turns l.marks)) l.used
     × Tells (Sound (holding l.h l.u (parts l.e l.occupied l.tops l.heads l.values l.deadlines l.nexts l.prevs l.turns l.marks))) l.fine
-    × (length l.values ≡ length l.initial.values)
-    × (length l.deadlines ≡ length l.initial.deadlines)
-    × (length l.nexts ≡ length l.initial.nexts)
-    × (length l.prevs ≡ length l.initial.prevs)
-    × (length l.turns ≡ length l.initial.turns)
-    × (length l.marks ≡ length l.initial.marks)
 
 abbrev pub decreases-loop-e : goal.decreases-loop-e
 decreases-loop-e l =

@@ -1,4 +1,6 @@
 -- `format_number`: 1 where N is out of range or a slice is too short.
+use mathlib.Core.Path.{ap}
+use mathlib.Core.Bool.{not}
 use Rattle.recover.proofs.laws.Parts.{not_none, not_many, no_room, fits_so}
 use Rattle.recover.proofs.format_number.Goals as goal
 
@@ -12,8 +14,8 @@ returns-then-n c =
 
 pub returns-then-not-has_room : goal.returns-then-not-has_room
 returns-then-not-has_room c =
-    no_room c.has_room.ensures c.if-not-has_room.true
+    no_room c.has_room.ensures (ap not c.if-not-has_room.true)
 
 pub returns : goal.returns
 returns c =
-    fits_so c.if-n-eq0.false c.if-n.false c.has_room.ensures c.if-not-has_room.false
+    fits_so c.if-n-eq0.false c.if-n.false c.has_room.ensures (ap not c.if-not-has_room.false)

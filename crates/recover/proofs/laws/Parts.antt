@@ -4,7 +4,7 @@ use mathlib.Core.Bool.{Bool, true, false, not, cond, false≢true}
 use mathlib.Core.List.{List}
 use Prim.Native.Nat.{ℕ, ◌+◌, ◌^◌, ◌≤◌, ◌<◌}
 use native.Mathlib.Omega.{arith}
-use borrow.Author.Tests.{lt-ltb, le-ltb, not_true, not-false}
+use borrow.Author.Tests.{lt-ltb, le-ltb, not-true, not-false}
 use lib.ListN.{length, take}
 use Rattle.contracts.specs.Tells.{Tells}
 use Rattle.places.specs.declared.Tops.{Tops}
@@ -81,7 +81,7 @@ pub not_many : {l : Slices} {n : ℕ} → 65535 < n → Short (Fits l n) 1
 not_many e = short (λ f. omega (arith, f.few))
 
 pub no_room : {l : Slices} {n : ℕ} {b : Bool} → Tells (Room n l) b → not b ≡ true → Short (Fits l n) 1
-no_room {b = b} T e = short (λ f. T.no (not_true b e) f.room)
+no_room {b = b} T e = short (λ f. T.no (not-true b e) f.room)
 
 pub fits_so : {l : Slices} {n : ℕ} {b : Bool} → (n ≡ 0 → ⊥) → n ≤ 65535 → Tells (Room n l) b → not b ≡ false → Short (Fits l n) 0
 fits_so {b = b} z h T e = enough (record { some = omega arith; few = h; room = T.yes (not-false b e) })

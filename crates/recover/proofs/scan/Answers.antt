@@ -3,15 +3,15 @@ use mathlib.Core.Path.{refl, sym, ◌∙◌}
 use mathlib.Core.Bool.{true≢false}
 use Prim.Native.Nat.{◌-◌}
 use native.Mathlib.Omega.{arith}
-use borrow.Author.Tests.{not_true, not-false}
 use Rattle.entries.specs.declared.Ending.TheVariants as E
+use Rattle.recover.specs.Scan.{CanBe}
 use Rattle.recover.proofs.laws.Apply.{step_forth}
-use Rattle.recover.proofs.laws.Scan.{scans_after, scan_start, scan_ends, scan_gets, scan_inside, scan_outside, cannot}
+use Rattle.recover.proofs.laws.Scan.{scans_after, scan_start, scan_ends, scan_gets, scan_inside, scan_outside, cannot, can}
 use Rattle.recover.proofs.scan.Goals as goal
 
 pub returns-then-not-is_cut : goal.returns-then-not-is_cut
 returns-then-not-is_cut c =
-    cannot (λ C. true≢false (sym C.cut ∙ sym c.is_cut.ensures ∙ not_true _ c.if-not-is_cut.true))
+    cannot (λ C. true≢false (sym C.cut ∙ sym c.is_cut.ensures ∙ c.if-not-is_cut.true))
 
 pub returns-then-start-bytes : goal.returns-then-start-bytes
 returns-then-start-bytes c =
@@ -23,61 +23,73 @@ returns-then-start-seen c =
 
 pub loop-e-init : goal.loop-e-init
 loop-e-init c =
-    scan_start _ _ _ (can-be c).few
+    let C : CanBe c.args.bytes.now c.args.seen = can (sym c.is_cut.ensures ∙ c.if-not-is_cut.false) (omega arith) (omega arith) in
+    scan_start _ _ _ C.few
 
 pub overflow_add-result : goal.overflow_add-result
 overflow_add-result c =
-    omega (arith, (can-be c).within, c.loop-e.invariant.within)
+    let C : CanBe c.args.bytes.now c.args.seen = can (sym c.is_cut.ensures ∙ c.if-not-is_cut.false) (omega arith) (omega arith) in
+    omega (arith, C.within, c.loop-e.invariant.within)
 
 pub returns-in-Ends : goal.returns-in-Ends
 returns-in-Ends c =
+    let C : CanBe c.args.bytes.now c.args.seen = can (sym c.is_cut.ensures ∙ c.if-not-is_cut.false) (omega arith) (omega arith) in
     record {
-      reads = λ C. scans_after (scan_ends c.loop-e.invariant (sym r.Read-step.ensures ∙ c.in-Ends.is));
-      stays = λ f. absurd (f (can-be c));
+      reads = λ _. scans_after (scan_ends c.loop-e.invariant (sym c.read_step-n.ensures ∙ c.in-Ends.is));
+      stays = λ f. absurd (f C);
     }
 
 pub overflow_add-result-then-number-ne0 : goal.overflow_add-result-then-number-ne0
 overflow_add-result-then-number-ne0 c =
-    omega (arith, (can-be c).within, c.loop-e.invariant.within)
+    let C : CanBe c.args.bytes.now c.args.seen = can (sym c.is_cut.ensures ∙ c.if-not-is_cut.false) (omega arith) (omega arith) in
+    omega (arith, C.within, c.loop-e.invariant.within)
 
 pub returns-then-number-ne0 : goal.returns-then-number-ne0
 returns-then-number-ne0 c =
+    let C : CanBe c.args.bytes.now c.args.seen = can (sym c.is_cut.ensures ∙ c.if-not-is_cut.false) (omega arith) (omega arith) in
     record {
-      reads = λ C.
+      reads = λ _.
           scans_after
-          (scan_gets c.loop-e.invariant (sym r.Read-step.ensures ∙ c.in-One.is) c.number_of-number.ensures c.if-number-ne0.true);
-      stays = λ f. absurd (f (can-be c));
+          (scan_gets c.loop-e.invariant (sym c.read_step-n.ensures ∙ c.in-One.is) c.number_of-number.ensures c.if-number-ne0.true);
+      stays = λ f. absurd (f C);
     }
 
 pub left_after-left-requires : goal.left_after-left-requires
 left_after-left-requires c =
-    let f = step_forth _ c.loop-e.i (sym r.Read-step.ensures ∙ c.in-One.is) refl in
-    omega (arith, f.0, f.1, c.loop-e.invariant.few, (can-be c).within)
+    let C : CanBe c.args.bytes.now c.args.seen = can (sym c.is_cut.ensures ∙ c.if-not-is_cut.false) (omega arith) (omega arith) in
+    let f = step_forth _ c.loop-e.i (sym c.read_step-n.ensures ∙ c.in-One.is) refl in
+    omega (arith, f.0, f.1, c.loop-e.invariant.few, C.within)
 
 pub overflow_add-i : goal.overflow_add-i
 overflow_add-i c =
-    omega (arith, (forth c).1, (can-be c).within)
+    let C : CanBe c.args.bytes.now c.args.seen = can (sym c.is_cut.ensures ∙ c.if-not-is_cut.false) (omega arith) (omega arith) in
+    let f = step_forth _ c.loop-e.i (sym c.read_step-n.ensures ∙ c.in-One.is) c.size_of-i.ensures in
+    omega (arith, f.1, C.within)
 
 pub overflow_add-kept : goal.overflow_add-kept
 overflow_add-kept c =
-    omega (arith, (forth c).1, (can-be c).within)
+    let C : CanBe c.args.bytes.now c.args.seen = can (sym c.is_cut.ensures ∙ c.if-not-is_cut.false) (omega arith) (omega arith) in
+    let f = step_forth _ c.loop-e.i (sym c.read_step-n.ensures ∙ c.in-One.is) c.size_of-i.ensures in
+    omega (arith, f.1, C.within)
 
 pub loop-e-smaller-then-not-patch : goal.loop-e-smaller-then-not-patch
 loop-e-smaller-then-not-patch c =
-    let f = forth c in omega (arith, f.0, f.1)
+    let f = step_forth _ c.loop-e.i (sym c.read_step-n.ensures ∙ c.in-One.is) c.size_of-i.ensures in
+    omega (arith, f.0, f.1)
 
 pub loop-e-preserved-then-not-patch : goal.loop-e-preserved-then-not-patch
 loop-e-preserved-then-not-patch c =
-    scan_outside c.loop-e.invariant (sym r.Read-step.ensures ∙ c.in-One.is) c.number_of-number.ensures
-    c.if-number-ne0.false z.type_size.ensures c.lives-live.ensures
-    c.opens-patch.ensures z.before.left_After.ensures (not_true _ c.if-not-patch.true)
+    scan_outside c.loop-e.invariant (sym c.read_step-n.ensures ∙ c.in-One.is) c.number_of-number.ensures
+    c.if-number-ne0.false c.size_of-i.ensures c.lives-live.ensures
+    c.opens-patch.ensures c.left_after-left.ensures c.if-not-patch.true
 
 pub loop-e-smaller : goal.loop-e-smaller
 loop-e-smaller c =
-    let f = forth c in omega (arith, f.0, f.1)
+    let f = step_forth _ c.loop-e.i (sym c.read_step-n.ensures ∙ c.in-One.is) c.size_of-i.ensures in
+    omega (arith, f.0, f.1)
 
 pub loop-e-preserved : goal.loop-e-preserved
 loop-e-preserved c =
-    scan_inside c.loop-e.invariant (sym r.Read-step.ensures ∙ c.in-One.is) c.number_of-number.ensures
-    c.if-number-ne0.false z.type_size.ensures c.lives-live.ensures
-    c.opens-patch.ensures z.before.left_After.ensures (not-false _ c.if-not-patch.false)
+    scan_inside c.loop-e.invariant (sym c.read_step-n.ensures ∙ c.in-One.is) c.number_of-number.ensures
+    c.if-number-ne0.false c.size_of-i.ensures c.lives-live.ensures
+    c.opens-patch.ensures c.left_after-left.ensures c.if-not-patch.false

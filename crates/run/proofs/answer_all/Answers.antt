@@ -8,7 +8,7 @@ use Rattle.run.proofs.answer_all.Goals as goal
 
 pub loop-i-init : goal.loop-i-init
 loop-i-init c =
-    (answered_none, c.requires, refl, refl, refl, refl, refl, refl, refl)
+    (answered_none, c.requires)
 
 pub returns-in_default : goal.returns-in_default
 returns-in_default c =
@@ -38,7 +38,7 @@ known-said-requires c =
 
 pub write_answer-requires : goal.write_answer-requires
 write_answer-requires c =
-    omega (arith, c.if-room-i.false, c.loop-i.invariant.8)
+    omega (arith, c.if-room-i.false, c.loop-i.auto.answers)
 
 pub loop-i-smaller : goal.loop-i-smaller
 loop-i-smaller c =
@@ -46,18 +46,10 @@ loop-i-smaller c =
 
 pub loop-i-preserved : goal.loop-i-preserved
 loop-i-preserved c =
-    let I = c.loop-i.invariant in
-    let six = c.known-said.kept.1.1.1.1.1 in (
-      answered_more I.0 (omega (arith, c.loop-i-test.true)) c.call_of-group.ensures c.in-Asks.is c.known-said.ensures
-          c.write_answer.ensures (omega (arith, c.if-room-i.false)),
+    (
+      answered_more c.loop-i.invariant.0 (omega (arith, c.loop-i-test.true)) c.call_of-group.ensures c.in-Asks.is c.known-said.ensures
+          c.write_answer.ensures (omega (arith, c.if-room-i.false, c.loop-i.auto.answers)),
       c.known-said.ensures.tells,
-      six.0 ∙ I.2,
-      six.1.0 ∙ I.3,
-      six.1.1.0 ∙ I.4,
-      six.1.1.1.0 ∙ I.5,
-      six.1.1.1.1.0 ∙ I.6,
-      six.1.1.1.1.1.0 ∙ I.7,
-      c.write_answer.kept.0 ∙ I.8,
     )
 
 pub returns : goal.returns

@@ -1,7 +1,5 @@
 -- `answer_all` meets its claim: every step answers one command more (`answered_more`), and it stops for one of three reasons (`stops_short` ..).
-use mathlib.Core.Path.{◌≡◌}
 use Prim.Native.Nat.{◌-◌}
-use lib.ListN.{length}
 use Rattle.contracts.specs.Tells.{Tells}
 use Rattle.records.specs.Words.{parts, holding, Sound}
 use Rattle.run.specs.Run.{CommandsDone}
@@ -12,13 +10,6 @@ invariant-loop-i l =
     CommandsDone (holding l.hand l.until (parts l.elapsed l.initial.occupied l.initial.tops l.initial.heads l.initial.values l.initial.deadlines l.initial.nexts l.initial.prevs l.initial.turns l.initial.marks)) l.commands l.initial.answers l.i
     (holding l.h l.u (parts l.e l.occupied l.tops l.heads l.values l.deadlines l.nexts l.prevs l.turns l.marks)) l.answers
     × Tells (Sound (holding l.h l.u (parts l.e l.occupied l.tops l.heads l.values l.deadlines l.nexts l.prevs l.turns l.marks))) l.fine
-    × (length l.values ≡ length l.initial.values)
-    × (length l.deadlines ≡ length l.initial.deadlines)
-    × (length l.nexts ≡ length l.initial.nexts)
-    × (length l.prevs ≡ length l.initial.prevs)
-    × (length l.turns ≡ length l.initial.turns)
-    × (length l.marks ≡ length l.initial.marks)
-    × (length l.answers ≡ length l.initial.answers)
 
 abbrev pub decreases-loop-i : goal.decreases-loop-i
 decreases-loop-i l =

@@ -1,5 +1,5 @@
 -- `call_of` finds the call by its kind (`is_format_lem` ..), or none.
-use Rattle.run.proofs.laws.Groups.{is_format_lem, is_insert, is_reset, is_remove, is_poll_lem, is_clear, is_some, is_wake, is_length, is_nothing}
+use Rattle.run.proofs.laws.Groups.{is_format_lem, is_insert, is_reset, is_remove, is_poll_lem, is_clear, is_some, is_wake, is_length}
 use Rattle.run.proofs.call_of.Goals as goal
 
 pub returns-in-1 : goal.returns-in-1
@@ -37,7 +37,3 @@ returns-in-12 c =
 pub returns-in-13 : goal.returns-in-13
 returns-in-13 c =
     is_length c.in-13.is c.if_blank-in-13.ensures
-
-pub returns-in_default : goal.returns-in_default
-returns-in_default c =
-    is_nothing c.in_default.in_default-own.rest

@@ -1,5 +1,5 @@
--- `known`: on a sound store the call is made (`knows_sound`), on another it is refused (`knows_not`) unless it is a format (`knows_format`).
-use Rattle.run.proofs.laws.Known.{knows_sound, knows_not, knows_format}
+-- `known`: on a sound store the call is made (`knows_sound`), on another it is refused, which the check finds by itself, unless it is a format (`knows_format`).
+use Rattle.run.proofs.laws.Known.{knows_sound, knows_format}
 use Rattle.run.proofs.known.Goals as goal
 
 pub on_sound-out-requires : goal.on_sound-out-requires
@@ -9,10 +9,6 @@ on_sound-out-requires c =
 pub returns-then-sound : goal.returns-then-sound
 returns-then-sound c =
     knows_sound c.args.call (c.requires.yes c.if-sound.true) c.on_sound-out.ensures
-
-pub returns-in_default : goal.returns-in_default
-returns-in_default c =
-    knows_not c.args.call (c.requires.no c.if-sound.false) c.in_default.in_default-own.keys2
 
 pub returns : goal.returns
 returns c =

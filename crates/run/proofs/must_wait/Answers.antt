@@ -1,5 +1,5 @@
 -- `must_wait`: no call waits while no poll is in hand, and else it is one of four.
-use Rattle.run.proofs.laws.Known.{none_waits, goes_through, waits_so}
+use Rattle.run.proofs.laws.Known.{none_waits, waits_so}
 use Rattle.run.proofs.must_wait.Goals as goal
 
 pub returns-then-hand-eq-NOBODY : goal.returns-then-hand-eq-NOBODY
@@ -21,7 +21,3 @@ returns-in-Remove c =
 pub returns-in-Wake : goal.returns-in-Wake
 returns-in-Wake c =
     waits_so c.if-hand-eq-NOBODY.false c.in-Wake.is tt
-
-pub returns-in_default : goal.returns-in_default
-returns-in_default c =
-    goes_through c.args.call c.in_default.in_default-own.keys5

@@ -2,7 +2,6 @@
 use borrow.Author.Count.{below_more}
 use borrow.Author.Rules.{rules}
 use native.Mathlib.Omega.{arith}
-use Prim.Native.Nat.{◌-◌}
 use Rattle.splitting.proofs.field_end.Goals as goal
 
 pub returns-then-s-i-eq32 : goal.returns-then-s-i-eq32

@@ -1,6 +1,5 @@
 -- `is_whole` meets its contract: the levels passed are walked and have their rows (`judge_next`), or a list is wrong (`judge_wrong`), or a row is not
 -- that of the heads (`judge_other`); all passed, the rest decides (`judge_end`).
-use Prim.Native.Nat.{◌-◌}
 use Rattle.wheel.proofs.laws.Judged.{judge_begun, judge_wrong, judge_other, judge_next, judge_end}
 use Rattle.wheel.proofs.is_whole.Goals as goal
 

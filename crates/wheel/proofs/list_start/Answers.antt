@@ -15,8 +15,8 @@ returns-then-place-eq-PARKING c =
 
 pub slot_start-requires : goal.slot_start-requires
 slot_start-requires c =
-    omega (arith, c.requires.0, c.if-place-eq-PARKING.false, c.before.level_of_lem.ensures, c.slot_of.ensures)
+    omega (arith, c.requires.0, c.if-place-eq-PARKING.false, c.level_of.ensures, c.slot_of.ensures)
 
 pub returns : goal.returns
 returns c =
-    rw (start_slot_at _ _ c.if-place-eq-PARKING.false) (c.slot_start.ensures ∙ rw (l.level_of_lem.ensures, c.slot_of.ensures))
+    rw (start_slot_at _ _ c.if-place-eq-PARKING.false) (c.slot_start.ensures ∙ rw (c.level_of.ensures, c.slot_of.ensures))

@@ -1,6 +1,5 @@
 -- `next_expiration` meets its contract: the levels passed are empty, and the lowest slot of the first that is not is the first from elapsed on (`next_found`).
 -- Where all are, the parking list is left (`parking_found`).
-use Prim.Native.Nat.{◌-◌}
 use native.Mathlib.Omega.{arith}
 use borrow.Author.Count.{below_more}
 use Rattle.wheel.proofs.laws.Expiration.{next_found, none_found, parking_found}

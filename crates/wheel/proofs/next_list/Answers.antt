@@ -15,4 +15,4 @@ list_start-deadline-requires c =
 
 pub returns : goal.returns
 returns c =
-    record { free = λ z. absurd (c.if-hand-eq-NOBODY.false z); held = λ z. (l.level_of_lem.ensures, c.slot_of-slot.ensures, c.list_start-deadline.ensures) }
+    record { free = λ z. absurd (c.if-hand-eq-NOBODY.false z); held = λ z. (c.level_of-level.ensures, c.slot_of-slot.ensures, c.list_start-deadline.ensures) }

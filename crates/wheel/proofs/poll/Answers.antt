@@ -4,7 +4,7 @@ use native.Mathlib.Omega.{arith}
 use mathlib.Core.Path.{refl, sym, ap, ◌∙◌}
 use Rattle.places.specs.Heads.{head_of}
 use Rattle.wheel.proofs.laws.Moves.{poll_start, counts_small}
-use Rattle.wheel.proofs.laws.Moves.{next_asks, next_idle, next_early, next_pops, next_out, next_can, next_yet, next_drained}
+use Rattle.wheel.proofs.laws.Moves.{next_asks, next_idle, next_early, next_pops, next_out, next_can, next_parts, next_yet, next_drained}
 use Rattle.wheel.proofs.poll.Goals as goal
 
 pub loop-expiration-init : goal.loop-expiration-init
@@ -30,11 +30,13 @@ overflow_sub-moves c =
 
 pub list_head-requires : goal.list_head-requires
 list_head-requires c =
-    parts c
+    next_parts c.requires _ c.loop-expiration.invariant c.first_parked.ensures c.next_list-next.ensures
+    _ c.in-At.is c.if-level-eq0.false c.if-time-deadline.false
 
 pub list_place-place-requires : goal.list_place-place-requires
 list_place-place-requires c =
-    parts c
+    next_parts c.requires _ c.loop-expiration.invariant c.first_parked.ensures c.next_list-next.ensures
+    _ c.in-At.is c.if-level-eq0.false c.if-time-deadline.false
 
 pub overflow_add-drains : goal.overflow_add-drains
 overflow_add-drains c =

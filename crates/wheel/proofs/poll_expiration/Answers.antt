@@ -1,7 +1,6 @@
 -- `poll_expiration` meets its contract: what the drain says from here it says from the start with the moves so far (`step_more`), until the limit is used
 -- up (`step_full`) or nobody is left (`step_done`).
 use native.Mathlib.Omega.{arith}
-use Prim.Native.Nat.{◌-◌}
 use Rattle.wheel.proofs.laws.Moves.{step_start, step_can, step_full, step_more, step_done}
 use Rattle.wheel.proofs.poll_expiration.Goals as goal
 

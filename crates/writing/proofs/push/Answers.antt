@@ -1,6 +1,6 @@
 -- `push` writes byte after byte (`push_step`).
 use mathlib.Core.Path.{refl, ◌∙◌}
-use Prim.Native.Nat.{ℕ, ◌-◌}
+use Prim.Native.Nat.{ℕ}
 use native.Mathlib.Omega.{arith}
 use lib.ListN.{length-set}
 use Rattle.writing.proofs.laws.Writing.{push_start, push_step, push_end}

@@ -1,0 +1,9 @@
+-- what a write has taken lies in what was left
+use Rattle.std.proofs.Common.{length, ◌-◌, ◌≤◌}
+use Rattle.keeping.proofs.write_at.Given as goal
+
+abbrev pub invariant-loop-i : goal.invariant-loop-i
+invariant-loop-i l = l.i ≤ length l.bytes
+
+abbrev pub decreases-loop-i : goal.decreases-loop-i
+decreases-loop-i l = length l.bytes - l.i
