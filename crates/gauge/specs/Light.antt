@@ -1,5 +1,5 @@
 -- What a gauge reads at two limits, in document 02's words.
-use Rattle.std.specs.Prelude.{Bool, cond, not, ◌||◌, ℕ, Float}
+use Rattle.std.specs.Prelude.{Bool, cond, not, ◌||◌, Float}
 use Rattle.std.specs.Float.Ieee.{lt, le, is_nan}
 use Rattle.gauge.specs.declared.Gauge.{Gauge}
 use Rattle.gauge.specs.declared.Light.{Light}

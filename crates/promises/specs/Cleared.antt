@@ -2,10 +2,9 @@
 use Rattle.std.specs.Prelude.{◌≡◌, Bool, true, false, not, cond, ◌&&◌, List, [], ◌∷◌, ◌++◌, ℕ, zero, suc, ◌+◌, ◌<◌, eqb}
 use Rattle.links.specs.Lists.{Mem}
 use Rattle.places.specs.Places.{free}
-use Rattle.records.specs.Records.{last_turn, At, freed}
+use Rattle.records.specs.Records.{last_turn, At}
 use Rattle.records.specs.Words.{QueueWords, count, elapsed, view}
 use Rattle.promises.specs.Looking.{is_pending}
-use Rattle.promises.specs.KeysOne.{raised}
 
 -- a pending record whose turn can be raised: "At turn 2^48-1 it is retired instead."
 abbrev pub comes_back : QueueWords → ℕ → Bool

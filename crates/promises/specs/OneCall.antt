@@ -1,14 +1,13 @@
 -- Which answers are refusals, how many records a call speaks of, and the store that the examples begin with.
 use Rattle.std.specs.Prelude.{◌≡◌, Bool, true, false, List, [], ◌∷◌, ℕ, replicate}
 use Rattle.links.specs.Lists.{nobody}
-use Rattle.places.specs.Places.{free}
 use Rattle.places.specs.Format.{over, formatted}
 use Rattle.wheel.specs.declared.Wheel.{Wheel}
 use Rattle.wheel.specs.Words.{wheel_words}
 use Rattle.queue.specs.declared.Answer.{Answer}
 use Rattle.queue.specs.Told.{Told, told}
 use Rattle.queue.specs.Told as T
-use Rattle.records.specs.Words.{QueueWords, queue_words, words, count, elapsed, Sound, PastKept}
+use Rattle.records.specs.Words.{QueueWords, queue_words, words, count, Sound, PastKept}
 use Rattle.queue.specs.Calls.{Refused}
 use Rattle.delay_queue.specs.declared.Call.{Call}
 use Rattle.delay_queue.specs.declared.Call.TheVariants as C

@@ -6,7 +6,6 @@ use Rattle.queue.specs.Told as T
 use Rattle.records.specs.View.{View}
 use Rattle.records.specs.Records.{At, Names}
 use Rattle.queue.specs.Steps.{pending}
-use Rattle.records.specs.Words.{elapsed}
 
 -- ---- what is said
 

@@ -1,6 +1,6 @@
 #![tactic(auto)]
 
 // The replay bench: standard input to its end, each line answered with one.
-fn main() {
-    serve::replay();
+fn main(rt: HostRuntime) {
+    serve::replay(&mut rt.stdin());
 }

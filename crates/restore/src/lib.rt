@@ -13,6 +13,7 @@ ghost use Rattle.restore.specs.Restore.{is_whole, ScannedSo, AppliedSo};
 use delay_queue::Heads;
 use input::Got;
 use recover::Seen;
+use std::fs::File;
 use wheel::Wheel;
 
 // How many bytes were seen, what was found in them, and what a read behind them gave.
@@ -26,7 +27,7 @@ pub struct Scanned {
 // Reads the file from its front on, chunk by chunk, each from where the scan stands: until damage is found, or a chunk brings
 // it no further. Then the file has ended behind that chunk, or it cannot be read.
 pub fn scan_file(
-    fd: i32,
+    file: &File,
     values: &[u64],
     deadlines: &[u64],
     nexts: &[u16],
@@ -40,7 +41,7 @@ pub fn scan_file(
     let mut seen = recover::unread();
     let mut at = seen.at;
     loop {
-        let got = input::more_from(fd, at, &mut buf);
+        let got = input::more_from(file, at, &mut buf);
         let k = input::count(got);
         seen = recover::scan(
             seen,
@@ -54,7 +55,7 @@ pub fn scan_file(
         );
         let next = seen.at;
         if !goes_on(seen, at) {
-            let last = input::more_from(fd, at + k, &mut buf);
+            let last = input::more_from(file, at + k, &mut buf);
             return Scanned {
                 bytes: at + k,
                 seen,
@@ -108,7 +109,7 @@ fn least(a: usize, b: usize) -> usize
 
 // Reads the first `kept` bytes of the file again, and asks their steps of no store.
 pub fn apply_file(
-    fd: i32,
+    file: &File,
     kept: usize,
     values: &mut [u64],
     deadlines: &mut [u64],
@@ -126,7 +127,7 @@ pub fn apply_file(
     let mut state = delay_queue::no_store();
     let mut heads = recover::no_heads();
     while at < kept {
-        let got = input::more_from(fd, at, &mut buf);
+        let got = input::more_from(file, at, &mut buf);
         let k = least(input::count(got), kept - at);
         let r = recover::apply(
             &buf[..k],

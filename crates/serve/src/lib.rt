@@ -13,9 +13,14 @@ ghost use Rattle.lines.specs.Running.{Passes, Closes, ProgramRan};
 
 use delay_queue::Heads;
 use input::Got;
-use libc::{STDERR_FILENO, STDOUT_FILENO};
 use pen::Pen;
+use std::io::Read;
 use wheel::Wheel;
+
+// Standard output and standard error.
+const STDOUT_FILENO: i32 = 1;
+
+const STDERR_FILENO: i32 = 2;
 
 // Whether each answer is followed by the contents of the lists, how many bytes of an unfinished line are kept, the
 // store, and whether all writes went well.
@@ -234,7 +239,8 @@ fn comes_to(bytes: usize, last: Got, run: Progress) -> Outcome
 // Reads until the input ends, cannot be read any more, or an answer cannot be written. What each read gave is answered, and
 // the last line: that is claimed, and not that it is written. A proved loop has to end, so this one ends at 2^63 bytes; no
 // run comes there.
-fn serve(
+fn serve<R: Read>(
+    from: &mut R,
     limits: bool,
     line: &mut [u8],
     start: Progress,
@@ -260,7 +266,7 @@ fn serve(
     let mut run = start;
     let mut bytes: usize = 0;
     while bytes < 9223372036854775808 {
-        let got = input::more(&mut buf);
+        let got = input::more(from, &mut buf);
         let k = input::count(got);
         if k == 0 {
             let end = finish(
@@ -319,22 +325,22 @@ fn no_heads() -> [[u16; 64]; 6] {
 }
 
 // Each line is answered with one.
-pub fn replay() {
-    with_room(false, false);
+pub fn replay<R: Read>(from: &mut R) {
+    with_room(from, false, false);
 }
 
 // The same, and behind each answer stand the contents of the lists, once there is a store.
-pub fn replay_lists() {
-    with_room(false, true);
+pub fn replay_lists<R: Read>(from: &mut R) {
+    with_room(from, false, true);
 }
 
 // As `replay`, and the lines of a poll with a limit are known too.
-pub fn replay_paused() {
-    with_room(true, false);
+pub fn replay_paused<R: Read>(from: &mut R) {
+    with_room(from, true, false);
 }
 
 // Room for 1,024 records, with two words of values each.
-fn with_room(limits: bool, lists: bool) {
+fn with_room<R: Read>(from: &mut R, limits: bool, lists: bool) {
     let mut values = pairs();
     let mut deadlines = words();
     let mut nexts = numbers();
@@ -354,6 +360,7 @@ fn with_room(limits: bool, lists: bool) {
         fine: true,
     };
     let end = serve(
+        from,
         limits,
         &mut line,
         start,

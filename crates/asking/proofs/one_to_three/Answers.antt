@@ -1,6 +1,5 @@
 -- `one_to_three` reads the first number (`first_of`) and one or two behind it: `more` has the number of them.
 use native.Mathlib.Omega.{arith}
-use Rattle.splitting.specs.declared.First.TheVariants as S
 use Rattle.asking.proofs.laws.Reading.{none_at_all, more}
 use Rattle.splitting.proofs.laws.Fields.{the_one}
 use Rattle.asking.proofs.one_to_three.Goals as goal

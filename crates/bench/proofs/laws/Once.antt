@@ -1,5 +1,5 @@
 -- The claim of a line leaves no choice.
-use mathlib.Core.Path.{◌≡◌, refl, sym, ap, ◌∙◌, subst}
+use mathlib.Core.Path.{◌≡◌, sym, ap, ◌∙◌, subst}
 use mathlib.Core.Bool.{Bool}
 use mathlib.Core.List.{List, List-discrete}
 use Prim.Native.Nat.{ℕ}

@@ -1,7 +1,5 @@
 -- `answer_parts` meets its claim: what comes of where it stands comes of where it began (`Reaches`), a line more does not change that
 -- (`reaches_more`), and it stops where it does not go on.
-use mathlib.Core.Path.{refl, ◌∙◌}
-use Prim.Native.Nat.{◌-◌}
 use native.Mathlib.Omega.{arith}
 use Rattle.feed.specs.Feed.{stops}
 use Rattle.feed.proofs.laws.NextLines.{reaches_none, reaches_more, next_forth}
@@ -9,7 +7,7 @@ use Rattle.feed.proofs.answer_parts.Goals as goal
 
 pub loop-line-init : goal.loop-line-init
 loop-line-init c =
-    (reaches_none, c.requires, refl, refl, refl, refl, refl, refl, refl, refl)
+    (reaches_none, c.requires)
 
 pub next_line-r-requires : goal.next_line-r-requires
 next_line-r-requires c =
@@ -23,19 +21,9 @@ loop-line-smaller c =
 pub loop-line-preserved : goal.loop-line-preserved
 loop-line-preserved c =
     let I = c.loop-line.invariant in
-    let g = c.goes.ensures.yes c.loop-line-test.true in
-    let lengths = c.next_line-r.kept.1.1.1 in
-    let seven = lengths.1.1.1.1.1.1.1 in (
+    let g = c.goes.ensures.yes c.loop-line-test.true in (
       reaches_more I.0 g c.next_line-r.ensures.does,
       c.next_line-r.ensures.tells,
-      lengths.0 ∙ I.2,
-      seven.0 ∙ I.3,
-      seven.1.0 ∙ I.4,
-      seven.1.1.0 ∙ I.5,
-      seven.1.1.1.0 ∙ I.6,
-      seven.1.1.1.1.0 ∙ I.7,
-      seven.1.1.1.1.1.0 ∙ I.8,
-      seven.1.1.1.1.1.1.1.1.0 ∙ I.9,
     )
 
 pub returns : goal.returns

@@ -1,6 +1,5 @@
 -- `answer_parts` meets its claim: what comes of where it stands comes of where it began (`Reaches`), a line more does not change that
 -- (`reaches_more`), and it stops where it does not go on.
-use mathlib.Core.Path.{◌≡◌}
 use Prim.Native.Nat.{◌-◌}
 use lib.ListN.{length}
 use Rattle.contracts.specs.Tells.{Tells}
@@ -14,14 +13,6 @@ invariant-loop-line l =
     Reaches l.limits l.got (stand l.from l.initial.line l.n (holding l.hand l.until (parts l.elapsed l.initial.occupied l.initial.tops l.initial.heads l.initial.values l.initial.deadlines l.initial.nexts l.initial.prevs l.initial.turns l.initial.marks)) l.initial.out 0)
     (stand l.i l.line l.k (holding l.h l.u (parts l.e l.occupied l.tops l.heads l.values l.deadlines l.nexts l.prevs l.turns l.marks)) l.out l.end)
     × Tells (Sound (holding l.h l.u (parts l.e l.occupied l.tops l.heads l.values l.deadlines l.nexts l.prevs l.turns l.marks))) l.fine
-    × (length l.line ≡ length l.initial.line)
-    × (length l.values ≡ length l.initial.values)
-    × (length l.deadlines ≡ length l.initial.deadlines)
-    × (length l.nexts ≡ length l.initial.nexts)
-    × (length l.prevs ≡ length l.initial.prevs)
-    × (length l.turns ≡ length l.initial.turns)
-    × (length l.marks ≡ length l.initial.marks)
-    × (length l.out ≡ length l.initial.out)
 
 abbrev pub decreases-loop-line : goal.decreases-loop-line
 decreases-loop-line l =

@@ -1,5 +1,5 @@
 -- The steps of `answer_lines`, for the code: one behind the other, and what a caller may count on.
-use mathlib.Core.Path.{◌≡◌, refl, ap, ◌∙◌, subst}
+use mathlib.Core.Path.{◌≡◌, refl, subst}
 use mathlib.Core.Bool.{Bool, true, false}
 use mathlib.Core.Logic.{by_cases}
 use mathlib.Core.List.{List}

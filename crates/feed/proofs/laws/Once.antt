@@ -1,9 +1,9 @@
 -- The claims of this crate leave no choice, and neither do the answers to lines.
-use mathlib.Core.Path.{◌≡◌, refl, sym, ap, ap₂, ◌∙◌, subst}
+use mathlib.Core.Path.{◌≡◌, refl, sym, ap₂, ◌∙◌, subst}
 use mathlib.Core.Bool.{Bool, true, false, true≢false, false≢true}
 use mathlib.Core.Logic.{by_cases}
-use mathlib.Core.List.{List, [], ◌∷◌, ◌++◌, List-discrete}
-use Prim.Native.Nat.{ℕ, ◌<◌}
+use mathlib.Core.List.{List, ◌++◌, List-discrete}
+use Prim.Native.Nat.{ℕ}
 use native.Mathlib.Decide.{ℕ_discrete, dec_lt}
 use native.Mathlib.Omega.{arith}
 use lib.ListN.{length, take}
@@ -18,7 +18,6 @@ use Rattle.bench.specs.Parts.{Heard, asks, bad}
 use Rattle.bench.proofs.laws.Hearing.{as_heard}
 use Rattle.bench.proofs.laws.Once.{same_store, line_once}
 use Rattle.lines.proofs.laws.Once.{take_once}
-use Rattle.lines.specs.Taking.{TakeClaim}
 use Rattle.feed.specs.Replies.{ReplyTo, Replies, none, reply}
 use Rattle.feed.specs.Feed.{Stand, stand, NextLine, answered, goes_on, FeedClaim, stops, lines_on, LastClaim}
 

@@ -15,7 +15,7 @@ use Rattle.gauge.specs.Bits.{bits_of}
 use Rattle.gauge.specs.Many.{noted_all, floats}
 use Rattle.gauge.proofs.laws.Floats.{is_nan_lem, float_number}
 use Rattle.gauge.proofs.laws.Noting.{first_smoothed, next_smoothed, some}
-use Rattle.gauge.proofs.laws.Reading.{late_first, slow_then, calm_before, limits_read}
+use Rattle.gauge.proofs.laws.Reading.{late_first, slow_then, limits_read}
 use Rattle.gauge.proofs.laws.Latenesses.{worst_greatest, float_limit}
 
 eight : float_of 8 ≡ fin false 1 (pos 3)

@@ -1,7 +1,5 @@
 -- `answer_lines` meets its claim: what comes of where it stands comes of where it began (`Reaches`), a line more does not change that
 -- (`reaches_more`), and it stops where it does not go on.
-use mathlib.Core.Path.{refl, ◌∙◌}
-use Prim.Native.Nat.{◌-◌}
 use native.Mathlib.Omega.{arith}
 use Rattle.noting.specs.Feed.{stops}
 use Rattle.noting.proofs.laws.NextLines.{reaches_none, reaches_more, next_forth}
@@ -9,7 +7,7 @@ use Rattle.noting.proofs.answer_lines.Goals as goal
 
 pub loop-line-init : goal.loop-line-init
 loop-line-init c =
-    (reaches_none, refl, refl, refl, refl, refl, refl, refl, refl, refl)
+    reaches_none
 
 pub next_line-r-requires : goal.next_line-r-requires
 next_line-r-requires c =
@@ -22,21 +20,8 @@ loop-line-smaller c =
 
 pub loop-line-preserved : goal.loop-line-preserved
 loop-line-preserved c =
-    let I = c.loop-line.invariant in
-    let lengths = c.next_line-r.kept in
-    let six = lengths.1.1.1.1.1.1.1 in (
-      reaches_more I.0 (c.goes.ensures.yes c.loop-line-test.true) c.next_line-r.ensures,
-      lengths.1.1.0 ∙ I.1,
-      six.0 ∙ I.2,
-      six.1.0 ∙ I.3,
-      six.1.1.0 ∙ I.4,
-      six.1.1.1.0 ∙ I.5,
-      six.1.1.1.1.0 ∙ I.6,
-      six.1.1.1.1.1.0 ∙ I.7,
-      six.1.1.1.1.1.1.0 ∙ I.8,
-      six.1.1.1.1.1.1.1.1.0 ∙ I.9,
-    )
+    reaches_more c.loop-line.invariant (c.goes.ensures.yes c.loop-line-test.true) c.next_line-r.ensures
 
 pub returns : goal.returns
 returns c =
-    c.loop-line.invariant.0.then _ (stops (c.goes.ensures.no c.loop-line-test.false))
+    c.loop-line.invariant.then _ (stops (c.goes.ensures.no c.loop-line-test.false))

@@ -1,6 +1,5 @@
 -- `answer_lines` meets its claim: what comes of where it stands comes of where it began (`Reaches`), a line more does not change that
 -- (`reaches_more`), and it stops where it does not go on.
-use mathlib.Core.Path.{◌≡◌}
 use Prim.Native.Nat.{◌-◌}
 use lib.ListN.{length}
 use Rattle.records.specs.Words.{words}
@@ -14,15 +13,6 @@ invariant-loop-line l =
     Reaches l.got
     (stand l.from l.initial.line l.n (desk l.initial.p (words l.initial.after l.initial.left.heads l.initial.values l.initial.deadlines l.initial.nexts l.initial.prevs l.initial.turns l.initial.marks) l.initial.notes 0 l.initial.out 0))
     (stand l.i l.line l.k (desk l.p (words l.after l.left.heads l.values l.deadlines l.nexts l.prevs l.turns l.marks) l.notes l.noted l.out l.end))
-    × (length l.line ≡ length l.initial.line)
-    × (length l.values ≡ length l.initial.values)
-    × (length l.deadlines ≡ length l.initial.deadlines)
-    × (length l.nexts ≡ length l.initial.nexts)
-    × (length l.prevs ≡ length l.initial.prevs)
-    × (length l.turns ≡ length l.initial.turns)
-    × (length l.marks ≡ length l.initial.marks)
-    × (length l.notes ≡ length l.initial.notes)
-    × (length l.out ≡ length l.initial.out)
 
 abbrev pub decreases-loop-line : goal.decreases-loop-line
 decreases-loop-line l =

@@ -5,7 +5,7 @@ use Rattle.noting.proofs.step_in.Goals as goal
 
 pub returns-then-is_byte : goal.returns-then-is_byte
 returns-then-is_byte c =
-    is (opens (c.before.is_byte_lem.ensures.yes c.if-is_byte.true))
+    is (opens (c.is_byte.ensures.yes c.if-is_byte.true))
 
 pub returns-then-is_byte-2 : goal.returns-then-is_byte-2
 returns-then-is_byte-2 c =
@@ -17,5 +17,5 @@ returns-in-Asks c =
 
 pub returns-in-Bad : goal.returns-in-Bad
 returns-in-Bad c =
-    said_bad c.read_line-asked.ensures c.in-Bad.is (not_open.before.is_byte_lem.ensures.no c.if-is_byte.false)
+    said_bad c.read_line-asked.ensures c.in-Bad.is (c.is_byte.ensures.no c.if-is_byte.false)
     (c.is_byte-2.ensures.no c.if-is_byte-2.false)

@@ -19,7 +19,7 @@ use Rattle.wheel.proofs.laws.Limited.{chained, limited_polls}
 use Rattle.wheel.proofs.laws.Single.{limited_once, fit}
 use Rattle.wheel.proofs.laws.Midway.{comes_hand, hand_goes}
 use Rattle.records.specs.View.{View, with_elapsed, with_lists, with_hand}
-use Rattle.records.specs.Words.{QueueWords, elapsed, view, AtRest, Sound}
+use Rattle.records.specs.Words.{QueueWords, view, AtRest, Sound}
 use Rattle.queue.specs.declared.Answer.{Answer}
 use Rattle.queue.specs.Told.{Told}
 use Rattle.queue.specs.Told as T

@@ -4,7 +4,7 @@ use mathlib.Core.Path.{◌≡◌, refl, sym, ap, ◌∙◌, subst}
 use mathlib.Core.Logic.{inl, by_cases}
 use mathlib.Core.List.{List, [], ◌∷◌, nil≢cons}
 use mathlib.Core.Option.{Option, none, some}
-use Prim.Native.Nat.{ℕ, suc, ◌+◌, ◌-◌, ◌≤◌, ◌<◌}
+use Prim.Native.Nat.{ℕ, ◌+◌, ◌-◌, ◌≤◌, ◌<◌}
 use native.Mathlib.Omega.{arith}
 use native.Mathlib.Decide.{ℕ_discrete, dec_lt}
 use Rattle.links.specs.Lists.{nobody, Mem, change}
@@ -27,7 +27,7 @@ use Rattle.wheel.proofs.laws.Moves.{got_none, got_some}
 use Rattle.wheel.proofs.laws.Passed.{given_by, limited_passed}
 use Rattle.records.specs.View.{View}
 use Rattle.records.specs.Records.{At}
-use Rattle.records.specs.Words.{QueueWords, elapsed, view, AtRest, Sound}
+use Rattle.records.specs.Words.{QueueWords, view, AtRest, Sound}
 use Rattle.queue.specs.Steps.{TakesSome, popped_some, polled_some}
 use Rattle.pausing.specs.Pausing.{PollTaken}
 use Rattle.pausing.specs.Works.{FairlyBy, ClockBy}

@@ -26,7 +26,7 @@ use Rattle.promises.specs.Alike.{up_to, cut}
 use Rattle.pausing.specs.Pausing.{PollTaken}
 use Rattle.pausing.proofs.laws.Pausing.{rest_whole}
 use Rattle.promises.proofs.laws.Does.{whole_rest}
-use Rattle.promises.proofs.laws.Cut.{cut_sound, sound_cut, cut_view, cut_kept, below, below_lt, masked}
+use Rattle.promises.proofs.laws.Cut.{cut_sound, sound_cut, cut_view, cut_kept, below_lt, masked}
 use Rattle.promises.proofs.laws.Masked.{inserted, inserted_masked, reset_masked, removed_masked, key_masked, names_masked, masked_names, polls_masked, rest_masked, wake_masked, pending_masked, clears_masked}
 
 refused_cut : {k : ℕ} {s t : QueueWords} {a : Answer} → Refused k s a t → Refused k (cut s) a (cut t)

@@ -15,7 +15,6 @@ use Rattle.links.specs.Lists.{Mem, change}
 use Rattle.links.proofs.laws.Lists.{change_same, change_other}
 use Rattle.places.specs.Places.{slot_place, parking, expired, free, put}
 use Rattle.places.proofs.laws.Places.{put_tail}
-use Rattle.places.proofs.laws.Whole as place_laws
 use Rattle.wheel.specs.Wheel.{Lists, FirstSlot, NextList, in_slot, in_parking, arrive}
 use Rattle.wheel.specs.Limited.{yet, Limited, finds, stops, moves}
 use Rattle.wheel.proofs.laws.Moves.{got_none}

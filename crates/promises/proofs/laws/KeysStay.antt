@@ -11,7 +11,6 @@ use Rattle.links.proofs.laws.Lists.{change_other}
 use Rattle.places.specs.Places.{expired, free}
 use Rattle.wheel.proofs.laws.Sums.{mem_kept, put_mem}
 use Rattle.queue.specs.Told.{Told, timer}
-use Rattle.queue.specs.Told as T
 use Rattle.records.specs.View.{View, with_lists, with_value, upd, with_period}
 use Rattle.records.specs.Records.{key_of, At, Names, taken, left, target, placed, freed}
 use Rattle.queue.specs.Steps.{PollsSome, handed_some, nothing_some, not_yet, GoesOn, once, again, ended}

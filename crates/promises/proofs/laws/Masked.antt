@@ -20,7 +20,6 @@ use Rattle.records.specs.Records.{last_turn, key_of, At, Names, taken, left, pla
 use Rattle.records.specs.Words.{QueueWords, count, view, Sound}
 use Rattle.records.proofs.laws.View.{view_eq}
 use Rattle.queue.specs.Told.{Told}
-use Rattle.queue.specs.Told as T
 use Rattle.queue.specs.Steps.{GoesOn, once, again, ended, TakesSome, popped_some, polled_some, PollsSome, handed_some, nothing_some, not_yet}
 use Rattle.queue.specs.Steps.{PollsRest, handed_rest, nothing_rest, sleeps, starts, NextWake, at_once, from_wheel, pending, Clears, begun, kept, gave}
 use Rattle.queue.proofs.laws.Polls.{clears_size}

@@ -14,11 +14,10 @@ use Rattle.links.specs.Lists.{nobody, Mem, without, change}
 use Rattle.links.proofs.laws.Lists.{Nodup, nodup_apart, mem_right, without_split, change_same, change_other}
 use Rattle.links.specs.Links.{at}
 use Rattle.links.proofs.laws.Whole as links_laws
-use Rattle.places.specs.Places.{slot_place, slots, expired, free, places, put, level_at}
+use Rattle.places.specs.Places.{slot_place, slots, expired, places, put, level_at}
 use Rattle.places.proofs.laws.Places.{put_tail}
 use Rattle.places.proofs.laws.Heads.{upd_head}
 use Rattle.places.specs.Words.{PlaceWords, count as countIn, head_at, mark_of as markIn, to_head, remove}
-use Rattle.places.specs.Whole as places
 use Rattle.places.specs.Whole.{Whole, lists, PlacesKept, Changes}
 use Rattle.places.proofs.laws.Whole as place_laws
 use Rattle.wheel.specs.Wheel.{Lists, arrive}

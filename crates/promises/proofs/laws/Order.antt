@@ -22,7 +22,6 @@ use Rattle.wheel.proofs.laws.Next.{slot_below, here_below, list_height}
 use Rattle.wheel.proofs.laws.Drain.{move_rest, drains_law, drain_law}
 use Rattle.queue.specs.declared.Answer.{Answer}
 use Rattle.queue.specs.Told.{Told, told, Hands, timer}
-use Rattle.queue.specs.Told as T
 use Rattle.records.specs.View.{View, upd, with_elapsed, with_lists}
 use Rattle.records.specs.Records.{key_of, At, Names, placed, target, freed}
 use Rattle.queue.proofs.laws.Calls.{names_one}

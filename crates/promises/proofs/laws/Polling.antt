@@ -9,7 +9,6 @@ use borrow.Author.Tests.{eq-eqb, ne_eqb}
 use Rattle.links.specs.Lists.{nobody}
 use Rattle.links.proofs.laws.Lists.{change_other, change_same}
 use Rattle.places.specs.Places.{expired, free, put}
-use Rattle.places.proofs.laws.Whole as place_laws
 use Rattle.wheel.specs.Wheel.{Lists, place_for}
 use Rattle.wheel.specs.Sums.{sum_of, total}
 use Rattle.wheel.proofs.laws.Sums.{total_ext, hits, lies_times, times_lies, total_more, mem_joined, mem_kept, put_mem}

@@ -12,7 +12,6 @@ use Rattle.links.specs.Lists.{nobody, Mem, without, change}
 use Rattle.links.proofs.laws.Lists.{change_same, change_other, mem_app}
 use Rattle.places.specs.Places.{slot_place, expired, free, put, level_at}
 use Rattle.places.proofs.laws.Places.{put_tail}
-use Rattle.places.proofs.laws.Whole as place_laws
 use Rattle.wheel.specs.Wheel.{Lists}
 use Rattle.wheel.specs.Limited.{Outcome, ended as stopped, yet}
 use Rattle.wheel.specs.Moves.{gotten}
@@ -21,7 +20,6 @@ use Rattle.wheel.proofs.laws.Sums.{mem_kept, put_mem}
 use Rattle.times.specs.Times.{slot_of}
 use Rattle.times.proofs.laws.Quotients.{slot_lt}
 use Rattle.queue.specs.Told.{Told, timer, handing}
-use Rattle.queue.specs.Told as T
 use Rattle.queue.specs.Steps.{TakesSome, popped_some, polled_some, GoesOn, once, again, ended, PollsSome, handed_some, nothing_some, not_yet}
 use Rattle.records.specs.View.{View, with_lists, with_value, with_period, upd}
 use Rattle.records.specs.Records.{key_of, At, Names, taken, left, target, placed, freed}
@@ -30,7 +28,6 @@ use Rattle.pausing.specs.Pausing.{PollTaken}
 use Rattle.records.proofs.laws.Words.{upd_same, upd_other}
 use Rattle.records.proofs.laws.Inner.{mem_other}
 use Rattle.delay_queue.specs.declared.Call.{Call}
-use Rattle.delay_queue.specs.declared.Call.TheVariants as C
 use Rattle.promises.specs.OneCall.{is_no}
 use Rattle.promises.specs.KeysStay.{Aims, HandsKey}
 use Rattle.promises.proofs.laws.Views.{ViewGoes, refuses, formats, inserts, resets, removes, polls, wakes, counts, clears, out_polls, freed_hand}

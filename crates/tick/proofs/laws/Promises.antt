@@ -1,11 +1,11 @@
 -- What a board may rely on, from the claims alone. What stands between quotation marks is request 4's text.
-use Rattle.std.proofs.Common.{◌≡◌, ℕ, ◌+◌, ◌*◌, ◌^◌, ◌<◌, ◌≤◌, true, false, ◌↔◌, List, [], ◌∷◌, sym, refl, ap, ◌∙◌, subst, ⊎_elim, true≢false, arith}
+use Rattle.std.proofs.Common.{◌≡◌, ℕ, ◌+◌, ◌*◌, ◌^◌, ◌<◌, ◌≤◌, true, ◌↔◌, List, [], ◌∷◌, sym, refl, ◌∙◌, subst, ⊎_elim, true≢false, arith}
 use mathlib.Core.Logic.{by_cases}
 use mathlib.Core.List.{nil≢cons}
 use native.Mathlib.Decide.{ℕ_discrete}
 use Rattle.links.specs.Lists.{nobody}
 use Rattle.queue.specs.declared.Answer.{Answer}
-use Rattle.queue.specs.Told.{Told, told, ok, no}
+use Rattle.queue.specs.Told.{Told, told, no}
 use Rattle.records.specs.Words.{QueueWords, elapsed, AtRest, Sound}
 use Rattle.delay_queue.specs.declared.Call.{Call}
 use Rattle.delay_queue.specs.declared.Call.TheVariants as C
@@ -21,7 +21,7 @@ use Rattle.tick.specs.Boards.{Deed, reads, polls, polls_some, calls, DeedClaim, 
 use Rattle.tick.specs.Boards.{All, Through, AllThrough, Behind, ticks, times, lows, Steady}
 use Rattle.tick.specs.Promises.{TenExactly}
 use Rattle.tick.proofs.laws.Reading.{by_sum, ok_no, now_rest, now_mid}
-use Rattle.tick.proofs.laws.Until.{Remembered, call_until}
+use Rattle.tick.proofs.laws.Until.{call_until}
 use Rattle.tick.proofs.laws.Once.{deed_once}
 
 -- ---- "Readings under 2^32 ms apart give the true time"

@@ -45,6 +45,10 @@ not_ok a x e =
     let d : a ≡ A.Done = told_one a A.Done e in
     miss (1 ∷ 2 ∷ 3 ∷ 4 ∷ 5 ∷ 6 ∷ 7 ∷ 8 ∷ 9 ∷ 10 ∷ []) 0 tt (rw d at x)
 
+-- any answer but `Done`
+pub not_done : (a : Answer) → (a ≡ A.Done → ⊥) → told a ≡ ok → ⊥
+not_done a f e = f (told_one a A.Done e)
+
 -- ---- a poll through it
 
 pub polled : {time tick time' : ℕ} {a b : Answer} {s s' : QueueWords} → ReadClaim time tick a time' → a ≡ A.Done → PollClaim s time' b s'

@@ -1,5 +1,5 @@
 -- `poll_some` meets its claim: the reading's answer decides whether the store is asked (`polled_some`, `some_asks_nothing`).
-use Rattle.tick.proofs.laws.Reading.{not_ok, polled_some, some_asks_nothing}
+use Rattle.tick.proofs.laws.Reading.{not_done, polled_some, some_asks_nothing}
 use Rattle.tick.proofs.poll_some.Goals as goal
 
 pub returns-in-Done : goal.returns-in-Done
@@ -9,4 +9,4 @@ returns-in-Done c =
 pub returns-in_default : goal.returns-in_default
 returns-in_default c =
     let r = c.read-seen in
-    some_asks_nothing _ _ _ _ _ _ r.ensures (not_ok r.result.answer c.in_default.in_default-own.keys2) c.unchanged-same.ensures
+    some_asks_nothing _ _ _ _ _ _ r.ensures (not_done r.result.answer c.in_default.not-Done) c.unchanged-same.ensures
