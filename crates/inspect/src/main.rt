@@ -9,7 +9,12 @@ ghost use Rattle.inspect.specs.Text.{TextClaim, SaidClaim};
 
 use input::Got;
 use inspector::State;
-use libc::{STDERR_FILENO, STDOUT_FILENO};
+use std::io::Read;
+
+// Standard output and standard error.
+const STDOUT_FILENO: i32 = 1;
+
+const STDERR_FILENO: i32 = 2;
 
 // How many bytes of an unfinished line are kept, and what the lines have come to.
 #[derive(Clone, Copy)]
@@ -69,7 +74,12 @@ struct Outcome {
 
 // Reads until the input ends, or cannot be read any more. A proved loop has to end, so this one ends at 2^63 bytes; no
 // run comes there.
-fn read_all(line: &mut [u8], keys: &mut [u64], deadlines: &mut [u64]) -> Outcome
+fn read_all<R: Read>(
+    from: &mut R,
+    line: &mut [u8],
+    keys: &mut [u64],
+    deadlines: &mut [u64],
+) -> Outcome
     requires { length line.old ≡ 81 }
     ensures { ProgramRan Inspected 81 [] (words (State.Good 0 0 0) keys.old deadlines.old) result.bytes result.last.ended
         (words result.state keys.new deadlines.new) }
@@ -79,7 +89,7 @@ fn read_all(line: &mut [u8], keys: &mut [u64], deadlines: &mut [u64]) -> Outcome
     let mut state = inspector::fresh();
     let mut bytes: usize = 0;
     while bytes < 9223372036854775808 {
-        let got = input::more(&mut buf);
+        let got = input::more(from, &mut buf);
         let k = input::count(got);
         if k == 0 {
             let end = finish(got, &line[..n], state, keys, deadlines);
@@ -155,11 +165,11 @@ fn words_space() -> [u64; 1024]
     [0; 1024]
 }
 
-fn main() {
+fn main(rt: HostRuntime) {
     let mut line = line_space();
     let mut keys = words_space();
     let mut deadlines = words_space();
-    let outcome = read_all(&mut line, &mut keys, &mut deadlines);
+    let outcome = read_all(&mut rt.stdin(), &mut line, &mut keys, &mut deadlines);
     let mut out = line_space();
     let n = said(&mut out, outcome);
     if !io::write_all(STDOUT_FILENO, &out[..n]) {

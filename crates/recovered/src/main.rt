@@ -5,10 +5,14 @@
 ghost use Rattle.std.specs.Prelude.{◌≡◌, length};
 
 use entries::Ending;
-use libc::STDERR_FILENO;
 use pen::Pen;
 use recover::Seen;
 use restore::Restored;
+use std::env::Env;
+use std::fs::File;
+
+// Standard error.
+const STDERR_FILENO: i32 = 2;
 
 // The name of the damage.
 fn write_ending(out: &mut [u8], pen: Pen, ending: Ending) -> Pen {
@@ -83,21 +87,21 @@ fn numbers() -> [u16; 65535]
 }
 
 // Reads the file twice, and writes what it holds.
-fn with_file(fd: i32) {
+fn with_file(file: &File) {
     let mut values = pairs();
     let mut deadlines = words();
     let mut nexts = numbers();
     let mut prevs = numbers();
     let mut turns = words();
     let mut marks = numbers();
-    let s = restore::scan_file(fd, &values, &deadlines, &nexts, &prevs, &turns, &marks);
+    let s = restore::scan_file(file, &values, &deadlines, &nexts, &prevs, &turns, &marks);
     if !restore::is_whole(s) {
         cannot_read();
         return;
     }
     let seen = s.seen;
     let left = restore::apply_file(
-        fd,
+        file,
         seen.kept,
         &mut values,
         &mut deadlines,
@@ -113,13 +117,17 @@ fn with_file(fd: i32) {
     show(seen, left, &values, &deadlines, &nexts, &turns, &marks);
 }
 
-fn main() {
+fn cannot_open() {
+    io::write_all(STDERR_FILENO, b"recovered: cannot open the file\n");
+}
+
+// A name that is no text in UTF-8 is that of no file.
+fn main(rt: HostRuntime) {
     let mut name = io::buffer();
-    let n = os::arg(1, &mut name);
-    let fd = os::open_read(&name[..n]);
-    if fd < 0 {
-        io::write_all(STDERR_FILENO, b"recovered: cannot open the file\n");
-        return;
+    let n = rt.arg(1, &mut name).unwrap_or(0);
+    let path = std::str::from_utf8(&name[..n]).unwrap_or("");
+    match File::open(&rt, path) {
+        Ok(file) => with_file(&file),
+        Err(_) => cannot_open(),
     }
-    with_file(fd);
 }

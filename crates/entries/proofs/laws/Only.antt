@@ -8,9 +8,7 @@ use borrow.Author.Tests.{eqb-true}
 use lib.Dec.{eqb}
 use lib.ListN.{length, take, drop, length-append, length-drop}
 use lib.Seq.{take-add, drop-drop, length-take-le}
-use Rattle.delay_queue.specs.declared.Call.TheVariants as C
 use Rattle.entries.specs.declared.Step.{Step}
-use Rattle.entries.specs.declared.Step.TheVariants as S
 use Rattle.entries.specs.declared.NextStep.TheVariants as X
 use Rattle.entries.specs.declared.Entry.{Entry}
 use Rattle.entries.specs.Entries.{bytes_of, entry, insert_bytes, step_bytes, Fits64, Fit}

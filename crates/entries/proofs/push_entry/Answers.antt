@@ -14,7 +14,7 @@ pub push_word-requires : goal.push_word-requires
 push_word-requires c =
     let p = c.push_word-j.ensures in
     let w = c.push_word-i.ensures in
-        (omega (arith, p.end, p.size, w.end, w.size, bytes_length 2 (c.args.kind * 4096), bytes_length 8 c.args.a), refl)
+    (omega (arith, p.end, p.size, w.end, w.size, bytes_length 2 (c.args.kind * 4096), bytes_length 8 c.args.a), refl)
 
 pub returns : goal.returns
 returns c =

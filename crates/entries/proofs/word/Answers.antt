@@ -1,6 +1,6 @@
 -- `word` reads byte after byte (`word_step`).
 use mathlib.Core.Path.{◌≡◌, ap, ◌∙◌}
-use Prim.Native.Nat.{ℕ, ◌+◌, ◌-◌, ◌<◌}
+use Prim.Native.Nat.{ℕ, ◌+◌, ◌<◌}
 use native.Mathlib.Omega.{arith}
 use Rattle.entries.proofs.laws.Reading.{word_start, word_step, word_fits}
 use Rattle.entries.specs.Reading.{word_at}

@@ -1,6 +1,5 @@
 -- `answer_lines` meets its claim: what comes of where it stands comes of where it began (`Reaches`), a line more does not change that
 -- (`reaches_more`), and it stops where it does not go on.
-use Prim.Native.Nat.{◌-◌}
 use native.Mathlib.Omega.{arith}
 use Rattle.noting.specs.Feed.{stops}
 use Rattle.noting.proofs.laws.NextLines.{reaches_none, reaches_more, next_forth}

@@ -1,8 +1,7 @@
 -- `answer_all` meets its claim: every step answers one command more (`answered_more`), and it stops for one of three reasons (`stops_short` ..).
 use borrow.Author.Rules.{rules}
 use native.Mathlib.Omega.{arith}
-use mathlib.Core.Path.{refl, ◌∙◌}
-use Prim.Native.Nat.{◌-◌}
+use mathlib.Core.Path.{refl}
 use Rattle.run.proofs.laws.Run.{answered_none, answered_more, stops_short, stops_there, stops_full}
 use Rattle.run.proofs.answer_all.Goals as goal
 
@@ -45,12 +44,11 @@ loop-i-smaller c =
     omega (arith, c.loop-i-test.true)
 
 pub loop-i-preserved : goal.loop-i-preserved
-loop-i-preserved c =
-    (
-      answered_more c.loop-i.invariant.0 (omega (arith, c.loop-i-test.true)) c.call_of-group.ensures c.in-Asks.is c.known-said.ensures
-          c.write_answer.ensures (omega (arith, c.if-room-i.false, c.loop-i.auto.answers)),
-      c.known-said.ensures.tells,
-    )
+loop-i-preserved c = (
+  answered_more c.loop-i.invariant.0 (omega (arith, c.loop-i-test.true)) c.call_of-group.ensures c.in-Asks.is c.known-said.ensures
+      c.write_answer.ensures (omega (arith, c.if-room-i.false, c.loop-i.auto.answers)),
+  c.known-said.ensures.tells,
+)
 
 pub returns : goal.returns
 returns c =

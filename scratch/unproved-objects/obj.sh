@@ -1,2 +1,0 @@
-set -- $1 $2
-sed -E 's/define internal (.*)@"harness::harness_(judge|call|inner|judged|answers)"\(/define \1@"raw_\2"(/; s/@"harness::harness_(judge|call|inner|judged|answers)"/@"raw_\1"/g' $1/m.ll > $1/module.ll; mapfile -t w < <(sed -e 's/^module.bc$/module.ll/' /tmp/mx/mods/2.words); cd $1 && /opt/rattle/on/x86_64/toolchain/bin/clang "${w[@]}"; gcc -O2 -fPIE -DPRE=$2 -c ../adapt.c -o adapt.o && ld -r -o both.o module.o adapt.o && k=(); for n in judge call inner judged answers replay gauge; do k+=(--keep-global-symbol $2$n); done; objcopy "${k[@]}" both.o
