@@ -1,9 +1,12 @@
 """What tools/archive, tools/module and tools/quick ask of crates.txt and of the toolchain. They run in the repository's folder."""
-import os, subprocess
+import os, subprocess, sys
 
 def kit():
     """The toolchain's folder."""
-    return os.path.dirname(subprocess.run(['rt', 'doc'], check=True, stdout=subprocess.PIPE, text=True).stdout.strip())
+    try:
+        return os.path.dirname(subprocess.run(['rt', 'doc'], check=True, stdout=subprocess.PIPE, text=True).stdout.strip())
+    except OSError:
+        sys.exit(f"{os.path.relpath(sys.argv[0])}: no 'rt' on the PATH: it is the command of the Rattle toolchain, which proves and builds this repository")
 
 def deps():
     """What each crate of crates.txt stands on."""

@@ -13,7 +13,12 @@ ghost use Rattle.light.specs.Writing.{TextClaim};
 use decimals::Num;
 use gauge::{Gauge, Light, Reading};
 use input::Got;
-use libc::{STDERR_FILENO, STDOUT_FILENO};
+use std::io::Read;
+
+// Standard output and standard error.
+const STDOUT_FILENO: i32 = 1;
+
+const STDERR_FILENO: i32 = 2;
 
 // What the lines so far have said.
 #[derive(Clone, Copy)]
@@ -187,7 +192,7 @@ struct Outcome {
 
 // Reads until the input ends, or cannot be read any more. A proved loop has to end, so this one ends at 2^63 bytes; no run
 // comes there.
-fn read_all(line: &mut [u8]) -> Outcome
+fn read_all<R: Read>(from: &mut R, line: &mut [u8]) -> Outcome
     requires { length line.old ≡ 81 }
     ensures { ProgramRan Stepped 81 [] State.Nothing result.bytes result.last.ended result.state }
 {
@@ -196,7 +201,7 @@ fn read_all(line: &mut [u8]) -> Outcome
     let mut state = State::Nothing;
     let mut bytes: usize = 0;
     while bytes < 9223372036854775808 {
-        let got = input::more(&mut buf);
+        let got = input::more(from, &mut buf);
         let k = input::count(got);
         if k == 0 {
             let end = finish(got, &line[..n], state);
@@ -230,9 +235,9 @@ fn said(outcome: Outcome) -> State
     State::Bad
 }
 
-fn main() {
+fn main(rt: HostRuntime) {
     let mut line = line_space();
-    let outcome = read_all(&mut line);
+    let outcome = read_all(&mut rt.stdin(), &mut line);
     let mut out = line_space();
     let n = text(&mut out, said(outcome));
     if !io::write_all(STDOUT_FILENO, &out[..n]) {

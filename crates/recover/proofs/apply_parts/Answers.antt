@@ -1,6 +1,5 @@
 -- `apply_parts` meets its claim: one pass asks one step (`apply_pass`), and it ends where there is none (`apply_ends`).
-use mathlib.Core.Path.{refl, sym, ◌∙◌}
-use Prim.Native.Nat.{◌-◌}
+use mathlib.Core.Path.{sym, ◌∙◌}
 use native.Mathlib.Omega.{arith}
 use Rattle.recover.proofs.laws.Apply.{apply_start, apply_pass, apply_ends, step_forth}
 use Rattle.recover.proofs.apply_parts.Goals as goal

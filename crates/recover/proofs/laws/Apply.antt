@@ -8,7 +8,6 @@ use lib.ListN.{length, take, drop, length-drop}
 use lib.Seq.{take-add, drop-drop, drop-append_seam, length-take-le}
 use Rattle.queue.specs.declared.Answer.{Answer}
 use Rattle.records.specs.Words.{QueueWords}
-use Rattle.delay_queue.specs.declared.Call.{Call}
 use Rattle.promises.proofs.laws.OneCall.{call_once, call_met}
 use Rattle.entries.specs.declared.Step.{Step}
 use Rattle.entries.specs.declared.Step.TheVariants as S

@@ -2,21 +2,18 @@
 -- their N records have. So what is replayed elsewhere is what was.
 use mathlib.Core.Path.{◌≡◌, refl, sym, ap, ◌∙◌, subst, subst₂}
 use mathlib.Core.Logic.{by_cases}
-use mathlib.Core.Bool.{Bool, true, false, true≢false, false≢true}
+use mathlib.Core.Bool.{Bool, false, false≢true}
 use mathlib.Core.List.{List, [], ◌∷◌, ◌++◌}
-use Prim.Native.Nat.{ℕ, ◌+◌, ◌<◌}
+use Prim.Native.Nat.{ℕ, ◌+◌}
 use native.Mathlib.Omega.{arith}
 use lib.ListN.{length, take}
 use Rattle.queue.specs.declared.Answer.{Answer}
 use Rattle.queue.specs.Told.{told}
-use Rattle.queue.specs.Told as T
 use Rattle.records.specs.Slices.{Slices, Fits}
 use Rattle.records.specs.Words.{QueueWords, slices}
 use Rattle.delay_queue.specs.declared.Call.{Call}
 use Rattle.delay_queue.specs.declared.Call.TheVariants as C
 use Rattle.delay_queue.specs.Claims.{CallClaim}
-use Rattle.promises.specs.Runs.{is_format}
-use Rattle.promises.specs.Past.{size_of}
 use Rattle.promises.specs.Alike.{Matched, SameRoom}
 use Rattle.promises.proofs.laws.OneCall.{call_met, past_kept}
 use Rattle.promises.proofs.laws.Decided.{fits_dec}

@@ -1,5 +1,5 @@
 -- The calls of a journal are a run as the promises speak of it, so each promise over runs speaks of the calls that replay keeps and of those after them.
-use mathlib.Core.List.{List, [], ◌∷◌, ◌++◌}
+use mathlib.Core.List.{List}
 use mathlib.Core.Bool.{Bool}
 use Prim.Native.Nat.{ℕ, ◌≤◌}
 use Rattle.queue.specs.declared.Answer.{Answer}
@@ -8,7 +8,6 @@ use Rattle.promises.specs.Runs.{Asked, Runs, rest, next, NoFormat}
 use Rattle.promises.specs.Outs.{keys}
 use Rattle.promises.proofs.laws.Outs.{keys_once}
 use Rattle.entries.specs.declared.Step.{Step}
-use Rattle.entries.specs.declared.Step.TheVariants as S
 use Rattle.journal.specs.Journal.{Acts, Noted, Journals}
 use Rattle.journal.specs.Journal as J
 use Rattle.recover.specs.Cut.{call_of, calls_in}

@@ -1,13 +1,11 @@
 -- Which steps get 1, 2 or 13 is known without the store: from the lengths of its slices, and whether it is sound.
-use mathlib.Core.Path.{◌≡◌, refl, sym, ap, ◌∙◌, subst}
-use mathlib.Core.Logic.{◌⊎◌, ◌≢◌, ⊎_elim, by_cases}
-use mathlib.Core.Bool.{Bool, true, false, not, cond, ◌&&◌, true≢false, false≢true}
-use mathlib.Core.List.{List}
-use Prim.Native.Nat.{ℕ, zero, suc, ◌+◌, ◌^◌, ◌≤◌, ◌<◌}
+use mathlib.Core.Path.{◌≡◌, refl, sym, ap, subst}
+use mathlib.Core.Logic.{◌⊎◌, ◌≢◌, ⊎_elim}
+use mathlib.Core.Bool.{Bool, true, false, cond, ◌&&◌, true≢false, false≢true}
+use Prim.Native.Nat.{ℕ, ◌^◌}
 use native.Mathlib.Omega.{arith}
-use borrow.Author.Tests.{lt-ltb, le-ltb, ltb-true, ltb-false}
+use borrow.Author.Tests.{ltb-true, ltb-false}
 use lib.Dec.{ltb}
-use lib.ListN.{length}
 use Rattle.contracts.specs.Tells.{Tells}
 use Rattle.queue.specs.declared.Answer.{Answer}
 use Rattle.queue.specs.Told.{Told, told}
@@ -17,10 +15,10 @@ use Rattle.records.specs.Words.{QueueWords, Sound, slices, PastKept}
 use Rattle.records.specs.Format.{InRange}
 use Rattle.delay_queue.specs.declared.Call.{Call}
 use Rattle.delay_queue.specs.declared.Call.TheVariants as C
-use Rattle.delay_queue.specs.Claims.{CallClaim, FormatClaim}
+use Rattle.delay_queue.specs.Claims.{FormatClaim}
 use Rattle.promises.specs.OneCall.{reach}
 use Rattle.promises.specs.Runs.{is_format}
-use Rattle.promises.specs.Refused.{FirstMet, lines_of, deadline_lines, RefusedBy}
+use Rattle.promises.specs.Refused.{FirstMet, deadline_lines, RefusedBy}
 use Rattle.promises.proofs.laws.Refused.{behind, refused_exactly, unsound_refused}
 use Rattle.promises.proofs.laws.OneCall.{past_kept, call_sound}
 use Rattle.promises.proofs.laws.Alike.{fits_kept}

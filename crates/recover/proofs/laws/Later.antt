@@ -1,7 +1,7 @@
 -- What follows for the calls of a journal: the last is written before its answer is given, a patch is kept whole or not at all, a second cut is a cut, and no key
 -- is given twice over the calls that are kept and those after them.
 use mathlib.Core.Path.{◌≡◌, refl, sym, ap, ◌∙◌, subst}
-use mathlib.Core.Bool.{Bool, true, false}
+use mathlib.Core.Bool.{Bool, false}
 use mathlib.Core.List.{List, [], ◌∷◌, ◌++◌, append_assoc, append-nil}
 use Prim.Native.Nat.{ℕ, ◌≤◌}
 use lib.ListN.{take}
@@ -12,13 +12,12 @@ use Rattle.delay_queue.specs.declared.Call.{Call}
 use Rattle.promises.specs.Runs.{Asked, Runs, rest, next, NoFormat}
 use Rattle.promises.specs.Outs.{keys}
 use Rattle.promises.proofs.laws.Outs.{keys_once}
-use Rattle.entries.specs.declared.Step.{Step}
 use Rattle.entries.specs.declared.Step.TheVariants as S
 use Rattle.entries.specs.Reading.{Bytes}
 use Rattle.journal.specs.Journal.{Acts, asks, written, Noted, Journals}
 use Rattle.journal.specs.Journal as J
 use Rattle.recover.specs.Replay.{Found, ReplayClaim}
-use Rattle.recover.specs.Cut.{call_of, calls_in, CutOf, Last}
+use Rattle.recover.specs.Cut.{calls_in, CutOf, Last}
 use Rattle.recover.proofs.laws.Recovers.{goes_on}
 use Rattle.recover.proofs.laws.AnyCut.{any_cut}
 use Rattle.recover.proofs.laws.Keys.{journals_run}
@@ -29,8 +28,8 @@ use Rattle.recover.proofs.laws.Keys.{journals_run}
 pub written_before : {p q : Bool} {s t : QueueWords} (l : List Noted) (x : Noted) {K : List ℕ} → Journals p s (l ++ x ∷ []) K q t → Last p s l x K q t
 written_before {p} {s = s} [] x (J.next f A J.rest) =
     record { journal = []; patch = p; store = s; runs = J.rest; acts = A; ends = append-nil (written x.step (told x.answer)) }
-written_before (y ∷ l) x (J.next {J = K} f A R) =
-    let r = written_before l x R in
+written_before {p} (y ∷ l) x (J.next {p₁ = p₁} {J = K} f A R) =
+    let r = written_before {p = p₁} l x R in
     let W = written y.step (told y.answer) in
     record {
       journal = W ++ r.journal;

@@ -1,19 +1,16 @@
 -- What replay keeps is as long as it can be, and no damage is named exactly where the bytes are a journal and what is left of one more step.
 use mathlib.Core.Path.{◌≡◌, refl, sym, ap, ◌∙◌, subst}
-use mathlib.Core.Bool.{Bool, true, false}
-use mathlib.Core.List.{List, [], ◌∷◌, ◌++◌, append_assoc}
+use mathlib.Core.Bool.{Bool, false}
+use mathlib.Core.List.{List, ◌++◌, append_assoc}
 use Prim.Native.Nat.{ℕ, ◌+◌, ◌≤◌}
 use native.Mathlib.Omega.{arith}
 use lib.ListN.{length, take, drop, take-append-drop}
 use lib.Seq.{length-take-le}
-use Rattle.queue.specs.declared.Answer.{Answer}
 use Rattle.queue.specs.Told.{told}
 use Rattle.records.specs.Words.{QueueWords}
-use Rattle.entries.specs.declared.Step.{Step}
 use Rattle.entries.specs.declared.Ending.{Ending}
 use Rattle.entries.specs.declared.Ending.TheVariants as E
 use Rattle.entries.specs.declared.NextStep.TheVariants as X
-use Rattle.entries.specs.Entries.{Fit}
 use Rattle.entries.specs.Reading as read
 use Rattle.entries.specs.Reading.{Bytes}
 use Rattle.entries.proofs.laws.Inverse.{cut_is}
@@ -21,8 +18,8 @@ use Rattle.entries.proofs.laws.More.{cut_when}
 use Rattle.journal.specs.Journal.{Acts, written, Noted, Journals}
 use Rattle.journal.specs.Journal as J
 use Rattle.journal.proofs.laws.Once.{journals_more}
-use Rattle.recover.specs.Replay.{Found, found, size, Replays, stops, gets, inside, outside, ReplayClaim}
-use Rattle.recover.specs.Cut.{Recovers, Stops, no_step, refused, Undamaged}
+use Rattle.recover.specs.Replay.{Found, found, Replays, stops, gets, inside, outside, ReplayClaim}
+use Rattle.recover.specs.Cut.{Stops, no_step, refused, Undamaged}
 use Rattle.recover.proofs.laws.Once.{replay_once, replays_met}
 use Rattle.recover.proofs.laws.Cut.{run_outside, step_front}
 use Rattle.recover.proofs.laws.Recovers.{replay_recovers}

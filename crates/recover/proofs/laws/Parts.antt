@@ -1,8 +1,8 @@
 -- What the small parts of the code find: how long a step is, and whether there is a store after it.
 use mathlib.Core.Path.{◌≡◌, refl, sym, ap, ◌∙◌, subst}
-use mathlib.Core.Bool.{Bool, true, false, not, cond, false≢true}
+use mathlib.Core.Bool.{Bool, true, false, not, false≢true}
 use mathlib.Core.List.{List}
-use Prim.Native.Nat.{ℕ, ◌+◌, ◌^◌, ◌≤◌, ◌<◌}
+use Prim.Native.Nat.{ℕ, ◌^◌, ◌≤◌, ◌<◌}
 use native.Mathlib.Omega.{arith}
 use borrow.Author.Tests.{lt-ltb, le-ltb, not-true, not-false}
 use lib.ListN.{length, take}
@@ -24,7 +24,6 @@ use Rattle.run.specs.Run.{RunClaim}
 use Rattle.run.proofs.laws.Once.{one_run}
 use Rattle.entries.specs.declared.Step.{Step}
 use Rattle.entries.specs.declared.Step.TheVariants as S
-use Rattle.entries.specs.declared.Ending.{Ending}
 use Rattle.entries.proofs.laws.Writing.{entry_length, pair_size}
 use Rattle.recover.specs.Replay.{size, no_wheel, no_heads, without_store, found, ReplayClaim}
 use Rattle.recover.specs.declared.Seen.{Seen}

@@ -1,9 +1,9 @@
 -- Whatever the bytes, what replay keeps of them is the journal of a run that ends with no patch open and leads to the store that it leaves; so writing goes on
 -- behind it. What is behind a patch that is not closed, or damaged, might as well not be there.
 use mathlib.Core.Path.{◌≡◌, refl, sym, ap, ap₂, ◌∙◌, subst}
-use mathlib.Core.Bool.{Bool, true, false, cond, true≢false, false≢true}
+use mathlib.Core.Bool.{Bool, true, false, cond, true≢false}
 use mathlib.Core.List.{List, [], ◌∷◌, ◌++◌, append_assoc, append-nil}
-use Prim.Native.Nat.{ℕ, ◌+◌, ◌≤◌, ◌<◌}
+use Prim.Native.Nat.{ℕ, ◌+◌}
 use native.Mathlib.Omega.{arith}
 use lib.ListN.{length, take, drop, length-append, take-append-drop}
 use lib.Seq.{take-append_seam, take-append-add}
@@ -24,7 +24,7 @@ use Rattle.journal.specs.Journal.{Acts, asks, opened, open_twice, closed, not_op
 use Rattle.journal.specs.Journal as J
 use Rattle.journal.proofs.laws.Once.{journals_more}
 use Rattle.recover.specs.Replay.{Found, found, size, Replays, stops, gets, inside, outside, ReplayClaim}
-use Rattle.recover.specs.Cut.{NoClose, Unclosed, none_open, not_closed, Part, nothing, Stops, no_step, refused, Recovers}
+use Rattle.recover.specs.Cut.{NoClose, Unclosed, none_open, not_closed, nothing, no_step, refused, Recovers}
 use Rattle.recover.proofs.laws.Cut.{cut_kept}
 
 -- ---- what was read so far of the bytes B
@@ -193,8 +193,8 @@ reads_on {l = l} {p = p} {s} h I (gets e A q w) =
       split = I.split;
       stops = refused e A q w;
     }
-reads_on {l = l} h I (inside {x = x} e A w R) = reads_on (bytes_drop (size x) l h) (read_inside h I e w A) R
-reads_on {l = l} h I (outside {x = x} e A w R) = reads_on (bytes_drop (size x) l h) (read_outside h I e w A) R
+reads_on {c = c} {l = l} h I (inside {x = x} {a = a} e A w R) = reads_on {c = c ++ record { step = x; answer = a } ∷ []} (bytes_drop (size x) l h) (read_inside h I e w A) R
+reads_on {c = c} {l = l} h I (outside {x = x} {a = a} e A w R) = reads_on {c = c ++ record { step = x; answer = a } ∷ []} (bytes_drop (size x) l h) (read_outside h I e w A) R
 
 -- ---- the promises
 

@@ -1,9 +1,7 @@
 -- `scan` meets its claim: one pass reads one step (`scan_inside`, `scan_outside`), and it stops where there is none or one gets 1, 2 or 13.
 use mathlib.Core.Path.{refl, sym, ◌∙◌}
 use mathlib.Core.Bool.{true≢false}
-use Prim.Native.Nat.{◌-◌}
 use native.Mathlib.Omega.{arith}
-use Rattle.entries.specs.declared.Ending.TheVariants as E
 use Rattle.recover.specs.Scan.{CanBe}
 use Rattle.recover.proofs.laws.Apply.{step_forth}
 use Rattle.recover.proofs.laws.Scan.{scans_after, scan_start, scan_ends, scan_gets, scan_inside, scan_outside, cannot, can}
