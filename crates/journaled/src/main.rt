@@ -16,26 +16,31 @@ use delay_queue::Heads;
 use entries::Ending;
 use input::Got;
 use keeping::{Keeping, Synced};
-use libc::STDERR_FILENO;
 use recover::Seen;
+use std::env::Env;
+use std::fs::{File, OpenFile, OpenOptions};
+use std::io::{Read, Write};
 use wheel::Wheel;
+
+// Standard error.
+const STDERR_FILENO: i32 = 2;
 
 // How many bytes of an unfinished line are kept, whether a patch is open, the store, how far the journal is kept, and
 // whether all went well.
 #[derive(Clone, Copy)]
-struct Progress {
+struct Progress<'a> {
     kept: usize,
     patch: bool,
     state: Wheel,
     heads: Heads,
-    file: Synced,
+    file: Synced<'a>,
     fine: bool,
 }
 
 // Keeps what is noted, and only then gives the answers.
-fn settle(file: Synced, notes: &[u8], noted: usize, out: &[u8], at: usize) -> Keeping
+fn settle<'a>(file: Synced<'a>, notes: &[u8], noted: usize, out: &[u8], at: usize) -> Keeping<'a>
     requires { (noted ≤ length notes.now) × (at ≤ length out.now) }
-    ensures { result.fine ≡ true → result.kept.length ≡ file.length + noted }
+    ensures { result.fine ≡ true → result.kept.length ≡ file.entry.length + noted }
 {
     let k = keeping::keep(file, &notes[..noted]);
     let kept = k.kept;
@@ -61,10 +66,10 @@ fn goes(i: usize, len: usize, fine: bool) -> bool
 }
 
 // Does each line that ends in what was read, keeps what they write to the journal and answers them.
-fn answer(
+fn answer<'a>(
     got: &[u8],
     line: &mut [u8],
-    run: Progress,
+    run: Progress<'a>,
     values: &mut [u64],
     deadlines: &mut [u64],
     nexts: &mut [u16],
@@ -73,7 +78,7 @@ fn answer(
     marks: &mut [u16],
     notes: &mut [u8],
     out: &mut [u8],
-) -> Progress
+) -> Progress<'a>
     requires kept_bound { (run.kept ≤ 81) × (length line.old ≡ 81) }
     requires notes_len { (length notes.old ≡ 40000) × (length out.old ≡ 131072) }
     ensures kept_bound_2 { result.kept ≤ 81 }
@@ -81,12 +86,12 @@ fn answer(
         Passes
         LineAnswered
         (length line.old)
-        (take run.kept line.old)
+        (take run.entry.kept line.old)
         got.now
         (held
-        run.patch
-        (words run.state run.heads.heads values.old deadlines.old nexts.old prevs.old turns.old marks.old)
-        run.file.length)
+        run.entry.patch
+        (words run.entry.state run.entry.heads.heads values.old deadlines.old nexts.old prevs.old turns.old marks.old)
+        run.entry.file.length)
         (take result.kept line.new)
         []
         (held
@@ -127,10 +132,10 @@ fn answer(
 
 // The end: a last line that has no newline is done and answered, if the input has ended; where it cannot be read any
 // more, a line that has not ended stays unanswered.
-fn finish(
+fn finish<'a>(
     got: Got,
     line: &[u8],
-    run: Progress,
+    run: Progress<'a>,
     values: &mut [u64],
     deadlines: &mut [u64],
     nexts: &mut [u16],
@@ -139,17 +144,17 @@ fn finish(
     marks: &mut [u16],
     notes: &mut [u8],
     out: &mut [u8],
-) -> Progress
+) -> Progress<'a>
     requires kept_bound { (run.kept ≤ 81) × (length line.now ≡ 81) }
     requires notes_len { (length notes.old ≡ 40000) × (length out.old ≡ 131072) }
     ensures { result.fine ≡ true →
         Closes
         LineAnswered
-        (take run.kept line.now)
+        (take run.entry.kept line.now)
         (held
-        run.patch
-        (words run.state run.heads.heads values.old deadlines.old nexts.old prevs.old turns.old marks.old)
-        run.file.length)
+        run.entry.patch
+        (words run.entry.state run.entry.heads.heads values.old deadlines.old nexts.old prevs.old turns.old marks.old)
+        run.entry.file.length)
         got.ended
         (held
         result.patch
@@ -194,25 +199,25 @@ fn finish(
 
 // How many bytes were read, what the last read gave, and what is held then.
 #[derive(Clone, Copy)]
-struct Outcome {
+struct Outcome<'a> {
     bytes: usize,
     last: Got,
     patch: bool,
     state: Wheel,
     heads: Heads,
-    file: Synced,
+    file: Synced<'a>,
     fine: bool,
 }
 
-fn comes_to(bytes: usize, last: Got, run: Progress) -> Outcome
+fn comes_to<'a>(bytes: usize, last: Got, run: Progress<'a>) -> Outcome<'a>
     ensures { result ≡ record {
       bytes = bytes;
       last = last;
-      patch = run.patch;
-      state = run.state;
-      heads = run.heads;
-      file = run.file;
-      fine = run.fine;
+      patch = run.entry.patch;
+      state = run.entry.state;
+      heads = run.entry.heads;
+      file = run.entry.file;
+      fine = run.entry.fine;
     } }
 {
     let state = run.state;
@@ -232,9 +237,10 @@ fn comes_to(bytes: usize, last: Got, run: Progress) -> Outcome
 // Reads until the input ends, cannot be read any more, or something could not be kept or answered. Where all went well,
 // what each read gave is done and answered, and the last line, and the journal has grown by what they write to it. A
 // proved loop has to end, so this one ends at 2^63 bytes; no run comes there.
-fn serve(
+fn serve<'a, R: Read>(
+    from: &mut R,
     line: &mut [u8],
-    start: Progress,
+    start: Progress<'a>,
     values: &mut [u64],
     deadlines: &mut [u64],
     nexts: &mut [u16],
@@ -243,18 +249,18 @@ fn serve(
     marks: &mut [u16],
     notes: &mut [u8],
     out: &mut [u8],
-) -> Outcome
+) -> Outcome<'a>
     requires kept_bound { (start.kept ≤ 81) × (length line.old ≡ 81) }
     requires notes_len { (length notes.old ≡ 40000) × (length out.old ≡ 131072) }
     ensures { result.fine ≡ true →
         ProgramRan
         LineAnswered
         (length line.old)
-        (take start.kept line.old)
+        (take start.entry.kept line.old)
         (held
-        start.patch
-        (words start.state start.heads.heads values.old deadlines.old nexts.old prevs.old turns.old marks.old)
-        start.file.length)
+        start.entry.patch
+        (words start.entry.state start.entry.heads.heads values.old deadlines.old nexts.old prevs.old turns.old marks.old)
+        start.entry.file.length)
         result.bytes
         result.last.ended
         (held
@@ -266,7 +272,7 @@ fn serve(
     let mut run = start;
     let mut bytes: usize = 0;
     while bytes < 9223372036854775808 {
-        let got = input::more(&mut buf);
+        let got = input::more(from, &mut buf);
         let k = input::count(got);
         if k == 0 {
             let end = finish(
@@ -336,18 +342,29 @@ fn answer_space() -> [u8; 131072]
     [0; 131072]
 }
 
+// The file, for reading and writing, if it is there.
+fn open_update(rt: &HostRuntime, path: &str) -> std::io::Result<File> {
+    let mut how = OpenOptions::new();
+    how.read(true).write(true);
+    how.open(rt, path)
+}
+
+// A new file, for writing. What is there already is never opened.
+fn create(rt: &HostRuntime, path: &str) -> std::io::Result<File> {
+    let mut how = OpenOptions::new();
+    how.write(true).create_new(true);
+    how.open(rt, path)
+}
+
 // The file, made where it is missing, for reading and writing.
-fn opened(path: &[u8]) -> i32 {
-    let fd = os::open_update(path);
-    if 0 <= fd {
-        return fd;
+fn opened(rt: &HostRuntime, path: &str) -> std::io::Result<File> {
+    match open_update(rt, path) {
+        Ok(file) => Ok(file),
+        Err(_) => {
+            create(rt, path)?;
+            open_update(rt, path)
+        }
     }
-    let made = os::create(path);
-    if made < 0 {
-        return made;
-    }
-    libc::close(made);
-    os::open_update(path)
 }
 
 fn tell(text: &[u8]) {
@@ -396,19 +413,19 @@ fn tell_found(seen: Seen) {
 }
 
 // Copies the bytes of one file from `from` on to another and syncs that. Says whether all went well.
-fn copied(fd: i32, from: usize, to: i32) -> bool {
+fn copied(file: &File, from: usize, to: &mut File) -> bool {
     let mut buf = io::large_buffer();
     let mut at = from;
     loop {
-        let got = input::more_from(fd, at, &mut buf);
+        let got = input::more_from(file, at, &mut buf);
         let k = input::count(got);
         if k == 0 {
             if input::at_end(got) {
-                return libc::fsync(to) == 0;
+                return to.sync_all().is_ok();
             }
             return false;
         }
-        if !io::write_all(to, &buf[..k]) {
+        if to.write_all(&buf[..k]).is_err() {
             return false;
         }
         at += k;
@@ -416,27 +433,27 @@ fn copied(fd: i32, from: usize, to: i32) -> bool {
 }
 
 // The bytes from `from` on go to a new file, which has the file's name with `.damaged` behind it.
-fn saved(fd: i32, from: usize, name: &[u8]) -> bool {
+fn saved(rt: &HostRuntime, file: &File, from: usize, name: &str) -> bool {
     let mut path = io::buffer();
     if 4088 < name.len() {
         return false;
     }
-    let n = writing::push(&mut path, 0, name);
+    let n = writing::push(&mut path, 0, name.as_bytes());
     let end = writing::push(&mut path, n, b".damaged");
-    let to = os::create(&path[..end]);
-    if to < 0 {
-        return false;
+    let beside = std::str::from_utf8(&path[..end]).unwrap_or("");
+    match create(rt, beside) {
+        Ok(mut to) => copied(file, from, &mut to),
+        Err(_) => false,
     }
-    copied(fd, from, to)
 }
 
 // Whether what is not kept may be cut off: it was a cut, or what is damaged is saved.
-fn may_cut(fd: i32, seen: Seen, name: &[u8]) -> bool {
+fn may_cut(rt: &HostRuntime, file: &File, seen: Seen, name: &str) -> bool {
     let ending = seen.ending;
     if recover::is_cut(ending) {
         return true;
     }
-    if saved(fd, seen.kept, name) {
+    if saved(rt, file, seen.kept, name) {
         return true;
     }
     tell(b"cannot save what is damaged\n");
@@ -464,9 +481,10 @@ fn cannot_read() -> Start {
 
 // The store after the steps that are kept, where what is not may be cut off.
 fn applied(
-    fd: i32,
+    rt: &HostRuntime,
+    file: &File,
     seen: Seen,
-    name: &[u8],
+    name: &str,
     values: &mut [u64],
     deadlines: &mut [u64],
     nexts: &mut [u16],
@@ -475,11 +493,11 @@ fn applied(
     marks: &mut [u16],
 ) -> Start {
     let kept = seen.kept;
-    let r = restore::apply_file(fd, kept, values, deadlines, nexts, prevs, turns, marks);
+    let r = restore::apply_file(file, kept, values, deadlines, nexts, prevs, turns, marks);
     if !r.fine {
         return cannot_read();
     }
-    let fine = may_cut(fd, seen, name);
+    let fine = may_cut(rt, file, seen, name);
     let state = r.state;
     let heads = r.heads;
     Start {
@@ -492,8 +510,9 @@ fn applied(
 
 // Recovers the file and tells what was found.
 fn recovered(
-    fd: i32,
-    name: &[u8],
+    rt: &HostRuntime,
+    file: &File,
+    name: &str,
     values: &mut [u64],
     deadlines: &mut [u64],
     nexts: &mut [u16],
@@ -501,19 +520,19 @@ fn recovered(
     turns: &mut [u64],
     marks: &mut [u16],
 ) -> Start {
-    let s = restore::scan_file(fd, values, deadlines, nexts, prevs, turns, marks);
+    let s = restore::scan_file(file, values, deadlines, nexts, prevs, turns, marks);
     if !restore::is_whole(s) {
         return cannot_read();
     }
     let seen = s.seen;
     tell_found(seen);
     applied(
-        fd, seen, name, values, deadlines, nexts, prevs, turns, marks,
+        rt, file, seen, name, values, deadlines, nexts, prevs, turns, marks,
     )
 }
 
 // Answers standard input over the file.
-fn with_file(fd: i32, name: &[u8]) {
+fn with_file(rt: &HostRuntime, file: &File, name: &str) {
     let mut values = pairs();
     let mut deadlines = words();
     let mut nexts = numbers();
@@ -521,7 +540,8 @@ fn with_file(fd: i32, name: &[u8]) {
     let mut turns = words();
     let mut marks = numbers();
     let found = recovered(
-        fd,
+        rt,
+        file,
         name,
         &mut values,
         &mut deadlines,
@@ -533,8 +553,7 @@ fn with_file(fd: i32, name: &[u8]) {
     if !found.fine {
         return;
     }
-    let k = keeping::cut(fd, found.kept as u64);
-    let file = k.kept;
+    let k = keeping::cut(file, found.kept as u64);
     if !k.fine {
         tell(b"cannot cut the journal\n");
         return;
@@ -546,13 +565,14 @@ fn with_file(fd: i32, name: &[u8]) {
         patch: false,
         state,
         heads,
-        file,
+        file: k.kept,
         fine: true,
     };
     let mut line = line_space();
     let mut notes = note_space();
     let mut out = answer_space();
     serve(
+        &mut rt.stdin(),
         &mut line,
         start,
         &mut values,
@@ -566,13 +586,17 @@ fn with_file(fd: i32, name: &[u8]) {
     );
 }
 
-fn main() {
+fn cannot_open() {
+    tell(b"cannot open the file\n");
+}
+
+// A name that is no text in UTF-8 is that of no file.
+fn main(rt: HostRuntime) {
     let mut name = io::buffer();
-    let n = os::arg(1, &mut name);
-    let fd = opened(&name[..n]);
-    if fd < 0 {
-        tell(b"cannot open the file\n");
-        return;
+    let n = rt.arg(1, &mut name).unwrap_or(0);
+    let path = std::str::from_utf8(&name[..n]).unwrap_or("");
+    match opened(&rt, path) {
+        Ok(file) => with_file(&rt, &file, path),
+        Err(_) => cannot_open(),
     }
-    with_file(fd, &name[..n]);
 }
