@@ -7,7 +7,6 @@ use native.Mathlib.Omega.{arith}
 use lib.ListN.{length, drop}
 use lib.Seq.{drop-length}
 use Rattle.queue.specs.declared.Answer.{Answer}
-use Rattle.queue.specs.declared.Answer.TheVariants as A
 use Rattle.queue.specs.Told.{told, ok}
 use Rattle.queue.specs.Told as T
 use Rattle.queue.specs.Calls.{Refused}

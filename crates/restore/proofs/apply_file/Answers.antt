@@ -1,5 +1,5 @@
 -- each chunk is applied behind the one before it (`applied_more`), up to what is kept (`applied_up_to`)
-use Rattle.std.proofs.Common.{arith, ◌≡◌, ◌≤◌, ◌<◌, ◌+◌, ◌-◌, ℕ, List, length, take, length-take, subst}
+use Rattle.std.proofs.Common.{arith, ◌≡◌, ◌≤◌, ◌+◌, ◌-◌, ℕ, List, length, take, length-take, subst}
 use Rattle.wheel.specs.declared.Wheel.{Wheel}
 use Rattle.records.specs.Words.{QueueWords, words}
 use Rattle.recover.specs.Replay.{no_wheel, no_heads, without_store}

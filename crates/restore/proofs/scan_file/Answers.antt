@@ -1,5 +1,5 @@
 -- each chunk is scanned from where the scan stands (`scanned_more`), up to the last (`scanned_last`)
-use Rattle.std.proofs.Common.{arith, ◌≡◌, ◌≤◌, ◌<◌, ◌+◌, ◌^◌, ℕ, List, length, take, length-take, subst}
+use Rattle.std.proofs.Common.{arith, ◌≡◌, ◌≤◌, ◌<◌, ◌+◌, ◌^◌, ℕ, List, length, take, length-take}
 use Rattle.restore.proofs.laws.Restore.{chunk_within, scanned_last, scanned_to, scanned_more}
 use Rattle.restore.proofs.scan_file.Goals as goal
 
