@@ -13,6 +13,8 @@ ghost use Rattle.words.specs.Words.{why_word, ending_words, FlagKept, gauge_of, 
 ghost use Rattle.words.specs.Words.{light_words, light_value, state_of, state_words};
 ghost use Rattle.ngawdrelo.specs.Face.{store_of, Says, Faced, Told, ActsOn, Patches};
 
+use entries::Step;
+
 // The version as one number: 14001 is 0.14.1.
 #[unsafe(no_mangle)]
 pub extern "C" fn ngawdrelo_version() -> u64
