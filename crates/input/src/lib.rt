@@ -5,7 +5,8 @@
 ghost use Rattle.std.specs.Prelude.{◌≡◌, false, ◌<◌, ◌^◌};
 ghost use Rattle.io.specs.Counts.{IsPrefixLen};
 
-use std::io::Read;
+use std::fs::File;
+use std::io::{Read, Stdin};
 use std::os::unix::fs::FileExt;
 
 // What a read gave: how many bytes, and whether the input has ended. Where it failed, none came and it has not.
@@ -36,7 +37,7 @@ fn told(got: std::io::Result<usize>, buf: &[u8]) -> Got
 }
 
 // Reads the next bytes of the input to the front of buf.
-pub fn more<R: Read>(from: &mut R, buf: &mut [u8]) -> Got
+pub fn more(from: &mut Stdin, buf: &mut [u8]) -> Got
     ensures { IsPrefixLen result.bytes buf.new × (0 < result.bytes → result.ended ≡ false) }
 {
     let got = from.read(buf);
@@ -44,7 +45,7 @@ pub fn more<R: Read>(from: &mut R, buf: &mut [u8]) -> Got
 }
 
 // Reads the bytes of the file from `at` on to the front of buf. No file has a byte from 2^63 on.
-pub fn more_from<F: FileExt>(file: &F, at: usize, buf: &mut [u8]) -> Got
+pub fn more_from(file: &File, at: usize, buf: &mut [u8]) -> Got
     ensures { IsPrefixLen result.bytes buf.new × (0 < result.bytes → result.ended ≡ false) × (0 < result.bytes → at < 2 ^ 63) }
 {
     if 9223372036854775807 < at {

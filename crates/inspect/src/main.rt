@@ -9,7 +9,7 @@ ghost use Rattle.inspect.specs.Text.{TextClaim, SaidClaim};
 
 use input::Got;
 use inspector::State;
-use std::io::Read;
+use std::io::Stdin;
 
 // Standard output and standard error.
 const STDOUT_FILENO: i32 = 1;
@@ -74,12 +74,7 @@ struct Outcome {
 
 // Reads until the input ends, or cannot be read any more. A proved loop has to end, so this one ends at 2^63 bytes; no
 // run comes there.
-fn read_all<R: Read>(
-    from: &mut R,
-    line: &mut [u8],
-    keys: &mut [u64],
-    deadlines: &mut [u64],
-) -> Outcome
+fn read_all(from: &mut Stdin, line: &mut [u8], keys: &mut [u64], deadlines: &mut [u64]) -> Outcome
     requires { length line.old ≡ 81 }
     ensures { ProgramRan Inspected 81 [] (words (State.Good 0 0 0) keys.old deadlines.old) result.bytes result.last.ended
         (words result.state keys.new deadlines.new) }

@@ -19,7 +19,7 @@ use keeping::{Keeping, Synced};
 use recover::Seen;
 use std::env::Env;
 use std::fs::{File, OpenFile, OpenOptions};
-use std::io::{Read, Write};
+use std::io::{Stdin, Write};
 use wheel::Wheel;
 
 // Standard error.
@@ -237,8 +237,8 @@ fn comes_to<'a>(bytes: usize, last: Got, run: Progress<'a>) -> Outcome<'a>
 // Reads until the input ends, cannot be read any more, or something could not be kept or answered. Where all went well,
 // what each read gave is done and answered, and the last line, and the journal has grown by what they write to it. A
 // proved loop has to end, so this one ends at 2^63 bytes; no run comes there.
-fn serve<'a, R: Read>(
-    from: &mut R,
+fn serve<'a>(
+    from: &mut Stdin,
     line: &mut [u8],
     start: Progress<'a>,
     values: &mut [u64],

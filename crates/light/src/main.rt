@@ -13,7 +13,7 @@ ghost use Rattle.light.specs.Writing.{TextClaim};
 use decimals::Num;
 use gauge::{Gauge, Light, Reading};
 use input::Got;
-use std::io::Read;
+use std::io::Stdin;
 
 // Standard output and standard error.
 const STDOUT_FILENO: i32 = 1;
@@ -192,7 +192,7 @@ struct Outcome {
 
 // Reads until the input ends, or cannot be read any more. A proved loop has to end, so this one ends at 2^63 bytes; no run
 // comes there.
-fn read_all<R: Read>(from: &mut R, line: &mut [u8]) -> Outcome
+fn read_all(from: &mut Stdin, line: &mut [u8]) -> Outcome
     requires { length line.old ≡ 81 }
     ensures { ProgramRan Stepped 81 [] State.Nothing result.bytes result.last.ended result.state }
 {

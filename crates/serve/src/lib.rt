@@ -14,7 +14,7 @@ ghost use Rattle.lines.specs.Running.{Passes, Closes, ProgramRan};
 use delay_queue::Heads;
 use input::Got;
 use pen::Pen;
-use std::io::Read;
+use std::io::Stdin;
 use wheel::Wheel;
 
 // Standard output and standard error.
@@ -239,8 +239,8 @@ fn comes_to(bytes: usize, last: Got, run: Progress) -> Outcome
 // Reads until the input ends, cannot be read any more, or an answer cannot be written. What each read gave is answered, and
 // the last line: that is claimed, and not that it is written. A proved loop has to end, so this one ends at 2^63 bytes; no
 // run comes there.
-fn serve<R: Read>(
-    from: &mut R,
+fn serve(
+    from: &mut Stdin,
     limits: bool,
     line: &mut [u8],
     start: Progress,
@@ -325,22 +325,22 @@ fn no_heads() -> [[u16; 64]; 6] {
 }
 
 // Each line is answered with one.
-pub fn replay<R: Read>(from: &mut R) {
+pub fn replay(from: &mut Stdin) {
     with_room(from, false, false);
 }
 
 // The same, and behind each answer stand the contents of the lists, once there is a store.
-pub fn replay_lists<R: Read>(from: &mut R) {
+pub fn replay_lists(from: &mut Stdin) {
     with_room(from, false, true);
 }
 
 // As `replay`, and the lines of a poll with a limit are known too.
-pub fn replay_paused<R: Read>(from: &mut R) {
+pub fn replay_paused(from: &mut Stdin) {
     with_room(from, true, false);
 }
 
 // Room for 1,024 records, with two words of values each.
-fn with_room<R: Read>(from: &mut R, limits: bool, lists: bool) {
+fn with_room(from: &mut Stdin, limits: bool, lists: bool) {
     let mut values = pairs();
     let mut deadlines = words();
     let mut nexts = numbers();

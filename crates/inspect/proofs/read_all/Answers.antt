@@ -8,24 +8,24 @@ use Rattle.inspect.proofs.laws.Inspect.{fresh_reads}
 use Rattle.inspect.proofs.read_all.Goals as goal
 
 pub loop-bytes-init : goal.loop-bytes-init
-loop-bytes-init g c = record { fits = omega arith; reads = fresh_reads c.fresh-state.ensures }
+loop-bytes-init c = record { fits = omega arith; reads = fresh_reads c.fresh-state.ensures }
 
 pub slice_bounds-finish-end : goal.slice_bounds-finish-end
-slice_bounds-finish-end g c = omega (arith, c.loop-bytes.invariant.fits)
+slice_bounds-finish-end c = omega (arith, c.loop-bytes.invariant.fits)
 
 pub slice_bounds-finish-end-then-k-eq0 : goal.slice_bounds-finish-end-then-k-eq0
-slice_bounds-finish-end-then-k-eq0 g c = simp length-take (omega (arith, c.loop-bytes.invariant.fits))
+slice_bounds-finish-end-then-k-eq0 c = simp length-take (omega (arith, c.loop-bytes.invariant.fits))
 
 pub loop-bytes-smaller : goal.loop-bytes-smaller
-loop-bytes-smaller g c = omega (arith, c.loop-bytes-test.true, c.if-k-eq0.false)
+loop-bytes-smaller c = omega (arith, c.loop-bytes-test.true, c.if-k-eq0.false)
 
 pub returns-then-k-eq0 : goal.returns-then-k-eq0
-returns-then-k-eq0 g c =
+returns-then-k-eq0 c =
     let I = c.loop-bytes.invariant in
     ran I.reads (simp length-take (omega (arith, I.fits, c.loop-bytes.auto.line, c.requires))) c.finish-end.ensures
 
 pub loop-bytes-preserved : goal.loop-bytes-preserved
-loop-bytes-preserved g c =
+loop-bytes-preserved c =
     let I = c.loop-bytes.invariant in
     let C = c.take_chunk-r.ensures in
     let e = c.loop-bytes.auto.line ∙ c.requires in
@@ -36,6 +36,6 @@ loop-bytes-preserved g c =
     }
 
 pub returns : goal.returns
-returns g c =
+returns c =
     let I = c.loop-bytes.invariant in
     ran I.reads (simp length-take (omega (arith, I.fits, c.loop-bytes.auto.line, c.requires))) (breaks_off c.nothing.ensures)

@@ -6,11 +6,11 @@ use Rattle.inspector.specs.Words.{words, Inspected}
 use Rattle.inspect.proofs.read_all.Given as goal
 
 abbrev pub invariant-loop-bytes : goal.invariant-loop-bytes
-invariant-loop-bytes g l =
+invariant-loop-bytes l =
     record {
       fits : l.n ≤ length l.line;
       reads : Reads Inspected 81 [] (words (S.Good 0 0 0) l.initial.keys l.initial.deadlines) l.bytes (take l.n l.line) (words l.state l.keys l.deadlines);
     }
 
 abbrev pub decreases-loop-bytes : goal.decreases-loop-bytes
-decreases-loop-bytes g l = 9223372036854775808 - l.bytes
+decreases-loop-bytes l = 9223372036854775808 - l.bytes

@@ -13,24 +13,24 @@ short : {k : ℕ} (xs : List ℕ) → k ≤ 81 → length xs ≡ 81 → {m : ℕ
 short {k} xs h e f = simp length-take (omega arith)
 
 pub loop-bytes-init : goal.loop-bytes-init
-loop-bytes-init g c = record { kept = omega arith; reads = reads_none }
+loop-bytes-init c = record { kept = omega arith; reads = reads_none }
 
 pub loop-bytes-preserved : goal.loop-bytes-preserved
-loop-bytes-preserved g c =
+loop-bytes-preserved c =
     let I = c.loop-bytes.invariant in
     let A = c.answer-run.ensures in
     let size = counted c.more-got.new.buf c.count-k.ensures c.more-got.ensures.0.0 in
     record { kept = A.kept_bound_2; reads = reads_more I.reads (A.passes c.if-not-run.false) c.loop-bytes.auto.line size }
 
 pub returns-then-k-eq0 : goal.returns-then-k-eq0
-returns-then-k-eq0 g c =
+returns-then-k-eq0 c =
     let I = c.loop-bytes.invariant in
     rw c.comes_to.ensures (λ e. ran I.reads (short c.loop-bytes.line I.kept (omega arith) (omega arith)) (c.finish-end.ensures e))
 
 pub returns-then-not-run : goal.returns-then-not-run
-returns-then-not-run g c = rw c.comes_to-then-not-run.ensures (λ e. absurd (false≢true (sym c.if-not-run.true ∙ e)))
+returns-then-not-run c = rw c.comes_to-then-not-run.ensures (λ e. absurd (false≢true (sym c.if-not-run.true ∙ e)))
 
 pub returns : goal.returns
-returns g c =
+returns c =
     let I = c.loop-bytes.invariant in
     rw c.comes_to-2.ensures (λ e. ran I.reads (short c.loop-bytes.line I.kept (omega arith) (omega arith)) (breaks_off c.nothing.ensures))

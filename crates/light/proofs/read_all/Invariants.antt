@@ -6,7 +6,7 @@ use Rattle.light.specs.Steps.{Stepped}
 use Rattle.light.proofs.read_all.Given as goal
 
 abbrev pub invariant-loop-bytes : goal.invariant-loop-bytes
-invariant-loop-bytes g l = record { kept : l.n ≤ length l.line; reads : Reads Stepped 81 [] S.Nothing l.bytes (take l.n l.line) l.state }
+invariant-loop-bytes l = record { kept : l.n ≤ length l.line; reads : Reads Stepped 81 [] S.Nothing l.bytes (take l.n l.line) l.state }
 
 abbrev pub decreases-loop-bytes : goal.decreases-loop-bytes
-decreases-loop-bytes g l = 9223372036854775808 - l.bytes
+decreases-loop-bytes l = 9223372036854775808 - l.bytes

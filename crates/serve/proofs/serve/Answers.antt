@@ -8,17 +8,17 @@ counted : {k n : ℕ} (xs : List ℕ) → k ≡ n → n ≤ length xs → k ≡ 
 counted {k} xs e h = simp length-take (omega arith)
 
 pub loop-bytes-init : goal.loop-bytes-init
-loop-bytes-init g c = record { kept = omega arith; reads = reads_none }
+loop-bytes-init c = record { kept = omega arith; reads = reads_none }
 
 pub loop-bytes-preserved : goal.loop-bytes-preserved
-loop-bytes-preserved g c =
+loop-bytes-preserved c =
     let I = c.loop-bytes.invariant in
     let A = c.answer-run.ensures in
     let size = counted c.more-got.new.buf c.count-k.ensures c.more-got.ensures.0.0 in
     record { kept = A.kept_bound; reads = reads_more I.reads A.passes c.loop-bytes.auto.line size }
 
 pub returns-then-not-run : goal.returns-then-not-run
-returns-then-not-run g c =
+returns-then-not-run c =
     let I = c.loop-bytes.invariant in
     let A = c.answer-run.ensures in
     let size = counted c.more-got.new.buf c.count-k.ensures c.more-got.ensures.0.0 in

@@ -6,7 +6,7 @@ use Rattle.feed.specs.Serving.{LineAnswered}
 use Rattle.serve.proofs.serve.Given as goal
 
 abbrev pub invariant-loop-bytes : goal.invariant-loop-bytes
-invariant-loop-bytes g l =
+invariant-loop-bytes l =
     record {
       kept : l.run.kept ≤ 81;
       reads : Reads (LineAnswered l.limits) (length l.initial.line) (take l.initial.run.kept l.initial.line)
@@ -17,4 +17,4 @@ invariant-loop-bytes g l =
     }
 
 abbrev pub decreases-loop-bytes : goal.decreases-loop-bytes
-decreases-loop-bytes g l = 9223372036854775808 - l.bytes
+decreases-loop-bytes l = 9223372036854775808 - l.bytes
