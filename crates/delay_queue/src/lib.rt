@@ -7,10 +7,12 @@ ghost use Rattle.records.specs.Store.{wheel_of};
 ghost use Rattle.delay_queue.specs.Claims.{FormatClaim, InsertClaim, ResetClaim, RemoveClaim};
 ghost use Rattle.delay_queue.specs.Claims.{PollClaim, PollSomeClaim, WakeClaim, LengthClaim, ClearClaim};
 ghost use Rattle.delay_queue.specs.Free.{FreeNo};
+ghost use Rattle.refusals.specs.Numbers.{number, no_in};
 ghost use Rattle.delay_queue.specs.NoStore.{NoStoreClaim};
 
 use places::Tops;
 use queue::Answer;
+use refusals::Refusal;
 use wheel::Wheel;
 
 // A call, with its arguments in the papers' order.
@@ -80,10 +82,10 @@ pub fn no_store() -> Wheel
 }
 
 // The number alone, and everything handed back as it is.
-fn refused(number: u64, state: Wheel, heads: [[u16; 64]; 6]) -> Reply
-    ensures { (result.answer ≡ Answer.No number) × (result.state ≡ state) × (result.heads.heads ≡ heads) }
+fn refused(refusal: Refusal, state: Wheel, heads: [[u16; 64]; 6]) -> Reply
+    ensures { (result.answer ≡ Answer.No (number refusal)) × (result.state ≡ state) × (result.heads.heads ≡ heads) }
 {
-    let answer = Answer::No(number);
+    let answer = Answer::No(refusal.number());
     unchanged(answer, state, heads)
 }
 
@@ -116,7 +118,7 @@ fn packed(
     unchanged(answer, state, heads)
 }
 
-// 2 for a store that is not sound, 12 while a poll is in hand, 0 if it is neither.
+// A call is refused with 2 by a store that is not sound, with 12 while a poll is in hand, or it may go on.
 fn free_no(
     state: Wheel,
     heads: [[u16; 64]; 6],
@@ -126,16 +128,16 @@ fn free_no(
     prevs: &[u16],
     turns: &[u64],
     marks: &[u16],
-) -> u64
-    ensures { FreeNo (words state heads values.now deadlines.now nexts.now prevs.now turns.now marks.now) result }
+) -> Result<(), Refusal>
+    ensures { FreeNo (words state heads values.now deadlines.now nexts.now prevs.now turns.now marks.now) (no_in result) }
 {
     if !judge::is_sound(state, heads, values, deadlines, nexts, prevs, turns, marks) {
-        return refusals::NOT_SOUND;
+        return Err(Refusal::NotSound);
     }
     if state.hand != links::NOBODY {
-        return refusals::POLL_IN_HAND;
+        return Err(Refusal::PollInHand);
     }
-    0
+    Ok(())
 }
 
 // Every record of n is free, with the first turn `turn`. What the store was before does not matter.
@@ -154,9 +156,9 @@ pub fn format(
     ensures { FormatClaim (words state heads values.old deadlines.old nexts.old prevs.old turns.old marks.old)
         n turn result.answer (words result.state result.heads.heads values.new deadlines.new nexts.new prevs.new turns.new marks.new) }
 {
-    let number = records::format_no(values, deadlines, nexts, prevs, turns, marks, n, turn);
-    if number != 0 {
-        return refused(number, state, heads);
+    let taken = records::format_no(values, deadlines, nexts, prevs, turns, marks, n, turn);
+    if let Err(refusal) = taken {
+        return refused(refusal, state, heads);
     }
     let mut tops = [0u16; 4];
     records::make(
@@ -183,9 +185,9 @@ pub fn insert(
     ensures { InsertClaim (words state heads values.old deadlines.old nexts.old prevs.old turns.now marks.old)
         value when period result.answer (words result.state result.heads.heads values.new deadlines.new nexts.new prevs.new turns.now marks.new) }
 {
-    let number = free_no(state, heads, values, deadlines, nexts, prevs, turns, marks);
-    if number != 0 {
-        return refused(number, state, heads);
+    let free = free_no(state, heads, values, deadlines, nexts, prevs, turns, marks);
+    if let Err(refusal) = free {
+        return refused(refusal, state, heads);
     }
     let elapsed = state.elapsed;
     let mut occupied = state.occupied;
@@ -224,9 +226,9 @@ pub fn reset(
     ensures { ResetClaim (words state heads values.now deadlines.old nexts.old prevs.old turns.now marks.old)
         key when result.answer (words result.state result.heads.heads values.now deadlines.new nexts.new prevs.new turns.now marks.new) }
 {
-    let number = free_no(state, heads, values, deadlines, nexts, prevs, turns, marks);
-    if number != 0 {
-        return refused(number, state, heads);
+    let free = free_no(state, heads, values, deadlines, nexts, prevs, turns, marks);
+    if let Err(refusal) = free {
+        return refused(refusal, state, heads);
     }
     let elapsed = state.elapsed;
     let mut occupied = state.occupied;
@@ -263,9 +265,9 @@ pub fn remove(
     ensures { RemoveClaim (words state heads values.now deadlines.now nexts.old prevs.old turns.old marks.old)
         key result.answer (words result.state result.heads.heads values.now deadlines.now nexts.new prevs.new turns.new marks.new) }
 {
-    let number = free_no(state, heads, values, deadlines, nexts, prevs, turns, marks);
-    if number != 0 {
-        return refused(number, state, heads);
+    let free = free_no(state, heads, values, deadlines, nexts, prevs, turns, marks);
+    if let Err(refusal) = free {
+        return refused(refusal, state, heads);
     }
     let elapsed = state.elapsed;
     let mut occupied = state.occupied;
@@ -304,7 +306,7 @@ pub fn poll_some(
         time limit result.answer (words result.state result.heads.heads values.now deadlines.new nexts.new prevs.new turns.new marks.new) }
 {
     if !judge::is_sound(state, heads, values, deadlines, nexts, prevs, turns, marks) {
-        return refused(refusals::NOT_SOUND, state, heads);
+        return refused(Refusal::NotSound, state, heads);
     }
     let elapsed = state.elapsed;
     let mut occupied = state.occupied;
@@ -375,9 +377,9 @@ pub fn next_wake(
 ) -> Answer
     ensures { WakeClaim (words state heads values.now deadlines.now nexts.now prevs.now turns.now marks.now) result }
 {
-    let number = free_no(state, heads, values, deadlines, nexts, prevs, turns, marks);
-    if number != 0 {
-        return Answer::No(number);
+    let free = free_no(state, heads, values, deadlines, nexts, prevs, turns, marks);
+    if let Err(refusal) = free {
+        return Answer::No(refusal.number());
     }
     let occupied = state.occupied;
     let top = state.tops;
@@ -404,7 +406,7 @@ pub fn length(
     ensures { LengthClaim (words state heads values.now deadlines.now nexts.now prevs.now turns.now marks.now) result }
 {
     if !judge::is_sound(state, heads, values, deadlines, nexts, prevs, turns, marks) {
-        return Answer::No(refusals::NOT_SOUND);
+        return Answer::No(Refusal::NotSound as u64);
     }
     let top = state.tops;
     let n = queue::length(top.n, marks);
@@ -426,7 +428,7 @@ pub fn clear(
         result.answer (words result.state result.heads.heads values.now deadlines.now nexts.new prevs.new turns.new marks.new) }
 {
     if !judge::is_sound(state, heads, values, deadlines, nexts, prevs, turns, marks) {
-        return refused(refusals::NOT_SOUND, state, heads);
+        return refused(Refusal::NotSound, state, heads);
     }
     let elapsed = state.elapsed;
     let mut occupied = state.occupied;

@@ -88,13 +88,11 @@ fn records_agree(
     requires { (low < 6) × (n ≤ length deadlines.now) × (n ≤ length turns.now) × (n ≤ length marks.now) }
     ensures { Tells (RecordsAgree low hand clock n deadlines.now turns.now marks.now) result }
 {
-    let mut i = 0u16;
-    while i < n {
+    for i in 0..n {
         let k = i as usize;
         if !record_agrees(low, hand, clock, deadlines[k], turns[k], marks[k]) {
             return false;
         }
-        i += 1;
     }
     true
 }

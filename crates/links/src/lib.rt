@@ -11,13 +11,6 @@ ghost use Rattle.links.specs.Judge.{walk_of, bare, loose_of};
 // The record number that means nobody.
 pub const NOBODY: u16 = 65535;
 
-// What a walk of one list finds: that the list is wrong, or how much room its members leave.
-#[derive(Clone, Copy)]
-pub enum Walk {
-    Wrong,
-    Left(u16),
-}
-
 // v at k, unless k is nobody.
 fn put(l: &mut [u16], k: u16, v: u16)
     requires { Inside k l.old }
@@ -43,10 +36,7 @@ fn tail_or(none: u16, prevs: &[u16], head: u16) -> u16
 fn choose(k: u16, j: u16, one: u16, other: u16) -> u16
     ensures { result ≡ cond (eqb k j) one other }
 {
-    if k == j {
-        return one;
-    }
-    other
+    if k == j { one } else { other }
 }
 
 // The loose record `item` comes between the tail and `head`, the first of `place`, and is marked.
@@ -115,7 +105,7 @@ pub fn cut(nexts: &mut [u16], prevs: &mut [u16], marks: &mut [u16], item: u16, h
 }
 
 // Walks the list of `place` from its head on: each member is one of n records, has the mark of the place and the one before it for its
-// back link. The head's is the tail.
+// back link. The head's is the tail. How much of the room its members leave, if the list is not wrong.
 pub fn walk_list(
     nexts: &[u16],
     prevs: &[u16],
@@ -124,15 +114,15 @@ pub fn walk_list(
     place: u16,
     head: u16,
     room: u16,
-) -> Walk
+) -> Option<u16>
     requires { Room n (links nexts.now prevs.now marks.now) }
     ensures { result ≡ walk_of (links nexts.now prevs.now marks.now) n place room head }
 {
     if head == NOBODY {
-        return Walk::Left(room);
+        return Some(room);
     }
     if n <= head {
-        return Walk::Wrong;
+        return None;
     }
     let tail = prevs[head as usize];
     let mut left = room;
@@ -141,38 +131,32 @@ pub fn walk_list(
     while item != NOBODY {
         let k = item as usize;
         if left == 0 {
-            return Walk::Wrong;
+            return None;
         }
         if n <= item {
-            return Walk::Wrong;
+            return None;
         }
         if marks[k] != place {
-            return Walk::Wrong;
+            return None;
         }
         if prevs[k] != prev {
-            return Walk::Wrong;
+            return None;
         }
         left -= 1;
         prev = item;
         item = nexts[k];
     }
     if prev != tail {
-        return Walk::Wrong;
+        return None;
     }
-    Walk::Left(left)
+    Some(left)
 }
 
 // The mark is none of the places, and there is no link.
 fn is_loose(places: u16, next: u16, prev: u16, mark: u16) -> bool
     ensures { result ≡ bare places next prev mark }
 {
-    if mark < places {
-        return false;
-    }
-    if next != NOBODY {
-        return false;
-    }
-    prev == NOBODY
+    places <= mark && next == NOBODY && prev == NOBODY
 }
 
 // How many of n records are loose.
@@ -180,14 +164,12 @@ pub fn count_loose(nexts: &[u16], prevs: &[u16], marks: &[u16], n: u16, places: 
     requires { Room n (links nexts.now prevs.now marks.now) }
     ensures { result ≡ loose_of places (links nexts.now prevs.now marks.now) n }
 {
-    let mut count = 0u16;
-    let mut i = 0u16;
-    while i < n {
+    let mut count = 0;
+    for i in 0..n {
         let k = i as usize;
         if is_loose(places, nexts[k], prevs[k], marks[k]) {
             count += 1;
         }
-        i += 1;
     }
     count
 }

@@ -10,8 +10,6 @@ ghost use Rattle.places.specs.Words.{push, remove, pop, CanPush, CanRemove, CanP
 ghost use Rattle.places.specs.Judge.{WalksLevel, rest};
 ghost use Rattle.places.specs.Format.{formatted};
 
-use links::Walk;
-
 // A place is a number: slot s of level k is 64 k + s, and the three lists that are no slot follow, so that place / 64 is the height of
 // every timer but an expired one. A record's mark is its place, or nobody while it is on its way from one to another.
 // Retired is the last place, and has no list.
@@ -258,14 +256,14 @@ pub fn pop_slot(
     item
 }
 
-// What a walk of the lists of one level finds, and which of its slots have a head, as a row of flags.
+// How much room the lists of one level leave, and which of its slots have a head, as a row of flags.
 #[derive(Clone, Copy)]
 pub struct Level {
-    pub walk: Walk,
+    pub left: u16,
     pub filled: u64,
 }
 
-// Walks the lists of the level. Each head is looked at once.
+// Walks the lists of the level, if none is wrong. Each head is looked at once.
 pub fn walk_level(
     tops: &[u16; 4],
     heads: &[[u16; 64]; 6],
@@ -274,39 +272,23 @@ pub fn walk_level(
     marks: &[u16],
     level: usize,
     room: u16,
-) -> Level
+) -> Option<Level>
     requires level_bound { level < 6 }
     requires room { Room (count (words tops.now heads.now nexts.now prevs.now marks.now)) (links nexts.now prevs.now marks.now) }
-    ensures { WalksLevel (words tops.now heads.now nexts.now prevs.now marks.now) level room result.walk result.filled }
+    ensures { WalksLevel (words tops.now heads.now nexts.now prevs.now marks.now) level room result }
 {
     let n = tops[0];
     let mut left = room;
-    let mut filled = 0u64;
-    let mut slot: usize = 0;
-    while slot < 64 {
+    let mut filled = 0;
+    for slot in 0..64 {
         let head = heads[level][slot];
         if head != links::NOBODY {
-            let walk = links::walk_list(
-                nexts,
-                prevs,
-                marks,
-                n,
-                slot_place(level, slot),
-                head,
-                left,
-            );
-            let Walk::Left(l) = walk else {
-                return Level { walk, filled };
-            };
-            left = l;
+            let place = slot_place(level, slot);
+            left = links::walk_list(nexts, prevs, marks, n, place, head, left)?;
             filled = row::set(filled, slot);
         }
-        slot += 1;
     }
-    Level {
-        walk: Walk::Left(left),
-        filled,
-    }
+    Some(Level { left, filled })
 }
 
 // Whether the lists that are no slots are whole too, and the records that are left are just the loose ones.
@@ -323,14 +305,12 @@ pub fn walk_rest(
 {
     let n = tops[0];
     let mut left = room;
-    let mut place = SLOTS;
-    while place < PLACES {
+    for place in SLOTS..PLACES {
         let head = head_of(tops, heads, place);
-        let Walk::Left(l) = links::walk_list(nexts, prevs, marks, n, place, head, left) else {
+        let Some(l) = links::walk_list(nexts, prevs, marks, n, place, head, left) else {
             return false;
         };
         left = l;
-        place += 1;
     }
     left == links::count_loose(nexts, prevs, marks, n, PLACES)
 }
@@ -350,14 +330,12 @@ pub fn format(
     *tops = [n, links::NOBODY, 0, links::NOBODY];
     *heads = [[links::NOBODY; 64]; 6];
     let mut prev = n - 1;
-    let mut i = 0u16;
-    while i < n {
+    for i in 0..n {
         let k = i as usize;
         prevs[k] = prev;
         marks[k] = FREE;
+        nexts[k] = i + 1;
         prev = i;
-        i += 1;
-        nexts[k] = i;
     }
     nexts[prev as usize] = links::NOBODY;
 }

@@ -7,11 +7,14 @@ ghost use Rattle.queue.specs.Calls.{InsertOn, ResetOn, RemoveOn, PollsOn, ClearO
 ghost use Rattle.records.specs.Inner.{LooseAt};
 ghost use Rattle.queue.specs.Inner.{CanPollIdx, PollsIdx, PollNo, HandsOut, Shows, pending_in, ClearsOne};
 ghost use Rattle.queue.specs.Told.{told};
+ghost use Rattle.refusals.specs.Numbers.{no_in};
 ghost use Rattle.records.specs.View.{View};
 ghost use Rattle.queue.specs.Steps.{NextWake};
 ghost use Rattle.links.specs.Links.{at};
 ghost use Rattle.wheel.specs.Words.{words as wheeled};
 ghost use Rattle.wheel.specs.Expiration.{CanLook};
+
+use refusals::Refusal;
 
 // An answer.
 #[derive(Clone, Copy)]
@@ -35,7 +38,8 @@ pub enum Answer {
     NoWake,
     // length
     Length(u64),
-    // the number of the refusal, one of the crate refusals
+    // the number of the refusal. No `Refusal`: a journal and a log may tell of any number, and the laws speak of every one
+    // (promises/proofs/laws/Once.antt#untold_told)
     No(u64),
 }
 
@@ -70,11 +74,10 @@ pub fn insert(
         value when period result (parts elapsed occupied.new tops.new heads.new values.new deadlines.new nexts.new prevs.new turns.now marks.new) }
 {
     if places::first_free(tops) == links::NOBODY {
-        return Answer::No(refusals::FULL);
+        return Answer::No(Refusal::Full as u64);
     }
-    let no = records::deadline_no(elapsed, when);
-    if no != 0 {
-        return Answer::No(no);
+    if let Err(refusal) = records::deadline_no(elapsed, when) {
+        return Answer::No(refusal.number());
     }
     let item = wheel::pop(
         elapsed,
@@ -114,12 +117,11 @@ pub fn reset(
         key when result (parts elapsed occupied.new tops.new heads.new values.now deadlines.new nexts.new prevs.new turns.now marks.new) }
 {
     let found = records::find(places::count_of(tops), turns, marks, key);
-    let records::Found::At(item) = found else {
-        return Answer::No(refusals::DEAD_KEY);
+    let Some(item) = found else {
+        return Answer::No(Refusal::DeadKey as u64);
     };
-    let no = records::deadline_no(elapsed, when);
-    if no != 0 {
-        return Answer::No(no);
+    if let Err(refusal) = records::deadline_no(elapsed, when) {
+        return Answer::No(refusal.number());
     }
     wheel::remove(elapsed, occupied, tops, heads, nexts, prevs, marks, item);
     records::place(
@@ -147,8 +149,8 @@ pub fn remove(
         key result (parts elapsed occupied.new tops.new heads.new values.now deadlines.now nexts.new prevs.new turns.new marks.new) }
 {
     let found = records::find(places::count_of(tops), turns, marks, key);
-    let records::Found::At(item) = found else {
-        return Answer::No(refusals::DEAD_KEY);
+    let Some(item) = found else {
+        return Answer::No(Refusal::DeadKey as u64);
     };
     let value = records::value_of(values, item);
     let deadline = deadlines[item as usize];
@@ -192,7 +194,7 @@ fn hand_out(
         return Answer::Out(key, value, deadline, moves, drains);
     }
     let next = records::next_time(elapsed, deadline, period);
-    let records::Again::At(when) = next else {
+    let Some(when) = next else {
         records::leave(
             elapsed, occupied, tops, heads, nexts, prevs, turns, marks, item,
         );
@@ -247,20 +249,20 @@ fn poll_idx(
     )
 }
 
-// 12 for a poll while one at another now is in hand, 7 for one before elapsed, 0 for one that is taken.
-fn poll_no(elapsed: u64, hand: u16, until: u64, time: u64) -> u64
-    ensures { PollNo elapsed hand until time result }
+// A poll is refused with 12 while one at another now is in hand, with 7 before elapsed, or taken.
+fn poll_no(elapsed: u64, hand: u16, until: u64, time: u64) -> Result<(), Refusal>
+    ensures { PollNo elapsed hand until time (no_in result) }
 {
     if hand != links::NOBODY {
         if time != until {
-            return refusals::POLL_IN_HAND;
+            return Err(Refusal::PollInHand);
         }
-        return 0;
+        return Ok(());
     }
     if time < elapsed {
-        return refusals::BACK_IN_TIME;
+        return Err(Refusal::BackInTime);
     }
-    0
+    Ok(())
 }
 
 // Hands out a timer that is due at `time`, if there is one, with `limit` moves at most. With the drain of `hand` in hand it
@@ -286,10 +288,9 @@ pub fn poll(
         time limit result.answer (holding result.hand result.until
         (parts result.elapsed occupied.new tops.new heads.new values.now deadlines.new nexts.new prevs.new turns.new marks.new)) }
 {
-    let no = poll_no(elapsed, hand, until, time);
-    if no != 0 {
+    if let Err(refusal) = poll_no(elapsed, hand, until, time) {
         return ReplyParts {
-            answer: Answer::No(no),
+            answer: Answer::No(refusal.number()),
             elapsed,
             hand,
             until,
@@ -346,10 +347,9 @@ pub fn next_wake(
     if expired != links::NOBODY {
         return Answer::Wake(elapsed);
     }
-    let wake = wheel::poll_at(elapsed, occupied, deadlines, parking);
-    match wake {
-        wheel::Wake::At(time) => Answer::Wake(time),
-        wheel::Wake::Never => Answer::NoWake,
+    match wheel::poll_at(elapsed, occupied, deadlines, parking) {
+        Some(time) => Answer::Wake(time),
+        None => Answer::NoWake,
     }
 }
 
@@ -358,15 +358,13 @@ pub fn length(n: u16, marks: &[u16]) -> u64
     requires { n ≤ length marks.now }
     ensures { result ≡ pending_in (at marks.now) n }
 {
-    let mut count = 0u16;
-    let mut i = 0u16;
-    while i < n {
+    let mut count = 0;
+    for i in 0..n {
         if places::is_pending(marks[i as usize]) {
             count += 1;
         }
-        i += 1;
     }
-    count as u64
+    count
 }
 
 // The record `item` leaves if it is pending.
@@ -415,12 +413,10 @@ pub fn clear(
         result (parts 0 occupied.new tops.new heads.new values.now deadlines.now nexts.new prevs.new turns.new marks.new) }
 {
     let n = places::count_of(tops);
-    let mut i = 0u16;
-    while i < n {
+    for i in 0..n {
         clear_one(
             elapsed, occupied, tops, heads, values, deadlines, nexts, prevs, turns, marks, i,
         );
-        i += 1;
     }
     Answer::Done
 }

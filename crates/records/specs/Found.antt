@@ -1,11 +1,7 @@
 -- What `ahead_no`, `deadline_no`, `next_time` and `find` say.
-use Rattle.std.specs.Prelude.{◌≡◌, List, ℕ, ◌<◌}
+use Rattle.std.specs.Prelude.{◌≡◌, List, ℕ, ◌<◌, Option, Some, None}
 use Rattle.links.specs.Links.{at}
 use Rattle.places.specs.Places.{free}
-use Rattle.records.specs.declared.Found.{Found}
-use Rattle.records.specs.declared.Found.TheVariants as F
-use Rattle.records.specs.declared.Again.{Again}
-use Rattle.records.specs.declared.Again.TheVariants as G
 use Rattle.records.specs.Records.{turn_in, number_in, TooFar, Near, TooOld, Takes, NoMore}
 
 -- ---- refusals 4 and 11
@@ -26,9 +22,9 @@ pub record DeadlineNo (e w r : ℕ) : Type 0 where
 -- ---- the next time
 
 -- a timer is set again to w, unless it is set no more
-abbrev pub AgainIs : ℕ → ℕ → Again → Type 0
-AgainIs e w G.Never = NoMore e w
-AgainIs e w (G.At when) = (when ≡ w) × (NoMore e w → ⊥)
+abbrev pub AgainIs : ℕ → ℕ → Option ℕ → Type 0
+AgainIs e w None = NoMore e w
+AgainIs e w (Some when) = (when ≡ w) × (NoMore e w → ⊥)
 
 -- ---- a key
 
@@ -39,6 +35,6 @@ pub record KeyIs (n : ℕ) (ts ms : List ℕ) (key i : ℕ) : Type 0 where
   pub pending : at ms i < free
   pub turn : at ts i ≡ turn_in key
 
-abbrev pub FindIs : ℕ → List ℕ → List ℕ → ℕ → Found → Type 0
-FindIs n ts ms key F.Nowhere = (i : ℕ) → KeyIs n ts ms key i → ⊥
-FindIs n ts ms key (F.At i) = KeyIs n ts ms key i
+abbrev pub FindIs : ℕ → List ℕ → List ℕ → ℕ → Option ℕ → Type 0
+FindIs n ts ms key None = (i : ℕ) → KeyIs n ts ms key i → ⊥
+FindIs n ts ms key (Some i) = KeyIs n ts ms key i

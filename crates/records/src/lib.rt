@@ -4,6 +4,7 @@
 
 ghost use Rattle.std.specs.Prelude.{◌≡◌, ◌+◌, ◌*◌, ◌^◌, ◌≤◌, ◌<◌, max, length};
 ghost use Rattle.contracts.specs.Tells.{Tells};
+ghost use Rattle.refusals.specs.Numbers.{no_in};
 ghost use Rattle.places.specs.Places.{slots, free};
 ghost use Rattle.places.specs.Format.{over};
 ghost use Rattle.wheel.specs.Words.{words};
@@ -14,6 +15,7 @@ ghost use Rattle.records.specs.Format.{InRange, FormatNo, MakesOf};
 ghost use Rattle.records.specs.Inner.{HasSlot, PlacesTo, CanPlace, LeavesTo, CanFree};
 ghost use Rattle.records.specs.Found.{AheadNo, DeadlineNo, AgainIs, FindIs};
 
+use refusals::Refusal;
 use wheel::Wheel;
 
 // The last turn: a record that leaves at it is retired.
@@ -24,20 +26,6 @@ pub const LIMIT: u16 = 65535;
 
 // The furthest below elapsed that a deadline may lie: an hour.
 pub const MAX_AGE: u64 = 3_600_000;
-
-// The record that a key names.
-#[derive(Clone, Copy)]
-pub enum Found {
-    At(u16),
-    Nowhere,
-}
-
-// When a repeating timer is set again.
-#[derive(Clone, Copy)]
-pub enum Again {
-    At(u64),
-    Never,
-}
 
 // The state, put together again.
 pub fn wheel_of(elapsed: u64, occupied: [u64; 6], tops: [u16; 4], hand: u16, until: u64) -> Wheel
@@ -65,25 +53,15 @@ pub fn has_room(
     ensures { Tells (Room n (slices_of values.now deadlines.now nexts.now prevs.now turns.now marks.now)) result }
 {
     let k = n as usize;
-    if values.len() < 2 * k {
-        return false;
-    }
-    if deadlines.len() < k {
-        return false;
-    }
-    if nexts.len() < k {
-        return false;
-    }
-    if prevs.len() < k {
-        return false;
-    }
-    if turns.len() < k {
-        return false;
-    }
-    k <= marks.len()
+    2 * k <= values.len()
+        && k <= deadlines.len()
+        && k <= nexts.len()
+        && k <= prevs.len()
+        && k <= turns.len()
+        && k <= marks.len()
 }
 
-// 1 or 8 for a format that is refused, 0 for one that is taken.
+// A format is refused with 1 or 8, or taken.
 pub fn format_no(
     values: &[u64],
     deadlines: &[u64],
@@ -93,25 +71,25 @@ pub fn format_no(
     marks: &[u16],
     n: u64,
     turn: u64,
-) -> u64
-    ensures { FormatNo (Fits (slices_of values.now deadlines.now nexts.now prevs.now turns.now marks.now) n) (InRange turn) result }
+) -> Result<(), Refusal>
+    ensures { FormatNo (Fits (slices_of values.now deadlines.now nexts.now prevs.now turns.now marks.now) n) (InRange turn) (no_in result) }
 {
     if n == 0 {
-        return refusals::NO_ROOM;
+        return Err(Refusal::NoRoom);
     }
     if (LIMIT as u64) < n {
-        return refusals::NO_ROOM;
+        return Err(Refusal::NoRoom);
     }
     if !has_room(n as u16, values, deadlines, nexts, prevs, turns, marks) {
-        return refusals::NO_ROOM;
+        return Err(Refusal::NoRoom);
     }
     if turn == 0 {
-        return refusals::BAD_TURN;
+        return Err(Refusal::BadTurn);
     }
     if LAST_TURN < turn {
-        return refusals::BAD_TURN;
+        return Err(Refusal::BadTurn);
     }
-    0
+    Ok(())
 }
 
 // The first n words become x.
@@ -119,10 +97,8 @@ fn fill(words: &mut [u64], n: usize, x: u64)
     requires { n ≤ length words.old }
     ensures { words.new ≡ over n (λ i. x) words.old }
 {
-    let mut i = 0usize;
-    while i < n {
+    for i in 0..n {
         words[i] = x;
-        i += 1;
     }
 }
 
@@ -173,62 +149,43 @@ pub fn give(values: &mut [u64], item: u16, value: u64, period: u64)
     values[k + 1] = period;
 }
 
-// 4 for a deadline that lies too far ahead of elapsed, 0 for one that does not.
-fn ahead_no(elapsed: u64, when: u64) -> u64
-    ensures { AheadNo elapsed when result }
+// A deadline that lies too far ahead of elapsed is refused with 4.
+fn ahead_no(elapsed: u64, when: u64) -> Result<(), Refusal>
+    ensures { AheadNo elapsed when (no_in result) }
 {
     if times::too_far(elapsed, when) {
-        return refusals::TOO_FAR;
+        return Err(Refusal::TooFar);
     }
-    0
+    Ok(())
 }
 
-// 11 or 4 for a deadline that is refused, 0 for one that is taken.
-pub fn deadline_no(elapsed: u64, when: u64) -> u64
-    ensures { DeadlineNo elapsed when result }
+// A deadline is refused with 11 or 4, or taken.
+pub fn deadline_no(elapsed: u64, when: u64) -> Result<(), Refusal>
+    ensures { DeadlineNo elapsed when (no_in result) }
 {
     if when < elapsed {
         if elapsed - when > MAX_AGE {
-            return refusals::TOO_OLD;
+            return Err(Refusal::TooOld);
         }
-        return 0;
+        return Ok(());
     }
     ahead_no(elapsed, when)
 }
 
-// When a timer is due again, a period after the deadline that it was handed out at.
-pub fn next_time(elapsed: u64, deadline: u64, period: u64) -> Again
+// When a timer is due again, a period after the deadline that it was handed out at, if it is set again at all.
+pub fn next_time(elapsed: u64, deadline: u64, period: u64) -> Option<u64>
     ensures { AgainIs elapsed (deadline + period) result }
 {
-    if u64::MAX - deadline < period {
-        return Again::Never;
-    }
-    let when = deadline + period;
-    let no = ahead_no(elapsed, when);
-    if no != 0 {
-        return Again::Never;
-    }
-    Again::At(when)
+    let when = deadline.checked_add(period)?;
+    ahead_no(elapsed, when).ok()?;
+    Some(when)
 }
 
 // Whether a deadline has a slot: it is over elapsed and lies in its block.
 fn has_slot(elapsed: u64, when: u64) -> bool
     ensures { Tells (HasSlot elapsed when) result }
 {
-    if when <= elapsed {
-        return false;
-    }
-    times::same_block(elapsed, when)
-}
-
-// A deadline, raised to elapsed if it is smaller.
-fn raised(elapsed: u64, when: u64) -> u64
-    ensures { result ≡ max when elapsed }
-{
-    if when <= elapsed {
-        return elapsed;
-    }
-    when
+    elapsed < when && times::same_block(elapsed, when)
 }
 
 // The list of a deadline that has no slot: the expired stack if it is not over elapsed, else the parking list.
@@ -267,7 +224,8 @@ pub fn place(
         );
         return;
     }
-    deadlines[item as usize] = raised(elapsed, when);
+    // raised to elapsed if it is smaller
+    deadlines[item as usize] = when.max(elapsed);
     let list = aside(elapsed, when);
     wheel::push(
         elapsed, occupied, tops, heads, nexts, prevs, marks, list, item,
@@ -330,19 +288,19 @@ pub fn number_of(key: u64) -> u16
 }
 
 // The pending record that the key names.
-pub fn find(n: u16, turns: &[u64], marks: &[u16], key: u64) -> Found
+pub fn find(n: u16, turns: &[u64], marks: &[u16], key: u64) -> Option<u16>
     requires { (n ≤ length turns.now) × (n ≤ length marks.now) }
     ensures { FindIs n turns.now marks.now key result }
 {
     let item = number_of(key);
     if n <= item {
-        return Found::Nowhere;
+        return None;
     }
     if !places::is_pending(marks[item as usize]) {
-        return Found::Nowhere;
+        return None;
     }
     if turns[item as usize] != turn_of(key) {
-        return Found::Nowhere;
+        return None;
     }
-    Found::At(item)
+    Some(item)
 }

@@ -1,11 +1,9 @@
 -- A command as four words, and an answer as six.
-use Rattle.std.specs.Prelude.{◌≡◌, List, [], ◌∷◌, ◌++◌, ℕ, ◌+◌, take, drop}
+use Rattle.std.specs.Prelude.{◌≡◌, List, [], ◌∷◌, ◌++◌, ℕ, ◌+◌, take, drop, Option, Some, None}
 use Rattle.queue.specs.Told.{Told}
 use Rattle.queue.specs.Told as T
 use Rattle.delay_queue.specs.declared.Call.{Call}
 use Rattle.delay_queue.specs.declared.Call.TheVariants as C
-use Rattle.run.specs.declared.Group.{Group}
-use Rattle.run.specs.declared.Group.TheVariants as G
 
 -- ---- commands
 
@@ -42,14 +40,14 @@ answer_words (T.yet m n) = 10 ∷ m ∷ n ∷ 0 ∷ 0 ∷ 0 ∷ []
 -- ---- what the parts of the crate find and leave
 
 -- the words g are those of a call, or of none
-pub record GroupIs (g : List ℕ) (r : Group) : Type 0 where
-  pub asks : (c : Call) → r ≡ G.Asks c → g ≡ command_words c
-  pub not : r ≡ G.Not → (c : Call) → g ≡ command_words c → ⊥
+pub record GroupIs (g : List ℕ) (r : Option Call) : Type 0 where
+  pub asks : (c : Call) → r ≡ Some c → g ≡ command_words c
+  pub not : r ≡ None → (c : Call) → g ≡ command_words c → ⊥
 
 -- the call, just where the three words are 0
-pub record BlankIs (x y z : ℕ) (c : Call) (r : Group) : Type 0 where
-  pub asks : (d : Call) → r ≡ G.Asks d → (d ≡ c) × (x ≡ 0) × (y ≡ 0) × (z ≡ 0)
-  pub not : r ≡ G.Not → x ≡ 0 → y ≡ 0 → z ≡ 0 → ⊥
+pub record BlankIs (x y z : ℕ) (c : Call) (r : Option Call) : Type 0 where
+  pub asks : (d : Call) → r ≡ Some d → (d ≡ c) × (x ≡ 0) × (y ≡ 0) × (z ≡ 0)
+  pub not : r ≡ None → x ≡ 0 → y ≡ 0 → z ≡ 0 → ⊥
 
 -- the words w stand in t from i on, and else t is s
 unfoldable pub Written : ℕ → List ℕ → List ℕ → List ℕ → Type 0

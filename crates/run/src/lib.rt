@@ -13,14 +13,8 @@ ghost use Rattle.run.specs.Run.{MustWait, Knows, RunClaim, RunKnown};
 
 use delay_queue::{Call, Heads};
 use queue::{Answer, ReplyParts};
+use refusals::Refusal;
 use wheel::Wheel;
-
-// What four words ask: a call, or nothing that is one.
-#[derive(Clone, Copy)]
-pub enum Group {
-    Asks(Call),
-    Not,
-}
 
 // An answer with elapsed and the poll in hand after it, and whether the store is sound then.
 #[derive(Clone, Copy)]
@@ -65,24 +59,19 @@ pub struct Ran {
 }
 
 // The call, where the words that it does not use are 0.
-fn if_blank(x: u64, y: u64, z: u64, call: Call) -> Group
+fn if_blank(x: u64, y: u64, z: u64, call: Call) -> Option<Call>
     ensures { BlankIs x y z call result }
 {
-    if x != 0 {
-        return Group::Not;
+    if x == 0 && y == 0 && z == 0 {
+        Some(call)
+    } else {
+        None
     }
-    if y != 0 {
-        return Group::Not;
-    }
-    if z != 0 {
-        return Group::Not;
-    }
-    Group::Asks(call)
 }
 
-// What four words ask: a kind, and the numbers of a call in the papers' order with 0 behind them. The kinds are those of the
+// What four words ask, if it is a call: a kind, and the numbers of a call in the papers' order with 0 behind them. The kinds are those of the
 // journal, and 12 and 13 for the calls that change nothing.
-pub fn call_of(kind: u64, a: u64, b: u64, c: u64) -> Group
+pub fn call_of(kind: u64, a: u64, b: u64, c: u64) -> Option<Call>
     ensures { GroupIs (kind ∷ a ∷ b ∷ c ∷ []) result }
 {
     match kind {
@@ -95,7 +84,7 @@ pub fn call_of(kind: u64, a: u64, b: u64, c: u64) -> Group
         11 => if_blank(0, 0, c, Call::PollSome(a, b)),
         12 => if_blank(a, b, c, Call::Wake),
         13 => if_blank(a, b, c, Call::Length),
-        _ => Group::Not,
+        _ => None,
     }
 }
 
@@ -116,41 +105,35 @@ pub fn command_of(call: Call) -> [u64; 4]
     }
 }
 
-// Six words from `at` on.
-fn write_words(to: &mut [u64], at: usize, n: u64, a: u64, b: u64, c: u64, d: u64, e: u64)
-    requires { at + 6 ≤ length to.old }
-    ensures { Written at (n ∷ a ∷ b ∷ c ∷ d ∷ e ∷ []) to.old to.new }
+// An answer as six words: its number, and its numbers in the papers' order, with 0 behind them.
+pub fn words_of(answer: Answer) -> [u64; 6]
+    ensures { result ≡ answer_words (told answer) }
 {
-    to[at] = n;
-    to[at + 1] = a;
-    to[at + 2] = b;
-    to[at + 3] = c;
-    to[at + 4] = d;
-    to[at + 5] = e;
+    match answer {
+        Answer::Done => [0, 0, 0, 0, 0, 0],
+        Answer::Key(key) => [1, key, 0, 0, 0, 0],
+        Answer::Gone(value, deadline) => [2, value, deadline, 0, 0, 0],
+        Answer::Out(key, value, deadline, moves, drains) => [
+            3, key, value, deadline, moves, drains,
+        ],
+        Answer::Last(key, value, deadline, moves, drains) => [
+            4, key, value, deadline, moves, drains,
+        ],
+        Answer::Nothing(moves, drains) => [5, moves, drains, 0, 0, 0],
+        Answer::Wake(time) => [6, time, 0, 0, 0, 0],
+        Answer::NoWake => [7, 0, 0, 0, 0, 0],
+        Answer::Length(n) => [8, n, 0, 0, 0, 0],
+        Answer::No(number) => [9, number, 0, 0, 0, 0],
+        Answer::NotYet(moves, drains) => [10, moves, drains, 0, 0, 0],
+    }
 }
 
-// An answer as six words: its number, and its numbers in the papers' order, with 0 behind them.
+// The words of an answer from `at` on.
 fn write_answer(to: &mut [u64], at: usize, answer: Answer)
     requires { at + 6 ≤ length to.old }
     ensures { Written at (answer_words (told answer)) to.old to.new }
 {
-    match answer {
-        Answer::Done => write_words(to, at, 0, 0, 0, 0, 0, 0),
-        Answer::Key(key) => write_words(to, at, 1, key, 0, 0, 0, 0),
-        Answer::Gone(value, deadline) => write_words(to, at, 2, value, deadline, 0, 0, 0),
-        Answer::Out(key, value, deadline, moves, drains) => write_words(
-            to, at, 3, key, value, deadline, moves, drains,
-        ),
-        Answer::Last(key, value, deadline, moves, drains) => write_words(
-            to, at, 4, key, value, deadline, moves, drains,
-        ),
-        Answer::Nothing(moves, drains) => write_words(to, at, 5, moves, drains, 0, 0, 0),
-        Answer::Wake(time) => write_words(to, at, 6, time, 0, 0, 0, 0),
-        Answer::NoWake => write_words(to, at, 7, 0, 0, 0, 0, 0),
-        Answer::Length(n) => write_words(to, at, 8, n, 0, 0, 0, 0),
-        Answer::No(number) => write_words(to, at, 9, number, 0, 0, 0, 0),
-        Answer::NotYet(moves, drains) => write_words(to, at, 10, moves, drains, 0, 0, 0),
-    }
+    to[at..at + 6].copy_from_slice(&words_of(answer));
 }
 
 // Format, of the parts.
@@ -174,10 +157,10 @@ fn formats(
         n turn result.answer (holding result.hand result.until
         (parts result.elapsed occupied.new tops.new heads.new values.new deadlines.new nexts.new prevs.new turns.new marks.new)) }
 {
-    let number = records::format_no(values, deadlines, nexts, prevs, turns, marks, n, turn);
-    if number != 0 {
+    let taken = records::format_no(values, deadlines, nexts, prevs, turns, marks, n, turn);
+    if let Err(refusal) = taken {
         return ReplyParts {
-            answer: Answer::No(number),
+            answer: Answer::No(refusal.number()),
             elapsed,
             hand,
             until,
@@ -202,13 +185,10 @@ fn must_wait(hand: u16, call: Call) -> bool
     if hand == links::NOBODY {
         return false;
     }
-    match call {
-        Call::Insert(_, _, _) => true,
-        Call::Reset(_, _) => true,
-        Call::Remove(_) => true,
-        Call::Wake => true,
-        _ => false,
-    }
+    matches!(
+        call,
+        Call::Insert(..) | Call::Reset(..) | Call::Remove(_) | Call::Wake
+    )
 }
 
 // Any call on a sound store, which stays sound.
@@ -235,7 +215,7 @@ fn on_sound(
 {
     if must_wait(hand, call) {
         return ReplyParts {
-            answer: Answer::No(refusals::POLL_IN_HAND),
+            answer: Answer::No(Refusal::PollInHand as u64),
             elapsed,
             hand,
             until,
@@ -339,10 +319,7 @@ fn on_sound(
 fn accepted(answer: Answer) -> bool
     ensures { result ≡ not (is_no (told answer)) }
 {
-    match answer {
-        Answer::No(_) => false,
-        _ => true,
-    }
+    !matches!(answer, Answer::No(_))
 }
 
 // Any call on a store of which it is known whether it is sound: it is not judged again, and known after it.
@@ -383,7 +360,7 @@ pub fn known(
         };
     }
     let Call::Format(n, turn) = call else {
-        let answer = Answer::No(refusals::NOT_SOUND);
+        let answer = Answer::No(Refusal::NotSound as u64);
         return KnownReply {
             answer,
             elapsed,
@@ -438,8 +415,7 @@ pub fn answer_all(
     let mut fine = sound;
     let many = commands.len() / 4;
     let room = answers.len() / 6;
-    let mut i: usize = 0;
-    while i < many {
+    for i in 0..many {
         let at = 4 * i;
         let group = call_of(
             commands[at],
@@ -447,7 +423,7 @@ pub fn answer_all(
             commands[at + 2],
             commands[at + 3],
         );
-        let Group::Asks(call) = group else {
+        let Some(call) = group else {
             return RanParts {
                 done: i,
                 why: Why::NoCommand,
@@ -467,8 +443,6 @@ pub fn answer_all(
                 sound: fine,
             };
         }
-        let to = 6 * i;
-        let next = i + 1;
         let said = known(
             fine, e, occupied, tops, heads, values, deadlines, nexts, prevs, turns, marks, h, u,
             call,
@@ -477,12 +451,10 @@ pub fn answer_all(
         h = said.hand;
         u = said.until;
         fine = said.sound;
-        let answer = said.answer;
-        write_answer(answers, to, answer);
-        i = next;
+        write_answer(answers, 6 * i, said.answer);
     }
     RanParts {
-        done: i,
+        done: many,
         why: Why::NoWords,
         elapsed: e,
         hand: h,

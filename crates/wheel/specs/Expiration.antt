@@ -1,14 +1,11 @@
 -- What next expiration and next wake say of the lists, and what they ask of the rows.
-use Rattle.std.specs.Prelude.{◌≡◌, ◌≢◌, false, List, [], ◌∷◌, ℕ, ◌^◌, ◌<◌, length}
+use Rattle.std.specs.Prelude.{◌≡◌, ◌≢◌, false, List, [], ◌∷◌, ℕ, ◌^◌, ◌<◌, length, Option, Some, None}
 use Rattle.times.specs.Times.{slot_of, NextBlock}
 use Rattle.row.specs.Row.{flag_at}
 use Rattle.links.specs.Lists.{nobody}
 use Rattle.links.specs.Links.{at}
 use Rattle.places.specs.Places.{slot_place, parking, expired, level_at, slot_at}
-use Rattle.wheel.specs.declared.Next.{Next}
-use Rattle.wheel.specs.declared.Next.TheVariants.{At, Nothing}
-use Rattle.wheel.specs.declared.Wake.{Wake}
-use Rattle.wheel.specs.declared.Wake.TheVariants.{At as Wake-as-At, Never}
+use Rattle.wheel.specs.declared.Expiration.{Expiration}
 use Rattle.wheel.specs.Wheel.{Lists, NextList, NoneWaits}
 use Rattle.wheel.specs.Occupied.{Occupied}
 use Rattle.wheel.specs.Limited.{start}
@@ -30,9 +27,9 @@ pub record Sees (d : ℕ → ℕ) (e : ℕ) (occ : List ℕ) (head : ℕ) (L : L
   pub block : head ≢ nobody → NextBlock e (d head)
 
 -- what a call finds: the next list with its start, or nothing. The parking list is told as slot 0 of level 6
-abbrev pub NextIs : ℕ → Lists → Next → Type 0
-NextIs e L Nothing = NoneWaits L
-NextIs e L (At x) = (x.slot < 64) × NextList e L x.level (slot_place x.level x.slot) x.deadline
+abbrev pub NextIs : ℕ → Lists → Option Expiration → Type 0
+NextIs e L None = NoneWaits L
+NextIs e L (Some x) = (x.slot < 64) × NextList e L x.level (slot_place x.level x.slot) x.deadline
 
 -- what a poll asks before it goes on: a look's, or that the start of the list in hand is a u64
 pub record CanGo (e : ℕ) (occ ds : List ℕ) (head hand : ℕ) : Type 0 where
@@ -40,17 +37,17 @@ pub record CanGo (e : ℕ) (occ ds : List ℕ) (head hand : ℕ) : Type 0 where
   pub held : hand ≢ nobody → (hand < expired) × (start e hand < 2 ^ 64)
 
 -- 02 [10]: the list whose drain is in hand, with its start
-abbrev pub HandIs : ℕ → ℕ → Next → Type 0
-HandIs e hand Nothing = ⊥
-HandIs e hand (At x) = (x.level ≡ level_at hand) × (x.slot ≡ slot_at hand) × (x.deadline ≡ start e hand)
+abbrev pub HandIs : ℕ → ℕ → Option Expiration → Type 0
+HandIs e hand None = ⊥
+HandIs e hand (Some x) = (x.level ≡ level_at hand) × (x.slot ≡ slot_at hand) × (x.deadline ≡ start e hand)
 
 -- where a poll goes on: with that list, and with none in hand at the next one
-pub record GoesTo (d : ℕ → ℕ) (e : ℕ) (occ : List ℕ) (head hand : ℕ) (r : Next) : Type 0 where
+pub record GoesTo (d : ℕ → ℕ) (e : ℕ) (occ : List ℕ) (head hand : ℕ) (r : Option Expiration) : Type 0 where
   pub free : hand ≡ nobody → (L : Lists) → Sees d e occ head L → NextIs e L r
   pub held : hand ≢ nobody → HandIs e hand r
 
 -- "Next wake is `poll_at`: nothing for an empty wheel, else the start of the first slot as above." 02 [12]: "A wake with only
 -- parked timers is the block start."
-abbrev pub WakeIs : ℕ → Lists → Wake → Type 0
-WakeIs e L Never = NoneWaits L
-WakeIs e L (Wake-as-At t) = (k : ℕ) × (p : ℕ) × NextList e L k p t
+abbrev pub WakeIs : ℕ → Lists → Option ℕ → Type 0
+WakeIs e L None = NoneWaits L
+WakeIs e L (Some t) = (k : ℕ) × (p : ℕ) × NextList e L k p t

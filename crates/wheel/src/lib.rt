@@ -40,12 +40,6 @@ pub struct Expiration {
     pub deadline: u64,
 }
 
-#[derive(Clone, Copy)]
-pub enum Next {
-    At(Expiration),
-    Nothing,
-}
-
 // The loose record `item`, with the deadline `when`, joins its slot of the level.
 fn add_entry(
     elapsed: u64,
@@ -163,51 +157,44 @@ pub fn remove(
 // The first occupied slot, from elapsed on, of the lowest non-empty level: its lowest one, since none that elapsed has
 // passed is occupied. Where no slot is, the parking list, of which `parking` is the head. It starts where its deadlines' block
 // does: read off one of them, that is a u64 in the last block too.
-pub fn next_expiration(elapsed: u64, occupied: &[u64; 6], deadlines: &[u64], parking: u16) -> Next
+pub fn next_expiration(
+    elapsed: u64,
+    occupied: &[u64; 6],
+    deadlines: &[u64],
+    parking: u16,
+) -> Option<Expiration>
     requires { CanLook elapsed occupied.now deadlines.now parking }
     ensures { (L : Lists) → Sees (at deadlines.now) elapsed occupied.now parking L → NextIs elapsed L result }
 {
-    let mut level: usize = 0;
-    while level < times::NUM_LEVELS {
+    for level in 0..times::NUM_LEVELS {
         let row = occupied[level];
         if row != 0 {
             let slot = row::first_slot(row);
             let deadline = times::slot_start(elapsed, level, slot);
-            return Next::At(Expiration {
+            return Some(Expiration {
                 level,
                 slot,
                 deadline,
             });
         }
-        level += 1;
     }
     if parking == links::NOBODY {
-        return Next::Nothing;
+        return None;
     }
-    Next::At(Expiration {
+    Some(Expiration {
         level: times::NUM_LEVELS,
         slot: 0,
         deadline: times::block_start(deadlines[parking as usize]),
     })
 }
 
-// When the wheel next has something to do.
-#[derive(Clone, Copy)]
-pub enum Wake {
-    At(u64),
-    Never,
-}
-
-// The start of what comes next, if anything does.
-pub fn poll_at(elapsed: u64, occupied: &[u64; 6], deadlines: &[u64], parking: u16) -> Wake
+// When the wheel next has something to do: the start of what comes next, if anything does.
+pub fn poll_at(elapsed: u64, occupied: &[u64; 6], deadlines: &[u64], parking: u16) -> Option<u64>
     requires { CanLook elapsed occupied.now deadlines.now parking }
     ensures { (L : Lists) → Sees (at deadlines.now) elapsed occupied.now parking L → WakeIs elapsed L result }
 {
-    let next = next_expiration(elapsed, occupied, deadlines, parking);
-    match next {
-        Next::At(expiration) => Wake::At(expiration.deadline),
-        Next::Nothing => Wake::Never,
-    }
+    let expiration = next_expiration(elapsed, occupied, deadlines, parking)?;
+    Some(expiration.deadline)
 }
 
 // The loose record `item` is placed at the deadline `when`, which lies in elapsed's block.
@@ -383,7 +370,13 @@ pub struct Polled {
 }
 
 // Where a poll goes on: with the list whose drain is in hand, and if there is none with the first one.
-fn next_list(elapsed: u64, occupied: &[u64; 6], deadlines: &[u64], parking: u16, hand: u16) -> Next
+fn next_list(
+    elapsed: u64,
+    occupied: &[u64; 6],
+    deadlines: &[u64],
+    parking: u16,
+    hand: u16,
+) -> Option<Expiration>
     requires { CanGo elapsed occupied.now deadlines.now parking hand }
     ensures { GoesTo (at deadlines.now) elapsed occupied.now parking hand result }
 {
@@ -393,7 +386,7 @@ fn next_list(elapsed: u64, occupied: &[u64; 6], deadlines: &[u64], parking: u16,
     let level = places::level_of(hand);
     let slot = places::slot_of(hand);
     let deadline = list_start(elapsed, hand);
-    Next::At(Expiration {
+    Some(Expiration {
         level,
         slot,
         deadline,
@@ -426,7 +419,7 @@ pub fn poll(
     let mut drains = 0u64;
     let item = loop {
         let next = next_list(e, occupied, deadlines, places::first_parked(tops), place);
-        let Next::At(expiration) = next else {
+        let Some(expiration) = next else {
             e = time;
             break links::NOBODY;
         };
@@ -475,18 +468,15 @@ pub fn is_whole(
     ensures { Tells (WheelWhole (words elapsed occupied.now tops.now heads.now nexts.now prevs.now marks.now)) result }
 {
     let mut left = places::count_of(tops);
-    let mut level: usize = 0;
-    while level < times::NUM_LEVELS {
-        let seen = places::walk_level(tops, heads, nexts, prevs, marks, level, left);
-        let walk = seen.walk;
-        let links::Walk::Left(l) = walk else {
+    for level in 0..times::NUM_LEVELS {
+        let walked = places::walk_level(tops, heads, nexts, prevs, marks, level, left);
+        let Some(seen) = walked else {
             return false;
         };
         if seen.filled != occupied[level] {
             return false;
         }
-        left = l;
-        level += 1;
+        left = seen.left;
     }
     places::walk_rest(tops, heads, nexts, prevs, marks, left)
 }

@@ -6,6 +6,6 @@ pub returns-then-k-j : goal.returns-then-k-j
 returns-then-k-j c =
     simp (eq-eqb _ _ c.if-k-j.true)
 
-pub returns : goal.returns
-returns c =
+pub returns-else-k-j : goal.returns-else-k-j
+returns-else-k-j c =
     simp (ne_eqb _ _ c.if-k-j.false)

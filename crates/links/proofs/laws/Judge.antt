@@ -12,8 +12,7 @@ use native.Mathlib.Numerals.{add-one}
 use lib.ListN.{length, length-append}
 use lib.Dec.{eqb, ltb, leb}
 use borrow.Author.Tests.{eq-eqb, ne_eqb, eqb-true, lt-ltb, le-ltb, ltb-true, le-leb, lt-leb, leb-true}
-use Rattle.links.specs.declared.Walk.{Walk}
-use Rattle.links.specs.declared.Walk.TheVariants.{Wrong, Left}
+use Rattle.std.specs.Prelude.{Option, Some, None, option_and_then}
 use Rattle.links.specs.Lists.{nobody, Mem, first_d, last_d}
 use Rattle.links.proofs.laws.Lists.{Nodup, mem_left, mem_right, mem_app, nodup_join}
 use Rattle.links.specs.Segments.{Seg}
@@ -25,7 +24,7 @@ use Rattle.links.proofs.laws.Count.{elem, cnt_ext, cnt_all, cnt_not, cnt_elem, m
 use Rattle.links.specs.Walk.{walk, lists}
 use Rattle.links.proofs.laws.Walk.{walk_is}
 use Rattle.links.specs.Links.{at}
-use Rattle.links.specs.Judge.{good, scan, scan_list, and_then, scan_all, is_loose, loose_in, leaves}
+use Rattle.links.specs.Judge.{good, scan, scan_list, scan_all, is_loose, loose_in, leaves}
 
 -- ---- one list
 
@@ -57,50 +56,50 @@ not_is : (b : Bool) → b ≢ true → b ≡ false
 not_is true q = absurd (q refl)
 not_is false q = refl
 
-pub wrong_left : {m : ℕ} → Wrong ≡ Left m → ⊥
+pub wrong_left : {m : ℕ} → None ≡ Some m → ⊥
 wrong_left e = let z : ◌≡◌ {A = ℕ} 0 1 = cc in omega arith
 
-pub left_inj : (m k : ℕ) → Left m ≡ Left k → m ≡ k
+pub left_inj : (m k : ℕ) → Some m ≡ Some k → m ≡ k
 left_inj m k e = cc
 
 -- a walk that goes on, and one that leaves just so much, was not wrong
-then_left : (w : Walk) (f : ℕ → Walk) (r : ℕ) → and_then w f ≡ Left r → (m : ℕ) × (w ≡ Left m) × (f m ≡ Left r)
-then_left Wrong f r e = absurd (wrong_left e)
-then_left (Left m) f r e = (m, refl, e)
+then_left : (w : Option ℕ) (f : ℕ → Option ℕ) (r : ℕ) → option_and_then f w ≡ Some r → (m : ℕ) × (w ≡ Some m) × (f m ≡ Some r)
+then_left None f r e = absurd (wrong_left e)
+then_left (Some m) f r e = (m, refl, e)
 
-leaves_is : (w : Walk) (c : ℕ) → leaves w c ≡ true → w ≡ Left c
-leaves_is Wrong c e = search
-leaves_is (Left m) c e = ap Left (eqb-true m c e)
+leaves_is : (w : Option ℕ) (c : ℕ) → leaves w c ≡ true → w ≡ Some c
+leaves_is None c e = search
+leaves_is (Some m) c e = ap Some (eqb-true m c e)
 
 -- ---- laws of a scan, in the code's words
 
 module _ (nx pv mk : ℕ → ℕ) (n tail : ℕ) where
-  pub scan_end : (p left prev h : ℕ) → h ≡ nobody → prev ≡ tail → scan nx pv mk n tail p left prev h ≡ Left left
+  pub scan_end : (p left prev h : ℕ) → h ≡ nobody → prev ≡ tail → scan nx pv mk n tail p left prev h ≡ Some left
   unfolding scan
   scan_end p zero prev h e f = rw (eq-eqb h nobody e, eq-eqb prev tail f)
   scan_end p (suc k) prev h e f = rw (eq-eqb h nobody e, eq-eqb prev tail f)
 
-  pub scan_tail : (p left prev h : ℕ) → h ≡ nobody → prev ≢ tail → scan nx pv mk n tail p left prev h ≡ Wrong
+  pub scan_tail : (p left prev h : ℕ) → h ≡ nobody → prev ≢ tail → scan nx pv mk n tail p left prev h ≡ None
   unfolding scan
   scan_tail p zero prev h e f = rw (eq-eqb h nobody e, ne_eqb prev tail f)
   scan_tail p (suc k) prev h e f = rw (eq-eqb h nobody e, ne_eqb prev tail f)
 
-  pub scan_full : (p left prev h : ℕ) → h ≢ nobody → left ≡ 0 → scan nx pv mk n tail p left prev h ≡ Wrong
+  pub scan_full : (p left prev h : ℕ) → h ≢ nobody → left ≡ 0 → scan nx pv mk n tail p left prev h ≡ None
   unfolding scan
   scan_full p left prev h d e = rw (e, ne_eqb h nobody d)
 
-  scan_bad : (p left prev h : ℕ) → h ≢ nobody → good nx pv mk n p prev h ≡ false → scan nx pv mk n tail p left prev h ≡ Wrong
+  scan_bad : (p left prev h : ℕ) → h ≢ nobody → good nx pv mk n p prev h ≡ false → scan nx pv mk n tail p left prev h ≡ None
   unfolding scan
   scan_bad p zero prev h d e = rw (ne_eqb h nobody d)
   scan_bad p (suc k) prev h d e = rw (ne_eqb h nobody d, e)
 
-  pub scan_far : (p left prev h : ℕ) → h ≢ nobody → n ≤ h → scan nx pv mk n tail p left prev h ≡ Wrong
+  pub scan_far : (p left prev h : ℕ) → h ≢ nobody → n ≤ h → scan nx pv mk n tail p left prev h ≡ None
   scan_far p left prev h d a = scan_bad p left prev h d (rw (le-ltb h n a))
 
-  pub scan_mark : (p left prev h : ℕ) → h ≢ nobody → mk h ≢ p → scan nx pv mk n tail p left prev h ≡ Wrong
+  pub scan_mark : (p left prev h : ℕ) → h ≢ nobody → mk h ≢ p → scan nx pv mk n tail p left prev h ≡ None
   scan_mark p left prev h d a = scan_bad p left prev h d (rw (ne_eqb (mk h) p a) (and_false (ltb h n)))
 
-  pub scan_prev : (p left prev h : ℕ) → h ≢ nobody → pv h ≢ prev → scan nx pv mk n tail p left prev h ≡ Wrong
+  pub scan_prev : (p left prev h : ℕ) → h ≢ nobody → pv h ≢ prev → scan nx pv mk n tail p left prev h ≡ None
   scan_prev p left prev h d a =
       scan_bad p left prev h d (rw (ne_eqb (pv h) prev a, and_false (eqb (mk h) p)) (and_false (ltb h n)))
 
@@ -144,18 +143,18 @@ module _ (s : Net) (n : ℕ) where
   step_down : (P p : ℕ) → p < P → P - p ≡ suc (P - (p + 1))
   step_down P p h = omega arith
 
-  pub all_go : (P p left m : ℕ) → p < P → scan_list s.nx s.pv s.mk n p left (s.hd p) ≡ Left m
+  pub all_go : (P p left m : ℕ) → p < P → scan_list s.nx s.pv s.mk n p left (s.hd p) ≡ Some m
       → scan_all s n (P - p) p left ≡ scan_all s n (P - (p + 1)) (p + 1) m
   unfolding scan_all
   all_go P p left m h e = rw (step_down P p h, add-one, e)
 
   -- a wrong list, and the end
-  pub all_wrong : (P p left : ℕ) → p < P → scan_list s.nx s.pv s.mk n p left (s.hd p) ≡ Wrong
-      → scan_all s n (P - p) p left ≡ Wrong
+  pub all_wrong : (P p left : ℕ) → p < P → scan_list s.nx s.pv s.mk n p left (s.hd p) ≡ None
+      → scan_all s n (P - p) p left ≡ None
   unfolding scan_all
   all_wrong P p left h e = rw (step_down P p h, e)
 
-  pub all_end : (P p left : ℕ) → P ≤ p → scan_all s n (P - p) p left ≡ Left left
+  pub all_end : (P p left : ℕ) → P ≤ p → scan_all s n (P - p) p left ≡ Some left
   unfolding scan_all
   all_end P p left h = let z : P - p ≡ 0 = omega arith in rw z
 
@@ -165,7 +164,7 @@ module _ (s : Net) (n tail : ℕ) where
   listed_none : (p prev h : ℕ) → h ≡ nobody → tail ≡ prev → Listed s n tail p prev h []
   listed_none p prev h e f = record { first = e; last = f; seg = tt; mems = λ i m. absurd m }
 
-  scan_none : (p left prev h r : ℕ) → scan s.nx s.pv s.mk n tail p left prev h ≡ Left r → h ≡ nobody
+  scan_none : (p left prev h r : ℕ) → scan s.nx s.pv s.mk n tail p left prev h ≡ Some r → h ≡ nobody
       → (l : List ℕ) × Listed s n tail p prev h l × (length l + r ≡ left)
   scan_none p left prev h r e q =
       by_cases (ℕ_discrete prev tail)
@@ -173,7 +172,7 @@ module _ (s : Net) (n tail : ℕ) where
       ([], listed_none p prev h q (sym f), omega (arith, left_inj left r (sym (scan_end s.nx s.pv s.mk n tail p left prev h q f) ∙ e))))
       (λ f. absurd (wrong_left (sym (scan_tail s.nx s.pv s.mk n tail p left prev h q f) ∙ e)))
 
-  scan_sound : (p left prev h r : ℕ) → scan s.nx s.pv s.mk n tail p left prev h ≡ Left r
+  scan_sound : (p left prev h r : ℕ) → scan s.nx s.pv s.mk n tail p left prev h ≡ Some r
       → (l : List ℕ) × Listed s n tail p prev h l × (length l + r ≡ left)
   scan_sound p zero prev h r e =
       by_cases (ℕ_discrete h nobody) (scan_none p 0 prev h r e)
@@ -198,7 +197,7 @@ module _ (s : Net) (n tail : ℕ) where
       (λ g. absurd (wrong_left (sym (scan_bad s.nx s.pv s.mk n tail p (suc k) prev h d (not_is _ g)) ∙ e))))
 
   scan_complete : n ≤ nobody → (l : List ℕ) (p prev h r : ℕ) → Listed s n tail p prev h l
-      → scan s.nx s.pv s.mk n tail p (length l + r) prev h ≡ Left r
+      → scan s.nx s.pv s.mk n tail p (length l + r) prev h ≡ Some r
   scan_complete hn [] p prev h r K = rw zero-add (scan_end s.nx s.pv s.mk n tail p r prev h K.first (sym K.last))
   scan_complete hn (x ∷ l) p prev h r K =
       let m = K.mems x (inl refl) in
@@ -264,7 +263,7 @@ module _ (s : Net) (n : ℕ) (hn : n ≤ nobody) where
   listed_read {tail} {p} {prev} {h} {l} K =
       walk_is s.nx s.pv prev l n h K.first K.seg (listed_some K) (length_below l n (listed_nodup K) (λ i m. (K.mems i m).0))
 
-  scan_lists : (p left r : ℕ) → scan_list s.nx s.pv s.mk n p left (s.hd p) ≡ Left r
+  scan_lists : (p left r : ℕ) → scan_list s.nx s.pv s.mk n p left (s.hd p) ≡ Some r
       → Lies s n p (lists s n p) × (length (lists s n p) + r ≡ left)
   unfolding lists
   scan_lists p left r e =
@@ -272,7 +271,7 @@ module _ (s : Net) (n : ℕ) (hn : n ≤ nobody) where
       let w : walk s.nx n (s.hd p) ≡ t.0 = listed_read t.1 in
       (rw w t.1, rw w t.2)
 
-  all_sound : (k p left r : ℕ) → scan_all s n k p left ≡ Left r
+  all_sound : (k p left r : ℕ) → scan_all s n k p left ≡ Some r
       → ((q : ℕ) → p ≤ q → q < p + k → Lies s n q (lists s n q)) × (length (cat (lists s n) k p) + r ≡ left)
   unfolding scan_all cat
   all_sound zero p left r e = (λ q a b. absurd (omega arith), omega (arith, left_inj left r e))
@@ -284,7 +283,7 @@ module _ (s : Net) (n : ℕ) (hn : n ≤ nobody) where
         omega (arith, length-append (lists s n p) (cat (lists s n) k (suc p))),
       )
 
-  all_complete : (L : ℕ → List ℕ) (k p r : ℕ) → ((q : ℕ) → Lies s n q (L q)) → scan_all s n k p (length (cat L k p) + r) ≡ Left r
+  all_complete : (L : ℕ → List ℕ) (k p r : ℕ) → ((q : ℕ) → Lies s n q (L q)) → scan_all s n k p (length (cat L k p) + r) ≡ Some r
   unfolding scan_all cat
   all_complete L zero p r K = rw zero-add
   all_complete L (suc k) p r K =
@@ -323,7 +322,7 @@ module _ (s : Net) (n : ℕ) (hn : n ≤ nobody) where
   -- a number that is no place has no head
   module _ (P : ℕ) (few : P ≤ nobody) (past : (p : ℕ) → P ≤ p → s.hd p ≡ nobody) where
     module _ (pass : judge s P n ≡ true) where
-      scanned : scan_all s n P 0 n ≡ Left (loose_in P s.nx s.pv s.mk n)
+      scanned : scan_all s n P 0 n ≡ Some (loose_in P s.nx s.pv s.mk n)
       unfolding judge
       scanned = leaves_is (scan_all s n P 0 n) (loose_in P s.nx s.pv s.mk n) pass
 
@@ -416,7 +415,7 @@ module _ (s : Net) (n : ℕ) (hn : n ≤ nobody) where
         let k : ℕ = loose_in P s.nx s.pv s.mk n in
         let total : length c + k ≡ n
         = omega (arith, cnt_elem c n all_nodup all_below, cnt_ext (λ i. elem i c) (held P) n same_test, held_rest P) in
-        let w : scan_all s n P 0 n ≡ Left k
+        let w : scan_all s n P 0 n ≡ Some k
         = ap (scan_all s n P 0) (sym total)
         ∙ all_complete L P 0 k fam_lies in
         rw w (eq-eqb k k refl)

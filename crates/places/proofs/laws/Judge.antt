@@ -9,8 +9,8 @@ use borrow.Author.Tests.{eq-eqb, ne_eqb}
 use Rattle.row.specs.Row.{flag_at, row_of, flagged}
 use Rattle.row.proofs.laws.Built.{HasBelow, row_begun, row_taken, row_passed, row_done}
 use Rattle.links.specs.Lists.{nobody}
-use Rattle.links.specs.declared.Walk.{Walk}
-use Rattle.links.specs.declared.Walk.TheVariants.{Wrong, Left}
+use Rattle.std.specs.Prelude.{Option, Some, None}
+use Rattle.std.proofs.lemmas.Option.{none-some}
 use Rattle.links.specs.Links.{at, net}
 use Rattle.links.specs.Judge.{scan_list, loose_of, leaves}
 use Rattle.links.proofs.laws.Judge.{judge, scan_end, wrong_left, left_inj, all_go, all_wrong, all_end}
@@ -19,32 +19,33 @@ use Rattle.places.specs.Heads.{slot_head}
 use Rattle.places.proofs.laws.Heads.{slot_head_lem}
 use Rattle.places.specs.Words.{PlaceWords, head_at, count}
 use Rattle.places.proofs.laws.Words.{judged}
+use Rattle.places.specs.declared.Level.{Level}
 use Rattle.places.specs.Judge.{from, held, WalksLevel, rest}
 
 -- the walk of one list
-abbrev pub walked : PlaceWords → ℕ → ℕ → ℕ → Walk
+abbrev pub walked : PlaceWords → ℕ → ℕ → ℕ → Option ℕ
 walked t p left h = scan_list (at t.links.nexts) (at t.links.prevs) (at t.links.marks) (count t) p left h
 
 -- ---- place by place
 
 module _ (t : PlaceWords) (p left : ℕ) where
-  module _ (h : ℕ) (w : Walk) (hp : p < places) (e : h ≡ head_at t p) (f : w ≡ walked t p left h) where
+  module _ (h : ℕ) (w : Option ℕ) (hp : p < places) (e : h ≡ head_at t p) (f : w ≡ walked t p left h) where
     here : walked t p left (head_at t p) ≡ w
     here = ap (walked t p left) (sym e) ∙ sym f
 
-    pub judge_go : (m : ℕ) → w ≡ Left m → from t p left ≡ from t (p + 1) m
+    pub judge_go : (m : ℕ) → w ≡ Some m → from t p left ≡ from t (p + 1) m
     unfolding from
     judge_go m k = all_go (net (head_at t) t.links) (count t) places p left m hp (here ∙ k)
 
-    pub judge_wrong : w ≡ Wrong → from t p left ≡ Wrong
+    pub judge_wrong : w ≡ None → from t p left ≡ None
     unfolding from
     judge_wrong k = all_wrong (net (head_at t) t.links) (count t) places p left hp (here ∙ k)
 
   -- a place with no head
   pub judge_none : p < places → head_at t p ≡ nobody → from t p left ≡ from t (p + 1) left
-  judge_none hp z = judge_go (head_at t p) (Left left) hp refl (sym (scan_end _ _ _ (count t) _ p left _ (head_at t p) z refl)) left refl
+  judge_none hp z = judge_go (head_at t p) (Some left) hp refl (sym (scan_end _ _ _ (count t) _ p left _ (head_at t p) z refl)) left refl
 
-  pub judge_end : places ≤ p → from t p left ≡ Left left
+  pub judge_end : places ≤ p → from t p left ≡ Some left
   unfolding from
   judge_end hp = all_end (net (head_at t) t.links) (count t) places p left hp
 
@@ -75,11 +76,11 @@ module _ (t : PlaceWords) (k : ℕ) (hk : k < 6) where
           has = row_passed S.has (ap not (eq-eqb (slot_head t.heads k s) nobody z));
         }
 
-    module _ {w : Walk} {p : ℕ} (ep : p ≡ slot_place k s) (g : w ≡ walked t p left (slot_head t.heads k s)) where
+    module _ {w : Option ℕ} {p : ℕ} (ep : p ≡ slot_place k s) (g : w ≡ walked t p left (slot_head t.heads k s)) where
       f : w ≡ walked t (slot_place k s) left (slot_head t.heads k s)
       f = g ∙ ap (λ q. walked t q left (slot_head t.heads k s)) ep
 
-      pub level_taken : slot_head t.heads k s ≢ nobody → (m : ℕ) → w ≡ Left m → {y : ℕ} → y ≡ row_of (flagged (flag_at x) s true)
+      pub level_taken : slot_head t.heads k s ≢ nobody → (m : ℕ) → w ≡ Some m → {y : ℕ} → y ≡ row_of (flagged (flag_at x) s true)
           → WalkedSo t k left₀ (s + 1) m y
       level_taken d m e ey =
           record {
@@ -91,27 +92,28 @@ module _ (t : PlaceWords) (k : ℕ) (hk : k < 6) where
                 (row_taken S.has hs (ap not (ne_eqb (slot_head t.heads k s) nobody d)));
           }
 
-      pub level_wrong : w ≡ Wrong → WalksLevel t k left₀ w x
+      pub level_wrong : w ≡ None → WalksLevel t k left₀ None
       level_wrong e =
           record {
             wrong = λ _. S.goes ∙ judge_wrong t (slot_place k s) left (slot_head t.heads k s) w (omega arith) head_here f e;
-            goes = λ m z. absurd (wrong_left (sym e ∙ z));
-            filled = λ m z. absurd (wrong_left (sym e ∙ z));
+            goes = λ l z. absurd (none-some l z);
+            filled = λ l z. absurd (none-some l z);
           }
 
-  pub level_done : {left₀ s left x : ℕ} → WalkedSo t k left₀ s left x → 64 ≤ s → WalksLevel t k left₀ (Left left) x
-  level_done {left₀} {s} {left} S h =
+  pub level_done : {left₀ s left x : ℕ} → WalkedSo t k left₀ s left x → 64 ≤ s
+      → WalksLevel t k left₀ (Some (record { left = left; filled = x }))
+  level_done {left₀} {s} {left} {x} S h =
       let e : slot_place k s ≡ slot_place (k + 1) 0 = omega arith in
       record {
-        wrong = λ z. absurd (wrong_left (sym z));
-        goes = λ m z. S.goes ∙ ap (λ p. from t p left) e ∙ ap (from t (slot_place (k + 1) 0)) (left_inj left m z);
-        filled = λ m z. row_done S.has h;
+        wrong = λ z. absurd (none-some _ (sym z));
+        goes = λ l z. S.goes ∙ ap (λ p. from t p left) e ∙ ap (from t (slot_place (k + 1) 0)) cc;
+        filled = λ l z. let f : l.filled ≡ x = cc in f ∙ row_done S.has h;
       }
 
 -- ---- the three that are no slots
 
 module _ (t : PlaceWords) (left₀ : ℕ) where
-  pub rest_wrong : (p left : ℕ) → from t slots left₀ ≡ from t p left → from t p left ≡ Wrong → false ≡ rest t left₀
+  pub rest_wrong : (p left : ℕ) → from t slots left₀ ≡ from t p left → from t p left ≡ None → false ≡ rest t left₀
   unfolding rest
   rest_wrong p left g e = rw (g, e)
 
@@ -126,6 +128,6 @@ pub rest_judged : (t : PlaceWords) (left : ℕ) → from t 0 (count t) ≡ from 
 unfolding rest judged from judge
 rest_judged t left g = ap (λ w. leaves w (loose_of places t.links (count t))) (sym g)
 
-pub level_judged : (t : PlaceWords) → from t 0 (count t) ≡ Wrong → judged t ≡ false
+pub level_judged : (t : PlaceWords) → from t 0 (count t) ≡ None → judged t ≡ false
 unfolding judged from judge
 level_judged t e = ap (λ w. leaves w (loose_of places t.links (count t))) e

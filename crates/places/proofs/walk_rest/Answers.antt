@@ -16,7 +16,7 @@ returns-in_default c =
 
 pub loop-place-preserved : goal.loop-place-preserved
 loop-place-preserved c =
-    let e = judge_go _ _ _ _ _ c.loop-place-test.true c.head_of-head.ensures c.walk_list.ensures _ c.in-Left.is in
+    let e = judge_go _ _ _ _ _ c.loop-place-test.true c.head_of-head.ensures c.walk_list.ensures _ c.in-Some.is in
     (omega arith, c.loop-place.invariant.1 ∙ e)
 
 pub returns : goal.returns

@@ -6,15 +6,14 @@ use Rattle.queue.proofs.clear.Goals as goal
 
 pub loop-i-init : goal.loop-i-init
 loop-i-init c =
-    (omega arith, c.count_of-n.ensures, clear_none c.requires)
+    (c.count_of-n.ensures, clear_none c.requires)
 
 pub loop-i-preserved : goal.loop-i-preserved
 loop-i-preserved c = (
-  omega arith,
-  c.loop-i.invariant.1,
-  clear_step c.loop-i.invariant.2 (search rules) c.clear_one.ensures,
+  c.loop-i.invariant.0,
+  clear_step c.loop-i.invariant.1 (search rules) c.clear_one.ensures,
 )
 
 pub returns : goal.returns
 returns c =
-    λ h u. clear_done c.loop-i.invariant.2 (omega arith) h u
+    λ h u. clear_done c.loop-i.invariant.1 (omega arith) h u

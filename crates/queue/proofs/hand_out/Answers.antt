@@ -41,11 +41,11 @@ returns-in_default c =
 pub place-requires : goal.place-requires
 place-requires c =
     out_places c.requires.sound_but c.requires.loose_at
-    (again_at _ c.period_of-period.ensures c.next_time-next.ensures _ c.in-At.is)
+    (again_at _ c.period_of-period.ensures c.next_time-next.ensures _ c.in-Some.is)
 
 pub returns : goal.returns
 returns c =
     rw c.value_of-value.ensures
     (out_again c.requires.sound_but c.requires.loose_at _ _ c.key_of-key.ensures (λ z. c.if-period-eq0.false (c.period_of-period.ensures ∙ z))
-    (again_at _ c.period_of-period.ensures c.next_time-next.ensures _ c.in-At.is)
+    (again_at _ c.period_of-period.ensures c.next_time-next.ensures _ c.in-Some.is)
     c.place.ensures)

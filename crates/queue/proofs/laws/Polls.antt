@@ -25,8 +25,7 @@ use Rattle.wheel.proofs.laws.Sums.{mem_change, mem_left, total_zero, total_scale
 use Rattle.wheel.proofs.laws.Between.{rule_less}
 use Rattle.wheel.proofs.laws.Poll.{given}
 use Rattle.wheel.proofs.laws.Passed.{given_by, Passed, polled_passed, passed_on}
-use Rattle.wheel.specs.declared.Wake.{Wake}
-use Rattle.wheel.specs.declared.Wake.TheVariants.{At as Wake-as-At, Never}
+use Rattle.std.specs.Prelude.{Option as Maybe, Some, None}
 use Rattle.wheel.specs.Expiration.{WakeIs}
 use Rattle.wheel.specs.Words.{WheelWords, wheel_words, Becomes, LooseIn, Pops, CanLeave, Leaves, lists as listsIn}
 use Rattle.wheel.specs.Moves.{CanPoll, PollsTo, gotten, outcome}
@@ -337,11 +336,11 @@ module _ {e h g : ℕ} {occ ds : List ℕ} (v : View) (S : Shows e occ ds h g v)
   wake_now d = rw (← S.elapsed) (at_once (S.first d).1)
 
   -- none has, and the wheel answers
-  module _ (z : h ≡ nobody) {r : Wake} (W : WakeIs e v.lists r) where
-    pub wake_never : r ≡ Never → NextWake v never
+  module _ (z : h ≡ nobody) {r : Maybe ℕ} (W : WakeIs e v.lists r) where
+    pub wake_never : r ≡ None → NextWake v never
     wake_never q = from_wheel (S.empty z) (sleeps (rw q at W))
 
-    pub wake_at : {t : ℕ} → r ≡ Wake-as-At t → NextWake v (wake t)
+    pub wake_at : {t : ℕ} → r ≡ Some t → NextWake v (wake t)
     wake_at {t} q =
         let x = rw (q, ← S.elapsed) at W in
         from_wheel (S.empty z) (starts x.2)

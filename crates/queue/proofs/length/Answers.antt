@@ -9,17 +9,17 @@ use Rattle.queue.proofs.length.Goals.{else-is_pending, then-is_pending}
 
 pub loop-i-init : goal.loop-i-init
 loop-i-init c =
-    (omega arith, omega arith, sym (pending_zero _))
+    (omega arith, sym (pending_zero _))
 
 pub loop-i-preserved : goal.loop-i-preserved
 loop-i-preserved c =
     let e = sym c.is_pending.ensures in
     elim c.if-is_pending.branch [
-      | then-is_pending w ↦ (omega arith, omega arith, w.count-is ∙ ap (λ (x : ℕ). x + 1) c.loop-i.invariant.2 ∙ sym (pending_more _ _ (e ∙ w.if-is_pending.true)))
-      | else-is_pending w ↦ (omega arith, omega arith, w.count-is ∙ c.loop-i.invariant.2 ∙ sym (pending_same _ _ (e ∙ w.if-is_pending.false)))
+      | then-is_pending w ↦ (omega arith, w.count-is ∙ ap (λ (x : ℕ). x + 1) c.loop-i.invariant.1 ∙ sym (pending_more _ _ (e ∙ w.if-is_pending.true)))
+      | else-is_pending w ↦ (omega arith, w.count-is ∙ c.loop-i.invariant.1 ∙ sym (pending_same _ _ (e ∙ w.if-is_pending.false)))
     ]
 
 pub returns : goal.returns
 returns c =
     let e : c.loop-i.i ≡ c.args.n = omega arith in
-    c.loop-i.invariant.2 ∙ ap (pending_in _) e
+    c.loop-i.invariant.1 ∙ ap (pending_in _) e

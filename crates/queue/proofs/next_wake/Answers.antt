@@ -6,10 +6,10 @@ pub returns-then-expired-ne-NOBODY : goal.returns-then-expired-ne-NOBODY
 returns-then-expired-ne-NOBODY c =
     λ v S. wake_now v S c.if-expired-ne-NOBODY.true
 
-pub returns-in-At : goal.returns-in-At
-returns-in-At c =
-    λ v S. wake_at v S c.if-expired-ne-NOBODY.false (c.poll_at-wake.ensures v.lists S.wheel) c.in-At.is
+pub returns-in-Some : goal.returns-in-Some
+returns-in-Some c =
+    λ v S. wake_at v S c.if-expired-ne-NOBODY.false (c.poll_at.ensures v.lists S.wheel) c.in-Some.is
 
-pub returns-in-Never : goal.returns-in-Never
-returns-in-Never c =
-    λ v S. wake_never v S c.if-expired-ne-NOBODY.false (c.poll_at-wake.ensures v.lists S.wheel) c.in-Never.is
+pub returns-in-None : goal.returns-in-None
+returns-in-None c =
+    λ v S. wake_never v S c.if-expired-ne-NOBODY.false (c.poll_at.ensures v.lists S.wheel) c.in-None.is

@@ -16,25 +16,25 @@ returns-in_default c =
 pub value_of-value-requires : goal.value_of-value-requires
 value_of-value-requires c =
     (found_words c.requires refl _ 0
-    (find_at c.count_of.ensures c.find-found.ensures _ c.in-At.is)).0
+    (find_at c.count_of.ensures c.find-found.ensures _ c.in-Some.is)).0
 
 pub bounds-deadlines-item : goal.bounds-deadlines-item
 bounds-deadlines-item c =
     (found_words c.requires refl _ 0
-    (find_at c.count_of.ensures c.find-found.ensures _ c.in-At.is)).1
+    (find_at c.count_of.ensures c.find-found.ensures _ c.in-Some.is)).1
 
 pub remove-requires : goal.remove-requires
 remove-requires c =
     found_leaves c.requires refl _ 0
-    (find_at c.count_of.ensures c.find-found.ensures _ c.in-At.is)
+    (find_at c.count_of.ensures c.find-found.ensures _ c.in-Some.is)
 
 pub leave-requires : goal.leave-requires
 leave-requires c =
     remove_frees c.requires refl _ 0
-    (find_at c.count_of.ensures c.find-found.ensures _ c.in-At.is) c.remove.ensures
+    (find_at c.count_of.ensures c.find-found.ensures _ c.in-Some.is) c.remove.ensures
 
 pub returns : goal.returns
 returns c =
     remove_done c.requires refl _ 0
-    (find_at c.count_of.ensures c.find-found.ensures _ c.in-At.is)
+    (find_at c.count_of.ensures c.find-found.ensures _ c.in-Some.is)
     c.remove.ensures _ _ c.value_of-value.ensures refl c.leave.ensures

@@ -4,8 +4,7 @@ use mathlib.Core.Logic.{◌≢◌, inl, inr, ⊎_elim, by_cases}
 use Prim.Native.Nat.{ℕ, ◌+◌, ◌^◌, ◌<◌}
 use native.Mathlib.Decide.{dec_lt}
 use native.Mathlib.Omega.{arith}
-use Rattle.records.specs.declared.Again.{Again}
-use Rattle.records.specs.declared.Again.TheVariants as G
+use Rattle.std.specs.Prelude.{Option, Some, None}
 use Rattle.records.specs.Records.{Near, NoMore}
 use Rattle.records.specs.Found.{AheadNo, AgainIs}
 use Rattle.records.proofs.laws.Cases.{by_ahead}
@@ -34,9 +33,9 @@ module _ {e w : ℕ} where
   again_near f = by_ahead e w (λ x. absurd (f (inr x))) (λ n. n)
 
 -- by the answer's case, a period q, which is p, after d
-module _ {e : ℕ} (d : ℕ) {p q : ℕ} (is : q ≡ p) {r : Again} (A : AgainIs e (d + q) r) where
-  pub again_never : r ≡ G.Never → NoMore e (d + p)
+module _ {e : ℕ} (d : ℕ) {p q : ℕ} (is : q ≡ p) {r : Option ℕ} (A : AgainIs e (d + q) r) where
+  pub again_never : r ≡ None → NoMore e (d + p)
   again_never z = subst (λ y. NoMore e (d + y)) is (subst (AgainIs e (d + q)) z A)
 
-  pub again_at : (t : ℕ) → r ≡ G.At t → (t ≡ d + p) × (NoMore e (d + p) → ⊥)
+  pub again_at : (t : ℕ) → r ≡ Some t → (t ≡ d + p) × (NoMore e (d + p) → ⊥)
   again_at t z = subst (λ y. (t ≡ d + y) × (NoMore e (d + y) → ⊥)) is (subst (AgainIs e (d + q)) z A)

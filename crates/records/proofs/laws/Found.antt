@@ -12,8 +12,7 @@ use Rattle.links.specs.Links.{at}
 use Rattle.places.specs.Places.{free}
 use Rattle.places.proofs.laws.Asked.{not_below, is_below}
 use Rattle.places.proofs.laws.Whole as place_laws
-use Rattle.records.specs.declared.Found.{Found}
-use Rattle.records.specs.declared.Found.TheVariants as F
+use Rattle.std.specs.Prelude.{Option, Some, None}
 use Rattle.records.specs.Records.{turn_in, number_in, Names, TooOld}
 use Rattle.records.specs.Words.{QueueWords, count, mark_of, view, Sound}
 use Rattle.records.specs.Found.{AheadNo, DeadlineNo, KeyIs, FindIs}
@@ -87,8 +86,8 @@ module _ {n : ℕ} {ts ms : List ℕ} {key : ℕ} where
     found l f h g k = record { number = e; below = l; pending = is_below f h; turn = k ∙ g }
 
   -- by the answer's case, found among m, which is n
-  pub find_at : {m : ℕ} {r : Found} → m ≡ n → FindIs m ts ms key r → (i : ℕ) → r ≡ F.At i → KeyIs n ts ms key i
+  pub find_at : {m : ℕ} {r : Option ℕ} → m ≡ n → FindIs m ts ms key r → (i : ℕ) → r ≡ Some i → KeyIs n ts ms key i
   find_at {m} q G i e = subst (λ k. KeyIs k ts ms key i) q (subst (FindIs m ts ms key) e G)
 
-  pub find_nowhere : {m : ℕ} {r : Found} → m ≡ n → FindIs m ts ms key r → r ≡ F.Nowhere → (i : ℕ) → KeyIs n ts ms key i → ⊥
+  pub find_nowhere : {m : ℕ} {r : Option ℕ} → m ≡ n → FindIs m ts ms key r → r ≡ None → (i : ℕ) → KeyIs n ts ms key i → ⊥
   find_nowhere {m} q G e = subst (λ k. (i : ℕ) → KeyIs k ts ms key i → ⊥) q (subst (FindIs m ts ms key) e G)

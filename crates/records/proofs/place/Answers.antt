@@ -20,4 +20,4 @@ push-requires c =
 
 pub returns : goal.returns
 returns c =
-    placed_aside c.requires _ _ c.aside-list.ensures.0 c.raised.ensures c.push.ensures
+    placed_aside c.requires _ _ c.aside-list.ensures.0 c.max.ensures c.push.ensures

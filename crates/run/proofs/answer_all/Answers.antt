@@ -1,7 +1,9 @@
 -- `answer_all` meets its claim: every step answers one command more (`answered_more`), and it stops for one of three reasons (`stops_short` ..).
 use borrow.Author.Rules.{rules}
 use native.Mathlib.Omega.{arith}
-use mathlib.Core.Path.{refl}
+use mathlib.Core.Path.{◌≡◌, sym}
+use Prim.Native.Nat.{◌/◌}
+use lib.ListN.{length}
 use Rattle.run.proofs.laws.Run.{answered_none, answered_more, stops_short, stops_there, stops_full}
 use Rattle.run.proofs.answer_all.Goals as goal
 
@@ -18,18 +20,10 @@ pub returns-then-room-i : goal.returns-then-room-i
 returns-then-room-i c =
     let I = c.loop-i.invariant in
     record {
-      run = stops_full I.0 (omega (arith, c.loop-i-test.true)) c.call_of-group.ensures c.in-Asks.is
+      run = stops_full I.0 (omega (arith, c.loop-i-test.true)) c.call_of-group.ensures c.in-Some.is
           (omega (arith, c.if-room-i.true));
       tells = I.1;
     }
-
-pub overflow_mul-to : goal.overflow_mul-to
-overflow_mul-to c =
-    search rules
-
-pub overflow_add-next : goal.overflow_add-next
-overflow_add-next c =
-    search rules
 
 pub known-said-requires : goal.known-said-requires
 known-said-requires c =
@@ -45,7 +39,7 @@ loop-i-smaller c =
 
 pub loop-i-preserved : goal.loop-i-preserved
 loop-i-preserved c = (
-  answered_more c.loop-i.invariant.0 (omega (arith, c.loop-i-test.true)) c.call_of-group.ensures c.in-Asks.is c.known-said.ensures
+  answered_more c.loop-i.invariant.0 (omega (arith, c.loop-i-test.true)) c.call_of-group.ensures c.in-Some.is c.known-said.ensures
       c.write_answer.ensures (omega (arith, c.if-room-i.false, c.loop-i.auto.answers)),
   c.known-said.ensures.tells,
 )
@@ -53,4 +47,5 @@ loop-i-preserved c = (
 pub returns : goal.returns
 returns c =
     let I = c.loop-i.invariant in
-    record { run = stops_short I.0 refl (omega (arith, c.loop-i-test.false)); tells = I.1 }
+    let e : length c.args.commands.now / 4 ≡ c.loop-i.i = omega (arith, c.loop-i-test.false) in
+    rw e (record { run = stops_short I.0 (sym e) (omega arith); tells = I.1 })

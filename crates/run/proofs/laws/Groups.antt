@@ -12,8 +12,7 @@ use Rattle.queue.specs.Told.{Told, told}
 use Rattle.queue.specs.Told as T
 use Rattle.delay_queue.specs.declared.Call.{Call}
 use Rattle.delay_queue.specs.declared.Call.TheVariants as C
-use Rattle.run.specs.declared.Group.{Group}
-use Rattle.run.specs.declared.Group.TheVariants as G
+use Rattle.std.specs.Prelude.{Option, Some, None}
 use Rattle.run.specs.Groups.{command_words, answer_words, GroupIs, BlankIs, Written}
 
 -- ---- which call four words are, if they are one
@@ -100,23 +99,23 @@ by_words e = ap command_words (sym e)
 
 -- ---- `if_blank`
 
-not_asks : {P : Type 0} {c : Call} → G.Not ≡ G.Asks c → P
+not_asks : {P : Type 0} {c : Call} → None ≡ Some c → P
 not_asks e = let z : ◌≡◌ {A = ℕ} 0 1 = cc in absurd (omega arith)
 
-asks_not : {P : Type 0} {c : Call} → G.Asks c ≡ G.Not → P
+asks_not : {P : Type 0} {c : Call} → Some c ≡ None → P
 asks_not e = let z : ◌≡◌ {A = ℕ} 0 1 = cc in absurd (omega arith)
 
 module _ {x y z : ℕ} {c : Call} where
-  pub blank_no : (x ≡ 0 → y ≡ 0 → z ≡ 0 → ⊥) → BlankIs x y z c G.Not
+  pub blank_no : (x ≡ 0 → y ≡ 0 → z ≡ 0 → ⊥) → BlankIs x y z c None
   blank_no f = record { asks = λ d e. not_asks e; not = λ e. f }
 
-  pub blank_yes : x ≡ 0 → y ≡ 0 → z ≡ 0 → BlankIs x y z c (G.Asks c)
+  pub blank_yes : x ≡ 0 → y ≡ 0 → z ≡ 0 → BlankIs x y z c (Some c)
   blank_yes p q r = record { asks = λ d e. (let i : c ≡ d = cc in sym i, p, q, r); not = λ e. asks_not e }
 
 -- ---- the arms of `call_of`
 
 -- the words g are of the kind of d; they are d's just where x, y and z are 0
-arm : {g : List ℕ} {x y z : ℕ} {r : Group} (d : Call) → back g ≡ d → (x ≡ 0 → y ≡ 0 → z ≡ 0 → g ≡ command_words d)
+arm : {g : List ℕ} {x y z : ℕ} {r : Option Call} (d : Call) → back g ≡ d → (x ≡ 0 → y ≡ 0 → z ≡ 0 → g ≡ command_words d)
     → (g ≡ command_words d → (x ≡ 0) × (y ≡ 0) × (z ≡ 0)) → BlankIs x y z d r → GroupIs g r
 arm {g} d i f h B =
     record {
@@ -131,7 +130,7 @@ arm {g} d i f h B =
 abbrev word : {l m : List ℕ} (i : ℕ) → l ≡ m → get_or l i 0 ≡ get_or m i 0
 word i e = ap (λ (l : List ℕ). get_or l i 0) e
 
-module _ {k a b c : ℕ} {r : Group} where
+module _ {k a b c : ℕ} {r : Option Call} where
   pub is_format_lem : k ≡ 1 → BlankIs 0 0 c (C.Format a b) r → GroupIs (k ∷ a ∷ b ∷ c ∷ []) r
   is_format_lem e B = arm (C.Format a b) (ap (λ j. call_in j a b c) e) (λ x y z. λ i. e i ∷ a ∷ b ∷ z i ∷ []) (λ w. (refl, refl, word 3 w)) B
 
@@ -175,7 +174,7 @@ none_such n (C.PollSome now limit) e = n.0.0.1 (word 0 e)
 none_such n C.Wake e = n.0.1 (word 0 e)
 none_such n C.Length e = n.1 (word 0 e)
 
-pub is_nothing : {k a b c : ℕ} → NoKind k → GroupIs (k ∷ a ∷ b ∷ c ∷ []) G.Not
+pub is_nothing : {k a b c : ℕ} → NoKind k → GroupIs (k ∷ a ∷ b ∷ c ∷ []) None
 is_nothing n = record { asks = λ d e. not_asks e; not = λ e. none_such n }
 
 -- ---- six words are written

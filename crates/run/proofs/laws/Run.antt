@@ -14,8 +14,7 @@ use Rattle.records.proofs.laws.Lent.{place_words_of, stacked_same}
 use Rattle.delay_queue.specs.declared.Call.{Call}
 use Rattle.delay_queue.specs.Claims.{CallClaim}
 use Rattle.promises.specs.Runs.{Asked, Runs, rest, next}
-use Rattle.run.specs.declared.Group.{Group}
-use Rattle.run.specs.declared.Group.TheVariants as G
+use Rattle.std.specs.Prelude.{Option, Some, None}
 use Rattle.run.specs.declared.Why.{Why}
 use Rattle.run.specs.declared.Why.TheVariants as W
 use Rattle.run.specs.Groups.{command_words, answer_words, GroupIs, Written}
@@ -118,8 +117,8 @@ module _ {s t : QueueWords} {cs out out₁ : List ℕ} {i : ℕ} (A : CommandsDo
       }
 
   -- as the loop knows it
-  pub answered_more : {u : QueueWords} {out₂ : List ℕ} {c : Call} {a : Answer} {b : Bool} {r : Group} → 4 * i + 4 ≤ length cs
-      → GroupIs (four_at cs (4 * i)) r → r ≡ G.Asks c → Knows c t a u b → Written (6 * i) (answer_words (told a)) out₁ out₂ → 6 * i + 6 ≤ length out
+  pub answered_more : {u : QueueWords} {out₂ : List ℕ} {c : Call} {a : Answer} {b : Bool} {r : Option Call} → 4 * i + 4 ≤ length cs
+      → GroupIs (four_at cs (4 * i)) r → r ≡ Some c → Knows c t a u b → Written (6 * i) (answer_words (told a)) out₁ out₂ → 6 * i + 6 ≤ length out
       → CommandsDone s cs out (i + 1) u out₂
   answered_more {c = c} {a = a} four I g K W h = answered_next c a (sym (four_words cs (4 * i) four) ∙ I.asks c g) K.does W h
 
@@ -130,13 +129,13 @@ module _ {s t : QueueWords} {cs out out₁ : List ℕ} {i : ℕ} (A : CommandsDo
   pub stops_short : {many : ℕ} → many ≡ length cs / 4 → many ≤ i → RunClaim s cs out i W.NoWords t out₁
   stops_short m h = record { answered = A; stops = omega (arith, m, h) }
 
-  module _ {r : Group} (four : 4 * i + 4 ≤ length cs) (I : GroupIs (four_at cs (4 * i)) r) where
+  module _ {r : Option Call} (four : 4 * i + 4 ≤ length cs) (I : GroupIs (four_at cs (4 * i)) r) where
     -- the next four are no command
-    pub stops_there : r ≡ G.Not → RunClaim s cs out i W.NoCommand t out₁
+    pub stops_there : r ≡ None → RunClaim s cs out i W.NoCommand t out₁
     stops_there g = record { answered = A; stops = (four, λ c e. I.not g c (four_words cs (4 * i) four ∙ e)) }
 
     -- they are one, and there is no room for six
-    pub stops_full : {c : Call} → r ≡ G.Asks c → length out < 6 * i + 6 → RunClaim s cs out i W.NoRoom t out₁
+    pub stops_full : {c : Call} → r ≡ Some c → length out < 6 * i + 6 → RunClaim s cs out i W.NoRoom t out₁
     stops_full {c} g h = record { answered = A; stops = (h, (c, sym (four_words cs (4 * i) four) ∙ I.asks c g)) }
 
 -- ---- stacks that are lent

@@ -9,15 +9,15 @@ loop-level-init c =
 
 pub returns-in_default : goal.returns-in_default
 returns-in_default c =
-    judge_wrong c.loop-level.invariant c.loop-level-test.true c.walk_level-seen.ensures c.in_default.is
+    judge_wrong c.loop-level.invariant c.loop-level-test.true c.walk_level-walked.ensures c.in_default.is
 
 pub returns-then-seen-occupied : goal.returns-then-seen-occupied
 returns-then-seen-occupied c =
-    judge_other c.loop-level.invariant c.loop-level-test.true c.walk_level-seen.ensures _ c.in-Left.is c.if-seen-occupied.true
+    judge_other c.loop-level.invariant c.loop-level-test.true c.walk_level-walked.ensures _ c.in-Some.is c.if-seen-occupied.true
 
 pub loop-level-preserved : goal.loop-level-preserved
 loop-level-preserved c =
-    judge_next c.loop-level.invariant c.loop-level-test.true c.walk_level-seen.ensures _ c.in-Left.is c.if-seen-occupied.false
+    judge_next c.loop-level.invariant c.loop-level-test.true c.walk_level-walked.ensures _ c.in-Some.is c.if-seen-occupied.false
 
 pub returns : goal.returns
 returns c =

@@ -15,8 +15,7 @@ use Rattle.links.specs.Lists.{nobody}
 use Rattle.links.specs.Links.{at}
 use Rattle.places.specs.Places.{slot_place, slots, level_at, slot_at}
 use Rattle.wheel.specs.declared.Expiration.{Expiration}
-use Rattle.wheel.specs.declared.Next.TheVariants.{At, Nothing}
-use Rattle.wheel.specs.declared.Wake.TheVariants.{At as Wake-as-At}
+use Rattle.std.specs.Prelude.{Option, Some, None}
 use Rattle.wheel.specs.Wheel.{Lists, FirstSlot, EmptyWheel, in_slot, in_parking}
 use Rattle.wheel.specs.Occupied.{filled, Occupied}
 use Rattle.wheel.proofs.laws.Occupied.{flag_is, unfilled, filled_some}
@@ -25,7 +24,7 @@ use Rattle.wheel.proofs.laws.Between.{place_level, place_slot}
 use Rattle.wheel.proofs.laws.Next.{not_passed}
 use Rattle.wheel.specs.Expiration.{NotPassed, Sees, NextIs, WakeIs}
 
-pub wake_at : {e : ℕ} {L : Lists} (x : Expiration) → NextIs e L (At x) → WakeIs e L (Wake-as-At x.deadline)
+pub wake_at : {e : ℕ} {L : Lists} (x : Expiration) → NextIs e L (Some x) → WakeIs e L (Some x.deadline)
 wake_at x N = (x.level, slot_place x.level x.slot, N.1)
 
 -- the rule inside a poll has it that no slot was passed
@@ -83,13 +82,13 @@ module _ {occ : List ℕ} {L : Lists} (R : Occupied occ L) where
 
   -- with its start, as the code tells it
   pub next_found : (e k s t : ℕ) → k < 6 → ((j : ℕ) → j < k → at occ j ≡ 0) → NotPassed e occ → Lowest (flag_at (at occ k)) 64 s
-      → t ≡ start_at e k s → NextIs e L (At (record { level = k; slot = s; deadline = t }))
+      → t ≡ start_at e k s → NextIs e L (Some (record { level = k; slot = s; deadline = t }))
   next_found e k s t hk z P F et = (F.within, rw et (in_slot (slot_found e k s hk z P F)))
 
 -- no row has a flag: nothing, or the parking list
 module _ {d : ℕ → ℕ} {e : ℕ} {occ : List ℕ} {head : ℕ} {L : Lists} (S : Sees d e occ head L) (z : (j : ℕ) → j < 6 → at occ j ≡ 0) where
-  pub none_found : head ≡ nobody → NextIs e L Nothing
+  pub none_found : head ≡ nobody → NextIs e L None
   none_found h = (no_slot S.occupied z, S.none h)
 
-  pub parking_found : head ≢ nobody → (t : ℕ) → t ≡ floor 6 (d head) → NextIs e L (At (record { level = 6; slot = 0; deadline = t }))
+  pub parking_found : head ≢ nobody → (t : ℕ) → t ≡ floor 6 (d head) → NextIs e L (Some (record { level = 6; slot = 0; deadline = t }))
   parking_found h t et = (omega arith, rw (et, next_floor e (d head) (S.block h)) (in_parking (no_slot S.occupied z) (S.some h).1))

@@ -12,8 +12,8 @@ use Rattle.contracts.proofs.laws.Tells.{tells_no}
 use Rattle.row.specs.Row.{row_of}
 use Rattle.row.proofs.laws.Rows.{row_ext}
 use Rattle.links.specs.Lists.{nobody}
-use Rattle.links.specs.declared.Walk.{Walk}
-use Rattle.links.specs.declared.Walk.TheVariants.{Wrong, Left}
+use Rattle.std.specs.Prelude.{Option, Some, None}
+use Rattle.places.specs.declared.Level.{Level}
 use Rattle.links.specs.Links.{at}
 use Rattle.places.specs.Places.{slot_place, slots}
 use Rattle.places.specs.Heads.{slot_head}
@@ -65,23 +65,23 @@ pub judge_begun : (t : WheelWords) → JudgedSo t 0 (count t)
 judge_begun t = record { within = omega arith; goes = refl; occupied = λ k h. absurd (omega arith) }
 
 module _ {t : WheelWords} {level left : ℕ} (S : JudgedSo t level left) where
-  module _ (h : level < 6) {w : Walk} {x : ℕ} (L : WalksLevel t.places level left w x) where
+  module _ (h : level < 6) {w : Option Level} (L : WalksLevel t.places level left w) where
     -- a list is wrong
-    pub judge_wrong : w ≡ Wrong → Tells (WheelWhole t) false
+    pub judge_wrong : w ≡ None → Tells (WheelWhole t) false
     judge_wrong e =
         tells_no (λ W. true≢false (sym (place_laws.whole_judged W.places) ∙ level_judged t.places (S.goes ∙ L.wrong e)))
 
-    module _ (m : ℕ) (e : w ≡ Left m) where
+    module _ (l : Level) (e : w ≡ Some l) where
       -- a row is not that of the heads
-      pub judge_other : x ≢ at t.occupied level → Tells (WheelWhole t) false
-      judge_other d = tells_no (λ W. d (L.filled m e ∙ sym (whole_row W level h)))
+      pub judge_other : l.filled ≢ at t.occupied level → Tells (WheelWhole t) false
+      judge_other d = tells_no (λ W. d (L.filled l e ∙ sym (whole_row W level h)))
 
-      pub judge_next : x ≡ at t.occupied level → JudgedSo t (level + 1) m
+      pub judge_next : l.filled ≡ at t.occupied level → JudgedSo t (level + 1) l.left
       judge_next f =
           record {
             within = omega arith;
-            goes = S.goes ∙ L.goes m e;
-            occupied = below_more _ level S.occupied (sym f ∙ L.filled m e);
+            goes = S.goes ∙ L.goes l e;
+            occupied = below_more _ level S.occupied (sym f ∙ L.filled l e);
           }
 
   -- all levels are

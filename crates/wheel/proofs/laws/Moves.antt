@@ -19,8 +19,7 @@ use Rattle.places.proofs.laws.Heads.{head_parking}
 use Rattle.places.specs.Whole as places
 use Rattle.places.proofs.laws.Whole as place_laws
 use Rattle.wheel.specs.declared.Expiration.{Expiration}
-use Rattle.wheel.specs.declared.Next.{Next}
-use Rattle.wheel.specs.declared.Next.TheVariants.{At, Nothing}
+use Rattle.std.specs.Prelude.{Option as Maybe, Some, None}
 use Rattle.wheel.specs.Wheel.{Lists, FirstSlot, NextList, in_slot, in_parking, arrive, Polls, idle, early, out}
 use Rattle.wheel.specs.Limited.{Outcome, ended, yet, start, Limited, rests, waits, hands, finds, stops, moves, empties}
 use Rattle.wheel.specs.Midway.{InHand}
@@ -377,7 +376,7 @@ module _ {t₀ : WheelWords} {ds : List ℕ} {hand now : ℕ} (C : CanPoll t₀ 
           (λ h. absurd (h refl))
 
       -- an empty wheel
-      pub poll_idle : NextIs t.elapsed (lists t) Nothing
+      pub poll_idle : NextIs t.elapsed (lists t) None
           → PollsTo d now limit hand t₀ nobody place count drains (wheel_words now t.occupied t.places)
       poll_idle E = rest (rests E) (idle E)
 
@@ -509,11 +508,11 @@ module _ {t₀ : WheelWords} {ds : List ℕ} {hand now : ℕ} (C : CanPoll t₀ 
 -- ---- the poll goes on: with the drain in hand, or with the next list
 
 -- what `next_list` found, by the answer's case
-module _ {d : ℕ → ℕ} {e : ℕ} {occ : List ℕ} {head hand : ℕ} {r : Next} (G : GoesTo d e occ head hand r) where
-  goes_nothing : r ≡ Nothing → GoesTo d e occ head hand Nothing
+module _ {d : ℕ → ℕ} {e : ℕ} {occ : List ℕ} {head hand : ℕ} {r : Maybe Expiration} (G : GoesTo d e occ head hand r) where
+  goes_nothing : r ≡ None → GoesTo d e occ head hand None
   goes_nothing z = rw z at G
 
-  goes_at : (x : Expiration) → r ≡ At x → GoesTo d e occ head hand (At x)
+  goes_at : (x : Expiration) → r ≡ Some x → GoesTo d e occ head hand (Some x)
   goes_at x z = rw z at G
 
 module _ {t₀ : WheelWords} {ds : List ℕ} {hand now : ℕ} (C : CanPoll t₀ ds hand now) (limit : ℕ)
@@ -526,22 +525,22 @@ module _ {t₀ : WheelWords} {ds : List ℕ} {hand now : ℕ} (C : CanPoll t₀ 
         held = λ z. let H = S.passing.inside z in (H.below, omega (arith, f, H.due));
       }
 
-  module _ {parked : ℕ} (first : parked ≡ t.places.tops.parking) {r : Next}
+  module _ {parked : ℕ} (first : parked ≡ t.places.tops.parking) {r : Maybe Expiration}
       (F : GoesTo (at ds) t.elapsed t.occupied parked place r) where
     G : GoesTo (at ds) t.elapsed t.occupied t.places.tops.parking place r
     G = subst (λ y. GoesTo (at ds) t.elapsed t.occupied y place r) first F
 
     -- nothing waits: nothing is in hand
-    pub next_idle : r ≡ Nothing → PollsTo (at ds) now limit hand t₀ nobody place count drains (wheel_words now t.occupied t.places)
+    pub next_idle : r ≡ None → PollsTo (at ds) now limit hand t₀ nobody place count drains (wheel_words now t.occupied t.places)
     next_idle e =
         let H = goes_nothing G e in
         by_cases (ℕ_discrete place nobody) (λ z. poll_idle C limit S z (H.free z (lists t) (look_sees C limit S z))) (λ z. absurd (H.held z))
 
-    module _ (x : Expiration) (e : r ≡ At x) where
-      goes : GoesTo (at ds) t.elapsed t.occupied t.places.tops.parking place (At x)
+    module _ (x : Expiration) (e : r ≡ Some x) where
+      goes : GoesTo (at ds) t.elapsed t.occupied t.places.tops.parking place (Some x)
       goes = goes_at G x e
 
-      looked : place ≡ nobody → NextIs t.elapsed (lists t) (At x)
+      looked : place ≡ nobody → NextIs t.elapsed (lists t) (Some x)
       looked z = goes.free z (lists t) (look_sees C limit S z)
 
       -- a start past now, or a slot of level 0: nothing is in hand

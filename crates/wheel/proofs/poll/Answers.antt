@@ -17,12 +17,12 @@ next_list-next-requires c =
 
 pub pop_entry-item-requires : goal.pop_entry-item-requires
 pop_entry-item-requires c =
-    next_pops c.requires _ c.loop-expiration.invariant c.first_parked.ensures c.next_list-next.ensures _ c.in-At.is c.if-level-eq0.true
+    next_pops c.requires _ c.loop-expiration.invariant c.first_parked.ensures c.next_list-next.ensures _ c.in-Some.is c.if-level-eq0.true
 
 pub poll_expiration-left-requires : goal.poll_expiration-left-requires
 poll_expiration-left-requires c =
     next_can c.requires _ c.loop-expiration.invariant c.first_parked.ensures c.next_list-next.ensures
-    _ c.in-At.is c.if-level-eq0.false c.if-time-deadline.false
+    _ c.in-Some.is c.if-level-eq0.false c.if-time-deadline.false
 
 pub overflow_sub-moves : goal.overflow_sub-moves
 overflow_sub-moves c =
@@ -31,12 +31,12 @@ overflow_sub-moves c =
 pub list_head-requires : goal.list_head-requires
 list_head-requires c =
     next_parts c.requires _ c.loop-expiration.invariant c.first_parked.ensures c.next_list-next.ensures
-    _ c.in-At.is c.if-level-eq0.false c.if-time-deadline.false
+    _ c.in-Some.is c.if-level-eq0.false c.if-time-deadline.false
 
 pub list_place-place-requires : goal.list_place-place-requires
 list_place-place-requires c =
     next_parts c.requires _ c.loop-expiration.invariant c.first_parked.ensures c.next_list-next.ensures
-    _ c.in-At.is c.if-level-eq0.false c.if-time-deadline.false
+    _ c.in-Some.is c.if-level-eq0.false c.if-time-deadline.false
 
 pub overflow_add-drains : goal.overflow_add-drains
 overflow_add-drains c =
@@ -45,13 +45,13 @@ overflow_add-drains c =
 pub loop-expiration-smaller : goal.loop-expiration-smaller
 loop-expiration-smaller c =
     (next_drained c.requires _ c.loop-expiration.invariant c.first_parked.ensures c.next_list-next.ensures
-    _ c.in-At.is c.if-level-eq0.false c.if-time-deadline.false
+    _ c.in-Some.is c.if-level-eq0.false c.if-time-deadline.false
     _ c.poll_expiration-left.ensures _ refl _ refl (sym c.list_head.ensures ∙ c.if-list_head.false)).1
 
 pub loop-expiration-preserved : goal.loop-expiration-preserved
 loop-expiration-preserved c =
     (next_drained c.requires _ c.loop-expiration.invariant c.first_parked.ensures c.next_list-next.ensures
-    _ c.in-At.is c.if-level-eq0.false c.if-time-deadline.false
+    _ c.in-Some.is c.if-level-eq0.false c.if-time-deadline.false
     _ c.poll_expiration-left.ensures _ refl _ refl (sym c.list_head.ensures ∙ c.if-list_head.false)).0
 
 pub returns-in_default : goal.returns-in_default
@@ -60,17 +60,17 @@ returns-in_default c =
 
 pub returns-then-time-deadline : goal.returns-then-time-deadline
 returns-then-time-deadline c =
-    next_early c.requires _ c.loop-expiration.invariant c.first_parked.ensures c.next_list-next.ensures _ c.in-At.is c.if-time-deadline.true
+    next_early c.requires _ c.loop-expiration.invariant c.first_parked.ensures c.next_list-next.ensures _ c.in-Some.is c.if-time-deadline.true
 
 pub returns-then-level-eq0 : goal.returns-then-level-eq0
 returns-then-level-eq0 c =
     next_out c.requires _ c.loop-expiration.invariant c.first_parked.ensures c.next_list-next.ensures
-    _ c.in-At.is c.if-level-eq0.true c.if-time-deadline.false
+    _ c.in-Some.is c.if-level-eq0.true c.if-time-deadline.false
     _ c.pop_entry-item.ensures
 
 pub returns-then-list_head : goal.returns-then-list_head
 returns-then-list_head c =
     next_yet c.requires _ c.loop-expiration.invariant c.first_parked.ensures c.next_list-next.ensures
-    _ c.in-At.is c.if-level-eq0.false c.if-time-deadline.false
+    _ c.in-Some.is c.if-level-eq0.false c.if-time-deadline.false
     _ c.poll_expiration-left.ensures _ refl _ c.list_place-place.ensures
     (λ z. c.if-list_head.true (c.list_head.ensures ∙ ap (head_of _ _) (sym c.list_place-place.ensures) ∙ z))
