@@ -1,31 +1,19 @@
 // Answers to lines.
 #![tactic(auto)]
 
-ghost use Rattle.std.specs.Prelude.{◌≡◌, [], ◌∷◌, ◌+◌, ◌*◌, ◌≤◌, length, drop};
+ghost use Rattle.std.specs.Prelude.{◌≡◌, [], ◌+◌, ◌*◌, ◌≤◌, length};
 ghost use Rattle.decimals.specs.Text.{Decimal, Spaced};
 ghost use Rattle.answering.specs.Text.{put, PutClaim, WriteClaim, BadClaim};
 ghost use Rattle.answering.specs.Parts.{Before};
 
 use queue::Answer;
 
-// Room for a line: a word of six letters, five numbers of twenty digits with a space each, an ending of five letters, and
-// the newline, which is there already.
-fn blank() -> [u8; 117]
-    ensures { (length result ≡ 117) × (drop 116 result ≡ 10 ∷ []) }
-{
-    [b'\n'; 117]
-}
-
 // Copies src into dst from at on.
 fn copy(dst: &mut [u8], at: usize, src: &[u8])
     requires { at + length src.now ≤ length dst.old }
     ensures { dst.new ≡ put dst.old at src.now }
 {
-    let mut i = 0;
-    while i < src.len() {
-        dst[at + i] = src[i];
-        i += 1;
-    }
+    dst[at..at + src.len()].copy_from_slice(src);
 }
 
 // Writes the decimal of n so that it ends before end, and says where it begins. The last digit comes first, so that nothing
@@ -36,10 +24,11 @@ fn decimal_before(buf: &mut [u8], end: usize, n: u64) -> usize
 {
     let mut i = end;
     let mut m = n;
+    // no `for` over the places: it would need an answer for when they have run out, which they never do
     loop {
         i -= 1;
         buf[i] = b'0' + (m % 10) as u8;
-        m = m / 10;
+        m /= 10;
         if m == 0 {
             return i;
         }
@@ -52,9 +41,7 @@ fn numbers_before(buf: &mut [u8], end: usize, numbers: &[u64]) -> usize
     ensures { Before (λ l. Spaced l numbers.now) buf.old end result buf.new }
 {
     let mut e = end;
-    let mut i = numbers.len();
-    while 0 < i {
-        i -= 1;
+    for i in (0..numbers.len()).rev() {
         e = decimal_before(buf, e, numbers[i]) - 1;
         buf[e] = b' ';
     }
@@ -67,7 +54,9 @@ fn write_ended(out: &mut [u8], at: usize, word: &[u8], numbers: &[u64], ending: 
     requires { (length word.now ≤ 6) × (length numbers.now ≤ 5) × (length ending.now ≤ 5) }
     ensures { PutClaim word.now numbers.now ending.now out.old at result out.new }
 {
-    let mut buf = blank();
+    // room for a word of six letters, five numbers of twenty digits with a space each, an ending of five letters, and the
+    // newline, which is there already
+    let mut buf = [b'\n'; 117];
     let stop = 116 - ending.len();
     copy(&mut buf, stop, ending);
     let e = numbers_before(&mut buf, stop, numbers);
@@ -93,6 +82,7 @@ fn write_line(out: &mut [u8], at: usize, word: &[u8], numbers: &[u64]) -> usize
 }
 
 // Writes the line of an answer into out from at on, and says where it ends: at at, with out unchanged, where there is no room.
+// Out and at stay two parameters: a struct of both would hold out, into which those who call write themselves too.
 pub fn write_answer(out: &mut [u8], at: usize, a: Answer) -> usize
     ensures { WriteClaim a out.old at result out.new }
 {

@@ -1,11 +1,9 @@
 -- What a line asks, in document 01's words, and the claim of `read_line`.
-use Rattle.std.specs.Prelude.{◌≡◌, ◌↔◌, List, [], ◌∷◌, ℕ, ◌≤◌, length}
+use Rattle.std.specs.Prelude.{◌≡◌, ◌↔◌, List, [], ◌∷◌, ℕ, ◌≤◌, length, Option, Some, None}
 use Prim.Native.Char.{code}
 use Rattle.delay_queue.specs.declared.Call.{Call}
 use Rattle.delay_queue.specs.declared.Call.TheVariants as C
 use Rattle.decimals.specs.Text.{Spaced}
-use Rattle.asking.specs.declared.Line.{Line}
-use Rattle.asking.specs.declared.Line.TheVariants as L
 
 -- ---- "`f N turn`, `i value when`, `s key when` (reset), `r key`, `p now`, `w`, `l`, `c`"; 02 [7]: "the `i` line always has a third field,
 -- the period". 02 [10] gives the poll with a limit no line: `q now limit`, which the bench itself does not know (`bench/specs/Line`)
@@ -40,6 +38,6 @@ pub record Says (l : List ℕ) (c : Call) : Type 0 where
   pub short : length l ≤ 80
 
 -- "Other lines, empty ones and lines over 80 bytes answer `bad`": r is what is to be read in the line l
-pub record ReadClaim (l : List ℕ) (r : Line) : Type 0 where
-  pub asks : (c : Call) → (r ≡ L.Asks c) ↔ Says l c
-  pub bad : (r ≡ L.Bad) ↔ ((c : Call) → Says l c → ⊥)
+pub record ReadClaim (l : List ℕ) (r : Option Call) : Type 0 where
+  pub asks : (c : Call) → (r ≡ Some c) ↔ Says l c
+  pub bad : (r ≡ None) ↔ ((c : Call) → Says l c → ⊥)

@@ -9,16 +9,27 @@ use std::fs::File;
 use std::io::{Read, Stdin};
 use std::os::unix::fs::FileExt;
 
-// What a read gave: how many bytes, and whether the input has ended. Where it failed, none came and it has not.
+// What a read gave: how many bytes, and whether the input has ended. Where it failed, none came and it has not. No enum: its
+// variants could be made outside, and the fields are private so that only a read can say `ended`.
 #[derive(Clone, Copy)]
 pub struct Got {
     bytes: usize,
     ended: bool,
+    pub ghost apart: { 0 < bytes → ended ≡ false },
 }
+
+// What a read that failed gave, and what there is before the first.
+const NOTHING: Got = Got {
+    bytes: 0,
+    ended: false,
+};
+
+// The last place that a file has.
+const LAST: usize = i64::MAX as usize;
 
 // What a read into buf gave, by its answer.
 fn told(got: std::io::Result<usize>, buf: &[u8]) -> Got
-    ensures { IsPrefixLen result.bytes buf.now × (0 < result.bytes → result.ended ≡ false) }
+    ensures { IsPrefixLen result.bytes buf.now }
 {
     match got {
         Ok(0) => Got {
@@ -29,16 +40,13 @@ fn told(got: std::io::Result<usize>, buf: &[u8]) -> Got
             bytes: n.min(buf.len()),
             ended: false,
         },
-        Err(_) => Got {
-            bytes: 0,
-            ended: false,
-        },
+        Err(_) => NOTHING,
     }
 }
 
 // Reads the next bytes of the input to the front of buf.
 pub fn more(from: &mut Stdin, buf: &mut [u8]) -> Got
-    ensures { IsPrefixLen result.bytes buf.new × (0 < result.bytes → result.ended ≡ false) }
+    ensures { IsPrefixLen result.bytes buf.new }
 {
     let got = from.read(buf);
     told(got, buf)
@@ -46,13 +54,10 @@ pub fn more(from: &mut Stdin, buf: &mut [u8]) -> Got
 
 // Reads the bytes of the file from `at` on to the front of buf. No file has a byte from 2^63 on.
 pub fn more_from(file: &File, at: usize, buf: &mut [u8]) -> Got
-    ensures { IsPrefixLen result.bytes buf.new × (0 < result.bytes → result.ended ≡ false) × (0 < result.bytes → at < 2 ^ 63) }
+    ensures { IsPrefixLen result.bytes buf.new × (0 < result.bytes → at < 2 ^ 63) }
 {
-    if 9223372036854775807 < at {
-        return Got {
-            bytes: 0,
-            ended: false,
-        };
+    if at > LAST {
+        return NOTHING;
     }
     let got = file.read_at(buf, at as u64);
     told(got, buf)
@@ -62,10 +67,7 @@ pub fn more_from(file: &File, at: usize, buf: &mut [u8]) -> Got
 pub fn nothing() -> Got
     ensures { result.ended ≡ false }
 {
-    Got {
-        bytes: 0,
-        ended: false,
-    }
+    NOTHING
 }
 
 pub fn count(got: Got) -> usize

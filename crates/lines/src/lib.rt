@@ -3,10 +3,10 @@
 // byte less.
 #![tactic(auto)]
 
-ghost use Rattle.std.specs.Prelude.{◌≡◌, min};
 ghost use Rattle.lines.specs.Taking.{TakeClaim};
 
-// Where to go on in the chunk, how many bytes of the line are kept now, and whether the line has ended with them.
+// Where to go on in the chunk, how many bytes of the line are kept now, and whether the line has ended with them. No Option:
+// the two numbers hold either way.
 #[derive(Clone, Copy)]
 pub struct Taken {
     pub next: usize,
@@ -14,23 +14,13 @@ pub struct Taken {
     pub ended: bool,
 }
 
-fn least(a: usize, b: usize) -> usize
-    ensures { result ≡ min a b }
-{
-    if a < b {
-        return a;
-    }
-    b
-}
-
 // Takes the bytes of one line out of the chunk, from `from` on, and keeps them behind the n that are kept: to the
 // newline, which is passed and not kept, or to the chunk's end.
 pub fn take_line(got: &[u8], from: usize, line: &mut [u8], n: usize) -> Taken
     ensures { TakeClaim got.now from line.old n result.next result.kept result.ended line.new }
 {
-    let mut i = from;
-    let mut k = least(n, line.len());
-    while i < got.len() {
+    let mut k = n.min(line.len());
+    for i in from..got.len() {
         let b = got[i];
         if b == b'\n' {
             return Taken {
@@ -43,7 +33,6 @@ pub fn take_line(got: &[u8], from: usize, line: &mut [u8], n: usize) -> Taken
             line[k] = b;
             k += 1;
         }
-        i += 1;
     }
     Taken {
         next: got.len(),

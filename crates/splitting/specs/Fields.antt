@@ -1,5 +1,5 @@
 -- "Fields are split by one space": what `field_end` and `first_of` find.
-use Rattle.std.specs.Prelude.{◌≡◌, List, ◌∷◌, ◌++◌, ℕ, ◌≤◌, ◌<◌, length, drop, get_or}
+use Rattle.std.specs.Prelude.{◌≡◌, List, ◌∷◌, ◌++◌, ℕ, ◌≤◌, ◌<◌, length, drop, get_or, Option, Some, None}
 use Prim.Native.Char.{code}
 use Rattle.decimals.specs.Text.{Decimal}
 use Rattle.splitting.specs.declared.First.{First}
@@ -16,7 +16,7 @@ abbrev pub Starts : List ℕ → ℕ → List ℕ → Type 0
 Starts l n m = (d : List ℕ) × (l ≡ d ++ code " " ∷ m) × Decimal d n
 
 -- what l begins with
-abbrev pub Begins : List ℕ → First → Type 0
-Begins l (S.Only n) = Decimal l n
-Begins l (S.Then n f) = (f ≤ length l) × Starts l n (drop f l)
-Begins l S.Bad = ((n : ℕ) → Decimal l n → ⊥) × ((n : ℕ) (m : List ℕ) → Starts l n m → ⊥)
+abbrev pub Begins : List ℕ → Option First → Type 0
+Begins l (Some (S.Only n)) = Decimal l n
+Begins l (Some (S.Then n f)) = (f ≤ length l) × Starts l n (drop f l)
+Begins l None = ((n : ℕ) → Decimal l n → ⊥) × ((n : ℕ) (m : List ℕ) → Starts l n m → ⊥)

@@ -4,17 +4,10 @@ use mathlib.Core.List.{List, [], ◌∷◌, ◌++◌, append_assoc}
 use Prim.Native.Nat.{ℕ, suc, ◌+◌, ◌-◌, ◌≤◌, ◌<◌}
 use native.Mathlib.Omega.{arith}
 use lib.ListN.{length, take, drop, set, get_or, length-append, length-set, length-drop}
-use lib.Seq.{paste, take-length, take_all, drop-length, drop-cons, get_or-set_same, drop-set-lt, drop_at, length-take-le}
+use lib.Seq.{take_all, drop-length, drop-cons, get_or-set_same, drop-set-lt, drop_at, length-take-le}
 use Rattle.decimals.specs.Text.{Decimal, Spaced}
 use Rattle.answering.specs.Text.{Written, put, PutClaim}
 use Rattle.answering.specs.Parts.{Before}
-
--- a whole copy
-pub pasted : (o : List ℕ) (at : ℕ) (l : List ℕ) {n : ℕ} → n ≡ length l → paste o at l n ≡ put o at l
-pasted o at l e =
-    ap (λ k. paste o at l k) e
-    ∙ append_assoc (take at o) (take (length l) l) (drop (at + length l) o)
-    ∙ ap (λ t. take at o ++ (t ++ drop (at + length l) o)) (take-length l)
 
 -- ---- a text that grows in front
 

@@ -1,17 +1,12 @@
--- `fields_in` finds the numbers: none in nothing, and any others behind a space (`no_space`, `a_space`).
+-- `fields_in` finds the numbers: none in nothing, and any others behind a space (`no_space`).
 use native.Mathlib.Omega.{arith}
-use Rattle.asking.proofs.laws.Reading.{no_numbers, no_space, a_space}
+use Rattle.asking.proofs.laws.Reading.{no_numbers, no_space}
 use Rattle.asking.proofs.fields_in.Goals as goal
 
-pub returns-then-s-eq0 : goal.returns-then-s-eq0
-returns-then-s-eq0 c =
-    no_numbers _ c.if-s-eq0.true
+pub returns-in-empty : goal.returns-in-empty
+returns-in-empty c =
+    no_numbers _ (omega (arith, c.in-empty.len_below))
 
-pub returns-then-s-ne32 : goal.returns-then-s-ne32
-returns-then-s-ne32 c =
-    no_space _ (omega arith) c.if-s-ne32.true
-
-pub returns : goal.returns
-returns c =
-    a_space c.args.s.now c.one_to_three.result (omega (arith, c.if-s-eq0.false)) c.if-s-ne32.false
-    c.one_to_three.ensures
+pub returns-in_default : goal.returns-in_default
+returns-in_default c =
+    no_space _ (omega (arith, c.in_default.len_at_least)) (λ e. omega (arith, e))

@@ -8,19 +8,17 @@ use native.Mathlib.Omega.{arith}
 use lib.ListN.{length}
 use Rattle.delay_queue.specs.declared.Call.{Call}
 use Rattle.delay_queue.specs.declared.Call.TheVariants as C
-use Rattle.asking.specs.declared.Line.{Line}
-use Rattle.asking.specs.declared.Line.TheVariants as L
-use Rattle.asking.specs.declared.Fields.TheVariants as F
+use Rattle.std.specs.Prelude.{Option, Some, None}
 use Rattle.decimals.specs.Text.{Spaced, Fit}
 use Rattle.asking.specs.Text.{letter, numbers, Says, ReadClaim}
 use Rattle.decimals.proofs.laws.Spacing.{one_list, one_text, some_text, at_most_21}
 use Rattle.asking.specs.Parts.{fields_of, call_of}
 
-pub same_call : {c d : Call} → L.Asks c ≡ L.Asks d → c ≡ d
+pub same_call : {c d : Call} → Some c ≡ Some d → c ≡ d
 same_call e = cc
 
 -- a call is found by its letter and its numbers
-pub own : (c : Call) → call_of (letter c) (fields_of (numbers c)) ≡ L.Asks c
+pub own : (c : Call) → call_of (letter c) (fields_of (numbers c)) ≡ Some c
 unfolding call_of
 own (C.Format n turn) = refl
 own (C.Insert value when period) = refl
@@ -32,7 +30,7 @@ own C.Wake = refl
 own C.Length = refl
 own C.Clear = refl
 
-pub many : (ns : List ℕ) → 3 < length ns → F.Bad ≡ fields_of ns
+pub many : (ns : List ℕ) → 3 < length ns → None ≡ fields_of ns
 many [] h = absurd (omega arith)
 many (x ∷ []) h = absurd (omega arith)
 many (x ∷ y ∷ []) h = absurd (omega arith)
@@ -46,7 +44,7 @@ few c = by_cases (dec_lt 3 (length (numbers c))) too_many (λ h. omega arith)
   where
     too_many : 3 < length (numbers c) → length (numbers c) ≤ 3
     too_many h =
-        let e : L.Bad ≡ L.Asks c = ap (call_of (letter c)) (many (numbers c) h) ∙ own c in
+        let e : None ≡ Some c = ap (call_of (letter c)) (many (numbers c) h) ∙ own c in
         let z : ◌≡◌ {A = ℕ} 0 1 = cc in
         absurd (omega arith)
 
@@ -79,10 +77,10 @@ some_line c f =
     (letter c ∷ t.0, record { rest = t.0; line = refl; fields = t.1; short = omega (arith, short c t.0 t.1) })
 
 -- and that line is read as that call
-pub read_back : {l : List ℕ} {c : Call} {r : Line} → Says l c → ReadClaim l r → r ≡ L.Asks c
+pub read_back : {l : List ℕ} {c : Call} {r : Option Call} → Says l c → ReadClaim l r → r ≡ Some c
 read_back {l} {c} s p = (p.asks c).1 s
 
 -- two answers to one line that both keep the claim are the same
-pub read_once : {l : List ℕ} (r s : Line) → ReadClaim l r → ReadClaim l s → r ≡ s
-read_once (L.Asks c) s p q = sym ((q.asks c).1 ((p.asks c).0 refl))
-read_once L.Bad s p q = sym (q.bad.1 (p.bad.0 refl))
+pub read_once : {l : List ℕ} (r s : Option Call) → ReadClaim l r → ReadClaim l s → r ≡ s
+read_once (Some c) s p q = sym ((q.asks c).1 ((p.asks c).0 refl))
+read_once None s p q = sym (q.bad.1 (p.bad.0 refl))

@@ -12,9 +12,8 @@ use Rattle.delay_queue.specs.declared.Call.{Call}
 use Rattle.delay_queue.specs.declared.Call.TheVariants as C
 use Rattle.decimals.specs.Text.{bytes, worth, Decimal, Spaced}
 use Rattle.decimals.proofs.laws.Plain.{every, at, digits, Plain, text, values, spaced}
-use Rattle.asking.specs.declared.Line.TheVariants as L
+use Rattle.std.specs.Prelude.{Some, None}
 use Rattle.asking.specs.declared.Fields.TheVariants as F
-use Rattle.splitting.specs.declared.First.TheVariants as S
 use Rattle.splitting.specs.Fields.{EndsAt, Begins}
 use Rattle.splitting.proofs.laws.Fields.{first_bad, others}
 use Rattle.asking.specs.Text.{letter, numbers, Says}
@@ -52,14 +51,14 @@ largest = says (C.Poll 18446744073709551615) (bytes "18446744073709551615" ∷ [
 abbrev is_other : ℕ → Bool
 is_other b = not (eqb b (code " "))
 
-unsaid : (b : ℕ) (l : List ℕ) → length (b ∷ l) ≤ 80 → Holds 3 l F.Bad → (c : Call) → Says (b ∷ l) c → ⊥
+unsaid : (b : ℕ) (l : List ℕ) → length (b ∷ l) ≤ 80 → Holds l None → (c : Call) → Says (b ∷ l) c → ⊥
 unfolding call_of
-unsaid b l k h = (line b l F.Bad L.Bad k h refl).bad.0 refl
+unsaid b l k h = (line b l None None k h refl).bad.0 refl
 
 -- one field that is no decimal
-one_field : (s : List ℕ) → T (every is_other s) → ((n : ℕ) → Decimal s n → ⊥) → Holds 3 (code " " ∷ s) F.Bad
+one_field : (s : List ℕ) → T (every is_other s) → ((n : ℕ) → Decimal s n → ⊥) → Holds (code " " ∷ s) None
 one_field s t n =
-    none_at_all 3 s
+    none_at_all s
     (first_bad s (length s) (record { within = omega arith; inside = other; space = λ h. absurd (omega arith) }) (λ m d. n m (rw (take-length s) at d)))
   where
     other : (i : ℕ) → i < length s → get_or s i 0 ≡ code " " → ⊥
@@ -87,7 +86,7 @@ two_spaces : (c : Call) → Says (bytes "i 7  70 0") c → ⊥
 unfolding worth every
 two_spaces =
     unsaid (code "i") (bytes " 7  70 0") (omega arith)
-    (more 2 2 (others (bytes "7  70 0") 1 ends (omega arith) seven).1 (omega arith) F.Bad F.Bad (none_at_all 2 (bytes " 70 0") no_first) refl)
+    (more 2 (others (bytes "7  70 0") 1 ends (omega arith) seven).1 None None (none_at_all (bytes " 70 0") no_first) refl)
   where
     first : (k : ℕ) → k < 1 → get_or (bytes "7  70 0") k 0 ≡ code " " → ⊥
     first zero h e = omega arith
@@ -99,17 +98,17 @@ two_spaces =
     seven : Decimal (bytes "7") 7
     seven = record { some = omega arith; digits = digits (bytes "7") tt; spare = λ h. absurd (omega arith); number = refl; fits = omega arith }
 
-    no_first : Begins (bytes " 70 0") S.Bad
+    no_first : Begins (bytes " 70 0") None
     no_first =
         first_bad (bytes " 70 0") 0 (record { within = omega arith; inside = λ k h. absurd (omega arith); space = λ h. refl })
         (λ n d. omega (arith, d.some))
 
 no_limit : (c : Call) → Says (bytes "q 70") c → ⊥
 unfolding worth every call_of
-no_limit = (line (code "q") (bytes " 70") (F.One 70) L.Bad (omega arith) (spaced (bytes "70" ∷ []) (omega arith)) refl).bad.0 refl
+no_limit = (line (code "q") (bytes " 70") (Some (F.One 70)) None (omega arith) (spaced (bytes "70" ∷ []) (omega arith)) refl).bad.0 refl
 
 -- 02 [7]: "the `i` line always has a third field"
 two_fields : (c : Call) → Says (bytes "i 7 70") c → ⊥
 unfolding worth every call_of
 two_fields =
-    (line (code "i") (bytes " 7 70") (F.Two 7 70) L.Bad (omega arith) (spaced (bytes "7" ∷ bytes "70" ∷ []) (omega arith)) refl).bad.0 refl
+    (line (code "i") (bytes " 7 70") (Some (F.Two 7 70)) None (omega arith) (spaced (bytes "7" ∷ bytes "70" ∷ []) (omega arith)) refl).bad.0 refl

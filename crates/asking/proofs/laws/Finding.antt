@@ -6,8 +6,7 @@ use Prim.Native.Nat.{ℕ, ◌-◌, ◌≤◌, ◌<◌}
 use native.Mathlib.Omega.{arith}
 use lib.ListN.{length, take, drop, get_or}
 use Rattle.delay_queue.specs.declared.Call.{Call}
-use Rattle.asking.specs.declared.Line.{Line}
-use Rattle.asking.specs.declared.Line.TheVariants as L
+use Rattle.std.specs.Prelude.{Option, Some, None}
 use Rattle.asking.specs.declared.Fields.{Fields}
 use Rattle.asking.specs.declared.Fields.TheVariants as F
 use Rattle.decimals.specs.Text.{Spaced}
@@ -15,86 +14,64 @@ use Rattle.asking.specs.Text.{letter, numbers, Says, ReadClaim}
 use Rattle.decimals.proofs.laws.Spacing.{one_list}
 use Rattle.asking.specs.Parts.{Holds, fields_of, calls, call_of}
 use Rattle.asking.proofs.laws.Asking.{same_call, own, many, one_call}
-use Rattle.splitting.specs.Letters.{All, with_letter}
 use Rattle.splitting.proofs.laws.Fields.{from}
-use Rattle.splitting.proofs.laws.Letters.{letter_found, letter_absent}
-
--- ---- the first call with a letter
-
-found : (P : Call → Type 0) (b : ℕ) (cs : List Call) → All P cs → (d : Call) → with_letter letter (λ c. L.Asks c) L.Bad b cs ≡ L.Asks d
-    → (b ≡ letter d) × P d
-found = letter_found letter (λ c. L.Asks c) L.Bad (λ c d e. same_call e) (λ c e. let z : ◌≡◌ {A = ℕ} 0 1 = cc in omega arith)
-
--- ---- what `call_of` answers
-
-pub here : {b : ℕ} {f : Fields} (c : Call) → b ≡ letter c → f ≡ fields_of (numbers c) → L.Asks c ≡ call_of b f
-here c e g = sym (ap₂ (λ (x : ℕ) (h : Fields). call_of x h) e g ∙ own c)
-
-pub nowhere : (b : ℕ) {f g : Fields} → f ≡ g → All (λ c. b ≡ letter c → ⊥) (calls g) → L.Bad ≡ call_of b f
-unfolding call_of
-nowhere b {f} {g} e n = letter_absent letter (λ c. L.Asks c) L.Bad b (calls g) n ∙ ap (λ h. call_of b h) (sym e)
+use Rattle.splitting.proofs.laws.Letters.{All, letter_found}
 
 -- ---- the claim from its two halves, of which the second says all that is left to say of a bad line
 
-claim : (l : List ℕ) (r : Line) → ((c : Call) → r ≡ L.Asks c → Says l c) → ((c : Call) → Says l c → r ≡ L.Asks c) → ReadClaim l r
+claim : (l : List ℕ) (r : Option Call) → ((c : Call) → r ≡ Some c → Says l c) → ((c : Call) → Says l c → r ≡ Some c) → ReadClaim l r
 claim l r only all = record { asks = λ c. (only c, all c); bad = (unsaid, unread r only) }
   where
-    unsaid : r ≡ L.Bad → (c : Call) → Says l c → ⊥
+    unsaid : r ≡ None → (c : Call) → Says l c → ⊥
     unsaid e c s = let k = all c s in let z : ◌≡◌ {A = ℕ} 0 1 = cc in omega arith
 
-    unread : (s : Line) → ((c : Call) → s ≡ L.Asks c → Says l c) → ((c : Call) → Says l c → ⊥) → s ≡ L.Bad
-    unread (L.Asks c) f n = absurd (n c (f c refl))
-    unread L.Bad f n = refl
+    unread : (s : Option Call) → ((c : Call) → s ≡ Some c → Says l c) → ((c : Call) → Says l c → ⊥) → s ≡ None
+    unread (Some c) f n = absurd (n c (f c refl))
+    unread None f n = refl
 
-nothing : (l : List ℕ) → ((c : Call) → Says l c → ⊥) → ReadClaim l L.Bad
-nothing l n = claim l L.Bad (λ c e. let z : ◌≡◌ {A = ℕ} 0 1 = cc in absurd (omega arith)) (λ c s. absurd (n c s))
+nothing : (l : List ℕ) → ((c : Call) → Says l c → ⊥) → ReadClaim l None
+nothing l n = claim l None (λ c e. let z : ◌≡◌ {A = ℕ} 0 1 = cc in absurd (omega arith)) (λ c s. absurd (n c s))
 
-something : (l : List ℕ) (c : Call) → Says l c → ReadClaim l (L.Asks c)
+something : (l : List ℕ) (c : Call) → Says l c → ReadClaim l (Some c)
 something l c s =
-    claim l (L.Asks c) (λ d e. subst (λ (x : Call). Says l x) (same_call e) s) (λ d z. ap (λ (x : Call). L.Asks x) (one_call s z))
+    claim l (Some c) (λ d e. subst (λ (x : Call). Says l x) (same_call e) s) (λ d z. ap (λ (x : Call). Some x) (one_call s z))
 
 -- any line may be taken as read where the goal can be tested: it says a call or none
-pub as_read : (l : List ℕ) {P : Type 0} → Dec P → ((r : Line) → ReadClaim l r → P) → P
-as_read l d f = by_cases d (λ p. p) (λ k. absurd (k (f L.Bad (nothing l (λ c s. k (f (L.Asks c) (something l c s)))))))
-
-pub empty_line : (l : List ℕ) → length l ≡ 0 → ReadClaim l L.Bad
-empty_line l h = nothing l (λ c s. omega (arith, ap (λ t. length t) s.line))
-
-pub long_line : (l : List ℕ) → 80 < length l → ReadClaim l L.Bad
-long_line l h = nothing l (λ c s. omega arith)
+pub as_read : (l : List ℕ) {P : Type 0} → Dec P → ((r : Option Call) → ReadClaim l r → P) → P
+as_read l d f = by_cases d (λ p. p) (λ k. absurd (k (f None (nothing l (λ c s. k (f (Some c) (something l c s)))))))
 
 -- ---- a letter, and the numbers that were found behind it
 
-held : (l : List ℕ) (f : Fields) → Holds 3 l f → All (λ c. Spaced l (numbers c)) (calls f)
-held l F.None h = (h, (h, (h, tt)))
-held l (F.One x) h = (h, (h, tt))
-held l (F.Two x y) h = (h, (h, (h, tt)))
-held l (F.Three x y z) h = (h, tt)
-held l F.Bad h = tt
+held : (l : List ℕ) (f : Option Fields) → Holds l f → All (λ c. Spaced l (numbers c)) (calls f)
+held l (Some F.Empty) h = (h, (h, (h, tt)))
+held l (Some (F.One x)) h = (h, (h, tt))
+held l (Some (F.Two x y)) h = (h, (h, (h, tt)))
+held l (Some (F.Three x y z)) h = (h, tt)
+held l None h = tt
 
-told : (l ns : List ℕ) (f : Fields) → Holds 3 l f → Spaced l ns → f ≡ fields_of ns
-told l ns F.None h s = ap fields_of (one_list l [] ns h s)
-told l ns (F.One x) h s = ap fields_of (one_list l (x ∷ []) ns h s)
-told l ns (F.Two x y) h s = ap fields_of (one_list l (x ∷ y ∷ []) ns h s)
-told l ns (F.Three x y z) h s = ap fields_of (one_list l (x ∷ y ∷ z ∷ []) ns h s)
-told l ns F.Bad h s = many ns (h ns s)
+told : (l ns : List ℕ) (f : Option Fields) → Holds l f → Spaced l ns → f ≡ fields_of ns
+told l ns (Some F.Empty) h s = ap fields_of (one_list l [] ns h s)
+told l ns (Some (F.One x)) h s = ap fields_of (one_list l (x ∷ []) ns h s)
+told l ns (Some (F.Two x y)) h s = ap fields_of (one_list l (x ∷ y ∷ []) ns h s)
+told l ns (Some (F.Three x y z)) h s = ap fields_of (one_list l (x ∷ y ∷ z ∷ []) ns h s)
+told l ns None h s = many ns (h ns s)
 
-pub line : (b : ℕ) (l : List ℕ) (f : Fields) (r : Line) → length (b ∷ l) ≤ 80 → Holds 3 l f → r ≡ call_of b f → ReadClaim (b ∷ l) r
+pub line : (b : ℕ) (l : List ℕ) (f : Option Fields) (r : Option Call) → length (b ∷ l) ≤ 80 → Holds l f → r ≡ call_of b f → ReadClaim (b ∷ l) r
 unfolding call_of
 line b l f r k h e = claim (b ∷ l) r only all
   where
-    only : (c : Call) → r ≡ L.Asks c → Says (b ∷ l) c
+    only : (c : Call) → r ≡ Some c → Says (b ∷ l) c
     only c q =
-        let g = found (λ c. Spaced l (numbers c)) b (calls f) (held l f h) c (sym e ∙ q) in
+        let g = letter_found letter (λ c. Spaced l (numbers c)) b (calls f) (held l f h) c (sym e ∙ q) in
         record { rest = l; line = ap (λ x. x ∷ l) g.0; fields = g.1; short = k }
 
-    all : (c : Call) → Says (b ∷ l) c → r ≡ L.Asks c
+    all : (c : Call) → Says (b ∷ l) c → r ≡ Some c
     all c s =
         let t : Spaced l (numbers c) = subst (λ x. Spaced x (numbers c)) (sym (tail-eq_of_cons-eq s.line)) s.fields in
-        e ∙ ap₂ (λ (x : ℕ) (g : Fields). call_of x g) (head-eq_of_cons-eq s.line) (told l (numbers c) f h t) ∙ own c
+        e ∙ ap₂ (λ (x : ℕ) (g : Option Fields). call_of x g) (head-eq_of_cons-eq s.line) (told l (numbers c) f h t) ∙ own c
 
 -- the same for `line[0]` and `&line[1..]`
-pub whole_line : (l : List ℕ) (f : Fields) (r : Line) → 0 < length l → length l ≤ 80 → Holds 3 (take (length l - 1) (drop 1 l)) f
+pub whole_line : (l : List ℕ) (f : Option Fields) (r : Option Call) → 0 < length l → length l ≤ 80 → Holds (take (length l - 1) (drop 1 l)) f
     → r ≡ call_of (get_or l 0 0) f → ReadClaim l r
 whole_line [] f r h k p e = absurd (omega arith)
 whole_line (b ∷ l) f r h k p e = line b l f r k (rw (from (b ∷ l) 1) at p) e

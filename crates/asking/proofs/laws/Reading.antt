@@ -1,64 +1,51 @@
 -- The reader's steps: what each test and each pass of its code shows.
-use mathlib.Core.Path.{◌≡◌, sym, ap, ap₂, ◌∙◌, subst}
+use mathlib.Core.Path.{◌≡◌, sym, ap}
 use mathlib.Core.List.{List, [], ◌∷◌, nil≢cons}
-use Prim.Native.Nat.{ℕ, ◌+◌, ◌-◌, ◌≤◌, ◌<◌}
+use Prim.Native.Nat.{ℕ, ◌-◌, ◌<◌}
 use native.Mathlib.Omega.{arith}
 use lib.ListN.{length, take, drop, get_or, drop_of_length-le}
 use Rattle.asking.specs.declared.Fields.{Fields}
 use Rattle.asking.specs.declared.Fields.TheVariants as F
-use Rattle.splitting.specs.declared.First.TheVariants as S
+use Rattle.std.specs.Prelude.{Option, Some, None}
 use Rattle.splitting.specs.Fields.{Starts, Begins}
-use Rattle.splitting.proofs.laws.Fields.{from, one_alone, begins_none, puts, leaves}
-use Rattle.decimals.specs.Text.{Decimal, Spaced}
+use Rattle.splitting.proofs.laws.Fields.{from, begins_none, puts, leaves}
+use Rattle.decimals.specs.Text.{Spaced}
 use Rattle.asking.specs.Parts.{Holds, in_front}
-use Rattle.decimals.proofs.laws.Number.{drop_one}
 use Rattle.decimals.proofs.laws.Spacing.{one_list}
 
 -- ---- all numbers behind a space
 
--- one at most
-pub not_one : {s : List ℕ} → ((n : ℕ) → Decimal s n → ⊥) → Holds 1 (32 ∷ s) F.Bad
-unfolding Spaced
-not_one b [] p = absurd (nil≢cons (sym p))
-not_one b (n ∷ []) p = absurd (b n (one_alone n p))
-not_one b (n ∷ m ∷ ns) p = omega arith
+pub none_at_all : (s : List ℕ) → Begins s None → Holds (32 ∷ s) None
+none_at_all s b ns p = absurd (begins_none b ns p)
 
-pub none_at_all : (k : ℕ) (s : List ℕ) → Begins s S.Bad → Holds k (32 ∷ s) F.Bad
-none_at_all k s b ns p = absurd (begins_none b ns p)
-
--- and one more than of those behind the first
-module _ (k : ℕ) {s : List ℕ} {n : ℕ} {m : List ℕ} (h : Starts s n m) (l : k ≤ 2) where
-  longer : ((ns : List ℕ) → Spaced (32 ∷ m) ns → k < length ns) → Holds (k + 1) (32 ∷ s) F.Bad
+-- one more than of those behind the first
+module _ {s : List ℕ} {n : ℕ} {m : List ℕ} (h : Starts s n m) where
+  longer : ((ns : List ℕ) → Spaced (32 ∷ m) ns → 2 < length ns) → Holds (32 ∷ s) None
   unfolding Spaced
   longer b [] p = absurd (nil≢cons (sym p))
   longer b (j ∷ ns) p = omega (arith, b ns (leaves h j ns p))
 
-  ahead : (g : Fields) → Holds k (32 ∷ m) g → Holds (k + 1) (32 ∷ s) (in_front n g)
+  ahead : (g : Option Fields) → Holds (32 ∷ m) g → Holds (32 ∷ s) (in_front n g)
   unfolding Spaced
-  ahead F.None p = absurd (nil≢cons (sym p))
-  ahead (F.One x) p = puts h (x ∷ []) p
-  ahead (F.Two x y) p = puts h (x ∷ y ∷ []) p
-  ahead (F.Three x y z) p =
+  ahead (Some F.Empty) p = absurd (nil≢cons (sym p))
+  ahead (Some (F.One x)) p = puts h (x ∷ []) p
+  ahead (Some (F.Two x y)) p = puts h (x ∷ y ∷ []) p
+  ahead (Some (F.Three x y z)) p =
       longer (λ ns q. omega (arith, ap (λ (t : List ℕ). length t) (one_list (32 ∷ m) (x ∷ y ∷ z ∷ []) ns p q)))
-  ahead F.Bad p = longer p
+  ahead None p = longer (λ ns q. omega (arith, p ns q))
 
 -- as the code has it, of `&s[f..]`
-pub more : (k : ℕ) {s : List ℕ} {n : ℕ} (f : ℕ) → Starts s n (drop f s) → k ≤ 2 → (g r : Fields) → Holds k (32 ∷ take (length s - f) (drop f s)) g
-    → r ≡ in_front n g → Holds (k + 1) (32 ∷ s) r
-more k {s} f h l g r p e = rw e (ahead k h l g (rw (from s f) at p))
+pub more : {s : List ℕ} {n : ℕ} (f : ℕ) → Starts s n (drop f s) → (g r : Option Fields) → Holds (32 ∷ take (length s - f) (drop f s)) g
+    → r ≡ in_front n g → Holds (32 ∷ s) r
+more {s} f h g r p e = rw e (ahead h g (rw (from s f) at p))
 
 -- ---- the space in front
 
-pub no_space : (s : List ℕ) → 0 < length s → (get_or s 0 0 ≡ 32 → ⊥) → Holds 3 s F.Bad
+pub no_space : (s : List ℕ) → 0 < length s → (get_or s 0 0 ≡ 32 → ⊥) → Holds s None
 unfolding Spaced
 no_space s h b [] p = absurd (omega (arith, ap (λ t. length t) p))
 no_space s h b (n ∷ ns) p = absurd (b (ap (λ t. get_or t 0 0) p.2))
 
-pub a_space : (s : List ℕ) (f : Fields) → 0 < length s → get_or s 0 0 ≡ 32 → Holds 3 (32 ∷ take (length s - 1) (drop 1 s)) f → Holds 3 s f
-a_space s f h e p =
-    let q = ap₂ (λ (x : ℕ) (t : List ℕ). x ∷ t) (sym e) (from s 1) ∙ sym (drop_one s 0 h) in
-    subst (λ t. Holds 3 t f) q p
-
-pub no_numbers : (s : List ℕ) → length s ≡ 0 → Holds 3 s F.None
+pub no_numbers : (s : List ℕ) → length s ≡ 0 → Holds s (Some F.Empty)
 unfolding Spaced
 no_numbers s h = drop_of_length-le s {i = 0} (omega arith)

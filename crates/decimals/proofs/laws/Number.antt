@@ -8,18 +8,17 @@ use native.Mathlib.Numerals.{add-one}
 use native.Mathlib.Omega.{arith}
 use lib.ListN.{length, drop, get_or, drop_of_length-le}
 use lib.Seq.{drop-cons}
-use Rattle.decimals.specs.declared.Num.{Num}
-use Rattle.decimals.specs.declared.Num.TheVariants as N
+use Rattle.std.specs.Prelude.{Option, Some, None}
 use Rattle.decimals.specs.Text.{worth, Decimal}
 use Rattle.decimals.specs.Number.{NumberOf}
 use Rattle.decimals.proofs.laws.Decimals.{shift, one_number}
 
 -- two answers to the same bytes that both keep the claim are the same
-pub number_once : (l : List ℕ) (r s : Num) → NumberOf l r → NumberOf l s → r ≡ s
-number_once l (N.Is n) (N.Is m) p q = ap (λ (x : ℕ). N.Is x) (one_number p q)
-number_once l (N.Is n) N.Bad p q = absurd (q n p)
-number_once l N.Bad (N.Is m) p q = absurd (p m q)
-number_once l N.Bad N.Bad p q = refl
+pub number_once : (l : List ℕ) (r s : Option ℕ) → NumberOf l r → NumberOf l s → r ≡ s
+number_once l (Some n) (Some m) p q = ap (λ (x : ℕ). Some x) (one_number p q)
+number_once l (Some n) None p q = absurd (q n p)
+number_once l None (Some m) p q = absurd (p m q)
+number_once l None None p q = refl
 
 pub drop_one : (s : List ℕ) (i : ℕ) → i < length s → drop i s ≡ get_or s i 0 ∷ drop (i + 1) s
 drop_one s i h = rw (add-one, drop-cons s i 0)

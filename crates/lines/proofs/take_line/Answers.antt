@@ -10,7 +10,7 @@ use Rattle.lines.proofs.take_line.Goals.{then-k-line, else-k-line}
 
 pub loop-i-init : goal.loop-i-init
 loop-i-init c =
-    so_none _ _ _ _ c.least-k.ensures
+    so_none _ _ _ _ c.min-k.ensures
 
 pub returns-then-b-eq10 : goal.returns-then-b-eq10
 returns-then-b-eq10 c =

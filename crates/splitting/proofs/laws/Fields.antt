@@ -11,6 +11,7 @@ use Rattle.decimals.specs.Text.{Decimal, Spaced}
 use Rattle.decimals.proofs.laws.Number.{drop_one}
 use Rattle.decimals.proofs.laws.Decimals.{one_number}
 use Rattle.decimals.proofs.laws.Spacing.{Whole, Ends, whole, cut}
+use Rattle.std.specs.Prelude.{Option, Some, None}
 use Rattle.splitting.specs.declared.First.{First}
 use Rattle.splitting.specs.declared.First.TheVariants as S
 use Rattle.splitting.specs.Fields.{EndsAt, Starts, Begins}
@@ -33,19 +34,19 @@ pub starts_alone : {l m : List ℕ} {n k : ℕ} → Starts l n m → Decimal l k
 starts_alone {l} a d = nil≢cons (field_once tt refl (sym (append-nil l)) d a.1 a.2).1
 
 -- two answers that both keep the claim begin with the same
-pub begins_once : (l : List ℕ) (r s : First) → Begins l r → Begins l s → r ≡ s
-begins_once l (S.Only n) (S.Only m) p q = ap (λ (x : ℕ). S.Only x) (one_number p q)
-begins_once l (S.Only n) (S.Then m f) p q = absurd (starts_alone q.1 p)
-begins_once l (S.Only n) S.Bad p q = absurd (q.0 n p)
-begins_once l (S.Then n f) (S.Only m) p q = absurd (starts_alone p.1 q)
-begins_once l (S.Then n f) (S.Then m g) p q =
+pub begins_once : (l : List ℕ) (r s : Option First) → Begins l r → Begins l s → r ≡ s
+begins_once l (Some (S.Only n)) (Some (S.Only m)) p q = ap (λ (x : ℕ). Some (S.Only x)) (one_number p q)
+begins_once l (Some (S.Only n)) (Some (S.Then m f)) p q = absurd (starts_alone q.1 p)
+begins_once l (Some (S.Only n)) None p q = absurd (q.0 n p)
+begins_once l (Some (S.Then n f)) (Some (S.Only m)) p q = absurd (starts_alone p.1 q)
+begins_once l (Some (S.Then n f)) (Some (S.Then m g)) p q =
     let c = starts_once p.1 q.1 in
     let e : f ≡ g = omega (arith, p.0, q.0, ap (λ (x : List ℕ). length x) c.1, length-drop f l, length-drop g l) in
     cc
-begins_once l (S.Then n f) S.Bad p q = absurd (q.1 n (drop f l) p.1)
-begins_once l S.Bad (S.Only m) p q = absurd (p.0 m q)
-begins_once l S.Bad (S.Then m g) p q = absurd (p.1 m (drop g l) q.1)
-begins_once l S.Bad S.Bad p q = refl
+begins_once l (Some (S.Then n f)) None p q = absurd (q.1 n (drop f l) p.1)
+begins_once l None (Some (S.Only m)) p q = absurd (p.0 m q)
+begins_once l None (Some (S.Then m g)) p q = absurd (p.1 m (drop g l) q.1)
+begins_once l None None p q = refl
 
 -- ---- where the first field ends at e
 
@@ -67,13 +68,13 @@ module _ (s : List ℕ) (e : ℕ) (h : EndsAt s e) where
       let c = cut d (take e s) r (drop e s) (whole x) unbroken u stops (sym p ∙ sym (take-append-drop e s)) in
       subst (λ (z : List ℕ). Decimal z n) c.0 x
 
-  pub first_bad : ((n : ℕ) → Decimal (take e s) n → ⊥) → Begins s S.Bad
+  pub first_bad : ((n : ℕ) → Decimal (take e s) n → ⊥) → Begins s None
   first_bad b = (λ n d. b n (before_e [] tt (sym (append-nil s)) d), λ n m a. b n (before_e (32 ∷ m) refl a.1 a.2))
 
-  pub only_one : length s ≤ e → {n : ℕ} → Decimal (take e s) n → Begins s (S.Only n)
+  pub only_one : length s ≤ e → {n : ℕ} → Decimal (take e s) n → Begins s (Some (S.Only n))
   only_one l {n} d = subst (λ (z : List ℕ). Decimal z n) (take_all e s l) d
 
-  pub others : e < length s → {n : ℕ} → Decimal (take e s) n → Begins s (S.Then n (e + 1))
+  pub others : e < length s → {n : ℕ} → Decimal (take e s) n → Begins s (Some (S.Then n (e + 1)))
   others l d =
       let spaced = drop_one s e l ∙ ap (λ (x : ℕ). x ∷ drop (e + 1) s) (h.space l) in
       (omega arith, (take e s, sym (take-append-drop e s) ∙ ap (λ (r : List ℕ). take e s ++ r) spaced, d))
@@ -97,7 +98,7 @@ more_start n k ns p =
     let q = p.4 in
     (q.0 ++ q.1, (p.0, tail-eq_of_cons-eq p.2 ∙ ap (λ r. p.0 ++ r) q.2, p.3), (q.0, q.1, refl, q.3, q.4))
 
-pub begins_none : {s : List ℕ} → Begins s S.Bad → (ns : List ℕ) → Spaced (32 ∷ s) ns → ⊥
+pub begins_none : {s : List ℕ} → Begins s None → (ns : List ℕ) → Spaced (32 ∷ s) ns → ⊥
 unfolding Spaced
 begins_none b [] p = nil≢cons (sym p)
 begins_none b (n ∷ []) p = b.0 n (one_alone n p)

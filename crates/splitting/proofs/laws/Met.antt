@@ -6,8 +6,7 @@ use Prim.Native.Nat.{ℕ, zero, suc, ◌+◌, ◌^◌, ◌≤◌, ◌<◌}
 use native.Mathlib.Decide.{ℕ_discrete, dec_lt, dec_le}
 use native.Mathlib.Omega.{arith}
 use lib.ListN.{length, take, get_or}
-use Rattle.decimals.specs.declared.Num.{Num}
-use Rattle.decimals.specs.declared.Num.TheVariants as N
+use Rattle.std.specs.Prelude.{Option, Some, None}
 use Rattle.decimals.specs.Text.{Digits, worth}
 use Rattle.decimals.specs.Number.{NumberOf}
 use Rattle.splitting.specs.declared.First.{First}
@@ -29,7 +28,7 @@ digits_told (b ∷ l) =
     all low high d zero h = (low, high)
     all low high d (suc i) h = d i (omega arith)
 
-pub number_met : (l : List ℕ) → (r : Num) × NumberOf l r
+pub number_met : (l : List ℕ) → (r : Option ℕ) × NumberOf l r
 number_met l =
     by_cases (dec_lt 0 (length l))
     (λ some.
@@ -39,12 +38,12 @@ number_met l =
     (λ f.
     by_cases (dec_lt 1 (length l))
     (λ more.
-    by_cases (ℕ_discrete (get_or l 0 0) 48) (λ z. (N.Bad, λ n x. x.spare more z))
-    (λ z. (N.Is (worth l), record { some = some; digits = d; spare = λ _ e. z e; number = refl; fits = f })))
-    (λ one. (N.Is (worth l), record { some = some; digits = d; spare = λ h e. one h; number = refl; fits = f })))
-    (λ f. (N.Bad, λ n x. f (subst (λ (m : ℕ). m < 2 ^ 64) (sym x.number) x.fits))))
-    (λ d. (N.Bad, λ n x. d x.digits)))
-    (λ some. (N.Bad, λ n x. some x.some))
+    by_cases (ℕ_discrete (get_or l 0 0) 48) (λ z. (None, λ n x. x.spare more z))
+    (λ z. (Some (worth l), record { some = some; digits = d; spare = λ _ e. z e; number = refl; fits = f })))
+    (λ one. (Some (worth l), record { some = some; digits = d; spare = λ h e. one h; number = refl; fits = f })))
+    (λ f. (None, λ n x. f (subst (λ (m : ℕ). m < 2 ^ 64) (sym x.number) x.fits))))
+    (λ d. (None, λ n x. d x.digits)))
+    (λ some. (None, λ n x. some x.some))
 
 ends_met : (s : List ℕ) → (e : ℕ) × EndsAt s e
 ends_met [] = (0, record { within = omega arith; inside = λ k h. absurd (omega arith); space = λ h. absurd (omega arith) })
@@ -60,9 +59,9 @@ ends_met (b ∷ s) =
         early zero l q = n q
         early (suc k) l q = h.inside k (omega arith) q
 
-pub begins_met : (s : List ℕ) → (r : First) × Begins s r
+pub begins_met : (s : List ℕ) → (r : Option First) × Begins s r
 begins_met s = let x = ends_met s in by x.0 x.1 (number_met (take x.0 s)).0 (number_met (take x.0 s)).1
   where
-    by : (e : ℕ) → EndsAt s e → (r : Num) → NumberOf (take e s) r → (f : First) × Begins s f
-    by e h (N.Is n) d = by_cases (dec_lt e (length s)) (λ l. (S.Then n (e + 1), others s e h l d)) (λ l. (S.Only n, only_one s e h (omega arith) d))
-    by e h N.Bad d = (S.Bad, first_bad s e h d)
+    by : (e : ℕ) → EndsAt s e → (r : Option ℕ) → NumberOf (take e s) r → (f : Option First) × Begins s f
+    by e h (Some n) d = by_cases (dec_lt e (length s)) (λ l. (Some (S.Then n (e + 1)), others s e h l d)) (λ l. (Some (S.Only n), only_one s e h (omega arith) d))
+    by e h None d = (None, first_bad s e h d)

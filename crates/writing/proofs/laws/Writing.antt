@@ -1,4 +1,4 @@
--- Bytes that are written behind others: one, many, the digits of a number; and what stands at the front.
+-- Bytes that are written behind others: many, the digits of a number; and what stands at the front.
 use mathlib.Core.Path.{◌≡◌, refl, sym, ap, ap₂, ◌∙◌, subst}
 use mathlib.Core.Logic.{by_cases}
 use mathlib.Core.List.{List, [], ◌∷◌, ◌++◌, append-nil, append_assoc}
@@ -8,8 +8,8 @@ use native.Mathlib.Decide.{dec_lt}
 use native.Mathlib.Omega.{arith}
 use native.Mathlib.Nat.{pow-zero, pow-suc, one-le-pow}
 use lib.Arith.{digits_div}
-use lib.ListN.{length, get_or, take, drop, set, length-append, length-set, take-append-drop}
-use lib.Seq.{take-suc, take_all, take-suc-set, drop-drop, drop-set-lt}
+use lib.ListN.{length, take, drop, set, length-append, length-set, take-append-drop}
+use lib.Seq.{take-suc-set, drop-drop, drop-set-lt}
 use Rattle.writing.specs.Writing.{Wrote, Fronts, digits_of, power}
 
 -- what is the same from r on is the same from k on
@@ -20,15 +20,6 @@ same_rest r k p o h e =
     ∙ ap (λ (j : ℕ). drop j o) (sym f)
 
 module _ {o : List ℕ} {at : ℕ} where
-  wrote_byte : {s : List ℕ} {r : ℕ} {p q : List ℕ} (b : ℕ) → Wrote o at s r p → r < length p → q ≡ set p r b → Wrote o at (s ++ b ∷ []) (r + 1) q
-  wrote_byte {s} {r} {p} {q} b w h e =
-      record {
-        text = rw (add-one, e) (take-suc-set p r b h ∙ ap (λ (x : List ℕ). x ++ b ∷ []) w.text ∙ append_assoc (take at o) s (b ∷ []));
-        end = omega (arith, w.end, length-append s (b ∷ []));
-        rest = ap (λ (x : List ℕ). drop (r + 1) x) e ∙ drop-set-lt (r + 1) p r b (omega arith) ∙ same_rest r (r + 1) p o (omega arith) w.rest;
-        size = ap (λ (x : List ℕ). length x) e ∙ length-set p r b ∙ w.size;
-      }
-
   pub wrote_more : {s t : List ℕ} {r k : ℕ} {p q : List ℕ} → Wrote o at s r p → Wrote p r t k q → Wrote o at (s ++ t) k q
   wrote_more {s} {t} {r} {k} {p} {q} w x =
       record {
@@ -47,25 +38,6 @@ wrote_once {o} {at} {s} {m} {n} {p} {q} v w =
           ∙ ap₂ (λ (x y : List ℕ). x ++ y) (v.text ∙ sym w.text) (v.rest ∙ ap (λ (k : ℕ). drop k o) e ∙ sym w.rest)
           ∙ take-append-drop n q,
     )
-
--- ---- the steps of `push`
-
-pub push_start : {o : List ℕ} {at : ℕ} → Wrote o at [] (at + 0) o
-push_start {o} {at} =
-    let e : at + 0 ≡ at = omega arith in
-    record { text = ap (λ (k : ℕ). take k o) e ∙ sym (append-nil (take at o)); end = omega arith; rest = refl; size = refl }
-
-module _ {o : List ℕ} {at : ℕ} (src : List ℕ) (i : ℕ) where
-  pub push_step : {p q : List ℕ} → Wrote o at (take i src) (at + i) p → i < length src → at + i < length p → q ≡ set p (at + i) (get_or src i 0)
-      → Wrote o at (take (i + 1) src) (at + (i + 1)) q
-  push_step {p} {q} w h r e =
-      let x = wrote_byte (get_or src i 0) w r e in
-      let f : at + i + 1 ≡ at + (i + 1) = omega arith in
-      let g : take i src ++ get_or src i 0 ∷ [] ≡ take (i + 1) src = sym (ap (λ (k : ℕ). take k src) (add-one i) ∙ take-suc src i 0 h) in
-      subst (λ (k : ℕ). Wrote o at (take (i + 1) src) k q) f (subst (λ (y : List ℕ). Wrote o at y (at + i + 1) q) g x)
-
-  pub push_end : {p : List ℕ} → Wrote o at (take i src) (at + i) p → length src ≤ i → Wrote o at src (at + i) p
-  push_end {p} w h = subst (λ (y : List ℕ). Wrote o at y (at + i) p) (take_all i src h) w
 
 -- ---- the steps of a writer of digits: the first are written, and the last i of m are to come, the first of them p times what it shows
 
@@ -119,6 +91,15 @@ module _ {g : ℕ → ℕ} {b : ℕ} {o : List ℕ} {at m n : ℕ} where
           ap (λ (y : List ℕ). y ++ digits_of g b k n) (take-suc-set x a d (omega (arith, w.place, w.size)))
           ∙ append_assoc (take a x) (d ∷ []) (digits_of g b k n)
           ∙ ap (λ (y : ℕ). take a x ++ y ∷ digits_of g b k n) (e ∙ ap (λ (y : ℕ). g (n / y % b)) w.weight)
+
+  -- the same where k digits are written
+  pub digits_next : {k p d : ℕ} {x : List ℕ} → Digits g b o at m n x (at + k) (m - k) p → 1 < b → k < m → at + m ≤ length o → d ≡ g (n / p % b)
+      → Digits g b o at m n (set x (at + k) d) (at + (k + 1)) (m - (k + 1)) (p / b)
+  digits_next {k} {p} {d} {x} w l h r e =
+      let f : at + k + 1 ≡ at + (k + 1) = omega arith in
+      let i : m - k - 1 ≡ m - (k + 1) = omega arith in
+      subst (λ (j : ℕ). Digits g b o at m n (set x (at + k) d) (at + (k + 1)) j (p / b)) i
+      (subst (λ (a : ℕ). Digits g b o at m n (set x (at + k) d) a (m - k - 1) (p / b)) f (digits_step (m - k) w l (omega arith) r e))
 
   pub digits_end : {i p a : ℕ} {x : List ℕ} → Digits g b o at m n x a i p → i ≤ 0 → Wrote o at (digits_of g b m n) a x
   unfolding digits_of
