@@ -4,11 +4,11 @@
 ghost use Rattle.contracts.specs.Tells.{Tells};
 ghost use Rattle.records.specs.Words.{words, parts, holding, Sound};
 ghost use Rattle.bench.specs.Line.{LineClaim};
-ghost use Rattle.bench.specs.Parts.{Heard, LineKnown};
+ghost use Rattle.bench.specs.Parts.{Known, Heard, LineKnown};
 
 use answering::{write_answer, write_bad};
-use asking::{Line, read_line};
-use delay_queue::Heads;
+use asking::read_line;
+use delay_queue::{Call, Heads};
 use wheel::Wheel;
 
 // Where the answer ends in what is written, and the state and the heads after it.
@@ -19,21 +19,25 @@ pub struct LineDone {
     pub heads: Heads,
 }
 
-// What a line asks. The letter q, of a poll with a limit, is one of the bench's only where it knows limits.
-fn hear(limits: bool, line: &[u8]) -> Line
+// Whether the bench knows the letter of the call: q, of a poll with a limit, only where it knows limits.
+fn is_known(limits: bool, call: Call) -> bool
+    ensures { Tells (Known limits call) result }
+{
+    match call {
+        Call::PollSome(_, _) => limits,
+        _ => true,
+    }
+}
+
+// What a line asks.
+fn hear(limits: bool, line: &[u8]) -> Option<Call>
     ensures { Heard limits line.now result }
 {
-    let asked = read_line(line);
-    if limits {
-        return asked;
+    let call = read_line(line)?;
+    if is_known(limits, call) {
+        return Some(call);
     }
-    if line.len() == 0 {
-        return asked;
-    }
-    if line[0] == b'q' {
-        return Line::Bad;
-    }
-    asked
+    None
 }
 
 // Answers the line, which comes without its newline, into out from at on.
@@ -61,9 +65,8 @@ pub fn answer_line(
         out.new
         result.at }
 {
-    let asked = hear(limits, line);
-    match asked {
-        Line::Asks(call) => {
+    match hear(limits, line) {
+        Some(call) => {
             let reply = any_call::ask(
                 state,
                 delay_queue::heads_in(heads),
@@ -75,24 +78,17 @@ pub fn answer_line(
                 marks,
                 call,
             );
-            let answer = reply.answer;
-            let after = reply.state;
-            let left = reply.heads;
-            let end = write_answer(out, at, answer);
             LineDone {
-                at: end,
-                state: after,
-                heads: left,
+                at: write_answer(out, at, reply.answer),
+                state: reply.state,
+                heads: reply.heads,
             }
         }
-        Line::Bad => {
-            let end = write_bad(out, at);
-            LineDone {
-                at: end,
-                state,
-                heads,
-            }
-        }
+        None => LineDone {
+            at: write_bad(out, at),
+            state,
+            heads,
+        },
     }
 }
 
@@ -139,32 +135,26 @@ pub fn answer_known(
         result.at
         result.sound }
 {
-    let asked = hear(limits, line);
-    match asked {
-        Line::Asks(call) => {
+    match hear(limits, line) {
+        Some(call) => {
             let said = run::known(
                 sound, elapsed, occupied, tops, heads, values, deadlines, nexts, prevs, turns,
                 marks, hand, until, call,
             );
-            let answer = said.answer;
-            let end = write_answer(out, at, answer);
             Found {
-                at: end,
+                at: write_answer(out, at, said.answer),
                 elapsed: said.elapsed,
                 hand: said.hand,
                 until: said.until,
                 sound: said.sound,
             }
         }
-        Line::Bad => {
-            let end = write_bad(out, at);
-            Found {
-                at: end,
-                elapsed,
-                hand,
-                until,
-                sound,
-            }
-        }
+        None => Found {
+            at: write_bad(out, at),
+            elapsed,
+            hand,
+            until,
+            sound,
+        },
     }
 }

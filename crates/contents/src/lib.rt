@@ -2,95 +2,89 @@
 // records in it, head first. What lies in the lists is tested here and not asked for, so a broken store has its line too.
 #![tactic(auto)]
 
-ghost use Rattle.std.specs.Prelude.{◌≤◌, length};
+ghost use Rattle.std.specs.Prelude.{◌≡◌};
+ghost use Rattle.std.specs.Iterator.{YieldsFirst, item_count};
+ghost use Rattle.contents.specs.Members.{chain, rest};
+ghost use Rattle.pen.specs.Pen.{SameRoom};
 
 use pen::Pen;
+use std::fmt::{self, Write};
 use wheel::Wheel;
 
-// A record of a list, behind a comma unless it is the head.
-fn member(out: &mut [u8], pen: Pen, head: bool, i: u16) -> Pen {
-    if head {
-        return pen::number(out, pen, i as u64);
-    }
-    let p = pen::byte(out, pen, b',');
-    pen::number(out, p, i as u64)
+// The records of a list, head first. No list of n records is longer than n, so that the walk of one that goes round ends too.
+#[derive(Drop)]
+pub struct Members<'a> {
+    nexts: &'a [u16],
+    left: u16,
+    at: u16,
 }
 
-// The record behind i, nobody where i is no record.
-fn after(nexts: &[u16], i: u16) -> u16 {
-    let k = i as usize;
-    if k < nexts.len() {
-        return nexts[k];
-    }
-    links::NOBODY
-}
-
-// The list whose head is h. No list of n records is longer than n, so that the walk of one that goes round ends too.
-fn list(out: &mut [u8], pen: Pen, nexts: &[u16], n: u16, h: u16) -> Pen {
-    let mut p = pen::byte(out, pen, b'[');
-    let mut i = h;
-    let mut left = n;
-    while 0 < left {
-        if i == links::NOBODY {
-            return pen::byte(out, p, b']');
+impl<'a> Members<'a> {
+    // Those of the list whose head is given, in a store of n records.
+    pub fn of(nexts: &'a [u16], n: u16, head: u16) -> Members<'a>
+        ensures { rest result ≡ chain nexts.now n head }
+    {
+        Members {
+            nexts,
+            left: n,
+            at: head,
         }
-        p = member(out, p, left == n, i);
-        i = after(nexts, i);
-        left -= 1;
     }
-    pen::byte(out, p, b']')
 }
 
-// Slot s of level k, whose head is h. Nothing where it is empty.
-fn slot(out: &mut [u8], pen: Pen, nexts: &[u16], n: u16, k: u64, s: u64, h: u16) -> Pen {
-    if h == links::NOBODY {
-        return pen;
+impl Iterator for Members<'_> {
+    type Item = u16;
+
+    ghost next_gives = { YieldsFirst rest };
+
+    ghost remaining = { item_count rest };
+
+    fn next(&mut self) -> Option<u16> {
+        if self.left == 0 || self.at == links::NOBODY {
+            return None;
+        }
+        let i = self.at;
+        self.left -= 1;
+        self.at = self.nexts.get(i as usize).copied().unwrap_or(links::NOBODY);
+        Some(i)
     }
-    let p = pen::byte(out, pen, b' ');
-    let q = pen::number(out, p, k);
-    let r = pen::byte(out, q, b'.');
-    let t = pen::number(out, r, s);
-    let u = pen::byte(out, t, b'=');
-    list(out, u, nexts, n, h)
 }
 
-// All slots, levels and slots rising, and behind them the parking list as slot 0 of level 6.
-fn slots(out: &mut [u8], pen: Pen, state: Wheel, heads: &[[u16; 64]; 6], nexts: &[u16]) -> Pen {
-    let top = state.tops;
-    let n = top.n;
-    let tops = places::tops_in(top);
-    let mut p = pen;
-    let mut place = 0u16;
-    while place <= places::PARKING {
-        let h = places::head_of(&tops, heads, place);
-        let level = places::level_of(place);
-        let s = places::slot_of(place);
-        p = slot(out, p, nexts, n, level as u64, s as u64, h);
-        place += 1;
+// The records of a list in brackets, a comma between two.
+fn list(pen: &mut Pen<'_>, nexts: &[u16], n: u16, head: u16) -> fmt::Result {
+    write!(pen, "[")?;
+    let mut records = Members::of(nexts, n, head);
+    if let Some(first) = records.next() {
+        write!(pen, "{first}")?;
     }
-    p
+    for i in records {
+        write!(pen, ",{i}")?;
+    }
+    write!(pen, "]")
 }
 
-// Elapsed, and the name of the expired stack.
-fn opening(out: &mut [u8], pen: Pen, elapsed: u64) -> Pen {
-    let p = pen::text(out, pen, b"# e=");
-    let q = pen::number(out, p, elapsed);
-    pen::text(out, q, b" x=")
+// All of it: the slots that are not empty, levels and slots rising, and behind them the parking list as slot 0 of level 6.
+fn line(pen: &mut Pen<'_>, state: Wheel, heads: &[[u16; 64]; 6], nexts: &[u16]) -> fmt::Result {
+    let elapsed = state.elapsed;
+    let n = state.tops.n;
+    let tops = places::tops_in(state.tops);
+    write!(pen, "# e={elapsed} x=")?;
+    list(pen, nexts, n, state.tops.expired)?;
+    for place in 0..=places::PARKING {
+        let head = places::head_of(&tops, heads, place);
+        if head != links::NOBODY {
+            let level = places::level_of(place);
+            let slot = places::slot_of(place);
+            write!(pen, " {level}.{slot}=")?;
+            list(pen, nexts, n, head)?;
+        }
+    }
+    writeln!(pen)
 }
 
-// The line of a store, behind the bytes of out that wait. Where out is full, what waits is written to standard output.
-pub fn write_lists(
-    out: &mut [u8],
-    pen: Pen,
-    state: Wheel,
-    heads: [[u16; 64]; 6],
-    nexts: &[u16],
-) -> Pen
-    ensures { result.at ≤ length out.old }
+// The line of a store, behind what waits in the pen.
+pub fn write_lists(pen: &mut Pen<'_>, state: Wheel, heads: [[u16; 64]; 6], nexts: &[u16])
+    ensures { SameRoom pen.old pen.new }
 {
-    let top = state.tops;
-    let p = opening(out, pen, state.elapsed);
-    let q = list(out, p, nexts, top.n, top.expired);
-    let r = slots(out, q, state, &heads, nexts);
-    pen::byte(out, r, b'\n')
+    pen.write_by(|p| line(p, state, &heads, nexts));
 }

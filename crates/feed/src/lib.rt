@@ -29,13 +29,7 @@ pub struct Fed {
 fn goes(next: usize, len: usize, at: usize, size: usize) -> bool
     ensures { Tells ((next < len) × (at + answer_room ≤ size)) result }
 {
-    if len <= next {
-        return false;
-    }
-    if size < at {
-        return false;
-    }
-    ANSWER_ROOM <= size - at
+    next < len && at <= size && ANSWER_ROOM <= size - at
 }
 
 // Where to go on in the chunk, how many bytes of an unfinished line are kept, where the answers end, elapsed and the poll in
@@ -92,12 +86,10 @@ fn next_line(
         result.sound }
 {
     let t = lines::take_line(got, from, line, n);
-    let next = t.next;
-    let k = t.kept;
     if t.ended {
         let done = bench::answer_known(
             limits,
-            &line[..k],
+            &line[..t.kept],
             sound,
             elapsed,
             occupied,
@@ -115,7 +107,7 @@ fn next_line(
             at,
         );
         return FedParts {
-            next,
+            next: t.next,
             kept: 0,
             at: done.at,
             elapsed: done.elapsed,
@@ -125,8 +117,8 @@ fn next_line(
         };
     }
     FedParts {
-        next,
-        kept: k,
+        next: t.next,
+        kept: t.kept,
         at,
         elapsed,
         hand,
@@ -174,35 +166,40 @@ fn answer_parts(
         out.new
         result.at) }
 {
-    let mut i = from;
-    let mut k = n;
-    let mut end: usize = 0;
-    let mut e = elapsed;
-    let mut h = hand;
-    let mut u = until;
-    let mut fine = sound;
-    while goes(i, got.len(), end, out.len()) {
-        let r = next_line(
-            limits, got, i, line, k, fine, e, occupied, tops, heads, values, deadlines, nexts,
-            prevs, turns, marks, h, u, out, end,
+    let mut fed = FedParts {
+        next: from,
+        kept: n,
+        at: 0,
+        elapsed,
+        hand,
+        until,
+        sound,
+    };
+    while goes(fed.next, got.len(), fed.at, out.len()) {
+        fed = next_line(
+            limits,
+            got,
+            fed.next,
+            line,
+            fed.kept,
+            fed.sound,
+            fed.elapsed,
+            occupied,
+            tops,
+            heads,
+            values,
+            deadlines,
+            nexts,
+            prevs,
+            turns,
+            marks,
+            fed.hand,
+            fed.until,
+            out,
+            fed.at,
         );
-        i = r.next;
-        k = r.kept;
-        end = r.at;
-        e = r.elapsed;
-        h = r.hand;
-        u = r.until;
-        fine = r.sound;
     }
-    FedParts {
-        next: i,
-        kept: k,
-        at: end,
-        elapsed: e,
-        hand: h,
-        until: u,
-        sound: fine,
-    }
+    fed
 }
 
 // The same for a caller: the store is judged once, and then worked on without judging again.
@@ -259,14 +256,12 @@ pub fn answer_lines(
         state.until,
         out,
     );
-    let after = records::wheel_of(r.elapsed, occupied, tops, r.hand, r.until);
-    let h = delay_queue::heads_of(here);
     Fed {
         next: r.next,
         kept: r.kept,
         at: r.at,
-        state: after,
-        heads: h,
+        state: records::wheel_of(r.elapsed, occupied, tops, r.hand, r.until),
+        heads: delay_queue::heads_of(here),
     }
 }
 
@@ -293,7 +288,7 @@ pub fn answer_last(
         out.new
         result.at }
 {
-    if line.len() == 0 {
+    if line.is_empty() {
         return LineDone {
             at: 0,
             state,

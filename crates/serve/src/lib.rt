@@ -6,7 +6,7 @@
 #![tactic(auto)]
 
 ghost use Rattle.records.specs.Words.{words};
-ghost use Rattle.std.specs.Prelude.{◌≡◌, true, false, [], ◌≤◌, length, take};
+ghost use Rattle.std.specs.Prelude.{IsTrue, ◌≡◌, false, [], ◌≤◌, length, take};
 ghost use Rattle.feed.specs.Feed.{answer_room};
 ghost use Rattle.feed.specs.Serving.{LineAnswered};
 ghost use Rattle.lines.specs.Running.{Passes, Closes, ProgramRan};
@@ -17,122 +17,96 @@ use pen::Pen;
 use std::io::Stdin;
 use wheel::Wheel;
 
-// Standard output and standard error.
-const STDOUT_FILENO: i32 = 1;
-
+// Standard error. It is written by number, since `replay` and the others are lent no handle to print by.
 const STDERR_FILENO: i32 = 2;
 
-// Whether each answer is followed by the contents of the lists, how many bytes of an unfinished line are kept, the
-// store, and whether all writes went well.
+// Whether the lines of a poll with a limit are known, and whether each answer is followed by the contents of the lists.
+#[derive(Clone, Copy)]
+struct Program {
+    limits: bool,
+    lists: bool,
+}
+
+// How many bytes of an unfinished line are kept, the store, and whether all writes went well: no `Result`, since after a write
+// that fails the rest of the chunk is answered all the same.
 #[derive(Clone, Copy)]
 struct Progress {
-    lists: bool,
     kept: usize,
     state: Wheel,
     heads: Heads,
     fine: bool,
+    ghost short: { kept ≤ 81 },
 }
 
-// Behind an answer: the contents of the lists, where they are wanted and there is a store.
-fn show(
-    lists: bool,
-    out: &mut [u8],
-    at: usize,
-    fine: bool,
-    state: Wheel,
-    heads: Heads,
-    nexts: &[u16],
-) -> Pen
-    requires { at ≤ length out.old }
-    ensures { result.at ≤ length out.old }
-{
-    let pen = Pen { at, fine };
-    if !lists {
-        return pen;
-    }
-    // no line has ended
-    if at == 0 {
-        return pen;
-    }
-    let top = state.tops;
-    if top.n == 0 {
-        return pen;
-    }
-    let grid = delay_queue::heads_in(heads);
-    contents::write_lists(out, pen, state, grid, nexts)
-}
-
-// Writes the answers, which end at `at`, and what is shown behind them. Says whether all writes went well.
+// Writes the answers, which are the first `at` bytes of out, and behind them the contents of the lists, where they are wanted
+// and there is a store. Says whether all writes went well.
 fn put(
-    lists: bool,
+    program: Program,
     out: &mut [u8],
     at: usize,
-    fine: bool,
     state: Wheel,
     heads: Heads,
     nexts: &[u16],
-) -> bool
-    requires { at ≤ length out.old }
-{
-    let pen = show(lists, out, at, fine, state, heads, nexts);
-    let end = pen.at;
-    let written = io::write_all(STDOUT_FILENO, &out[..end]);
-    pen.fine & written
+) -> bool {
+    let mut pen = Pen::behind(out, at);
+    // where nothing waits, no line has ended
+    if program.lists && at != 0 && state.tops.n != 0 {
+        let grid = delay_queue::heads_in(heads);
+        contents::write_lists(&mut pen, state, grid, nexts);
+    }
+    pen.end()
 }
 
 // The room for answers: where the lists are shown, that for a single one, so that they are shown behind each.
-fn room(lists: bool) -> usize
-    ensures { (lists ≡ true → result ≡ answer_room) × (lists ≡ false → result ≡ 4096) × (answer_room ≤ result) × (result ≤ 4096) }
+fn room(program: Program) -> usize
+    ensures lists { IsTrue program.lists → result ≡ answer_room }
+    ensures many { program.lists ≡ false → result ≡ 4096 }
+    ensures enough { (answer_room ≤ result) × (result ≤ 4096) }
 {
-    if lists {
-        return feed::ANSWER_ROOM;
+    if program.lists {
+        feed::ANSWER_ROOM
+    } else {
+        4096
     }
-    4096
 }
 
 // Answers each line that ends in what was read, and writes the answers: which these are is claimed, not that they are
 // written.
 fn answer(
-    limits: bool,
+    program: Program,
     got: &[u8],
-    line: &mut [u8],
-    run: Progress,
+    line: &mut [u8; 81],
+    run: &mut Progress,
     values: &mut [u64],
     deadlines: &mut [u64],
     nexts: &mut [u16],
     prevs: &mut [u16],
     turns: &mut [u64],
     marks: &mut [u16],
-    out: &mut [u8],
-) -> Progress
-    requires { (run.kept ≤ 81) × (length line.old ≡ 81) × (length out.old ≡ 4096) }
-    ensures kept_bound { result.kept ≤ 81 }
-    ensures passes { Passes
-        (LineAnswered limits)
+    out: &mut [u8; 4096],
+)
+    ensures { Passes
+        (LineAnswered program.limits)
         (length line.old)
-        (take run.kept line.old)
+        (take run.old.kept line.old)
         got.now
-        (words run.state run.heads.heads values.old deadlines.old nexts.old prevs.old turns.old marks.old)
-        (take result.kept line.new)
+        (words run.old.state run.old.heads.heads values.old deadlines.old nexts.old prevs.old turns.old marks.old)
+        (take run.new.kept line.new)
         []
-        (words result.state result.heads.heads values.new deadlines.new nexts.new prevs.new turns.new marks.new) }
+        (words run.new.state run.new.heads.heads values.new deadlines.new nexts.new prevs.new turns.new marks.new) }
 {
-    let lists = run.lists;
-    let most = room(lists);
-    let mut n = run.kept;
-    let mut state = run.state;
-    let mut heads = run.heads;
-    let mut fine = run.fine;
+    let most = room(program);
     let mut i: usize = 0;
+    // no `for`: a call goes on where the one before it had no more room
     while i < got.len() {
         let r = feed::answer_lines(
-            limits,
+            program.limits,
             got,
             i,
             line,
-            n,
-            state,
-            heads,
+            run.kept,
+            run.state,
+            run.heads,
             values,
             deadlines,
             nexts,
@@ -142,56 +116,45 @@ fn answer(
             &mut out[..most],
         );
         i = r.next;
-        n = r.kept;
-        state = r.state;
-        heads = r.heads;
-        fine = put(lists, out, r.at, fine, state, heads, nexts);
-    }
-    Progress {
-        lists,
-        kept: n,
-        state,
-        heads,
-        fine,
+        run.kept = r.kept;
+        run.state = r.state;
+        run.heads = r.heads;
+        run.fine &= put(program, out, r.at, r.state, r.heads, nexts);
     }
 }
 
 // The end: a last line that has no newline is answered, if the input has ended; where it cannot be read any more, a line
 // that has not ended stays unanswered.
 fn finish(
-    limits: bool,
+    program: Program,
     got: Got,
-    line: &[u8],
-    run: Progress,
+    line: &[u8; 81],
+    run: &mut Progress,
     values: &mut [u64],
     deadlines: &mut [u64],
     nexts: &mut [u16],
     prevs: &mut [u16],
     turns: &mut [u64],
     marks: &mut [u16],
-    out: &mut [u8],
-) -> Progress
-    requires { (run.kept ≤ 81) × (length line.now ≡ 81) × (length out.old ≡ 4096) }
+    out: &mut [u8; 4096],
+)
     ensures { Closes
-        (LineAnswered limits)
-        (take run.kept line.now)
-        (words run.state run.heads.heads values.old deadlines.old nexts.old prevs.old turns.old marks.old)
+        (LineAnswered program.limits)
+        (take run.old.kept line.now)
+        (words run.old.state run.old.heads.heads values.old deadlines.old nexts.old prevs.old turns.old marks.old)
         got.ended
-        (words result.state result.heads.heads values.new deadlines.new nexts.new prevs.new turns.new marks.new) }
+        (words run.new.state run.new.heads.heads values.new deadlines.new nexts.new prevs.new turns.new marks.new) }
 {
     if !input::at_end(got) {
         io::write_all(STDERR_FILENO, b"replay: cannot read\n");
-        return run;
+        return;
     }
-    let lists = run.lists;
-    let n = run.kept;
-    let state = run.state;
-    let heads = run.heads;
+    let kept = run.kept;
     let r = feed::answer_last(
-        limits,
-        &line[..n],
-        state,
-        heads,
+        program.limits,
+        &line[..kept],
+        run.state,
+        run.heads,
         values,
         deadlines,
         nexts,
@@ -200,40 +163,17 @@ fn finish(
         marks,
         out,
     );
-    let after = r.state;
-    let left = r.heads;
-    let fine = put(lists, out, r.at, run.fine, after, left, nexts);
-    Progress {
-        lists,
-        kept: 0,
-        state: after,
-        heads: left,
-        fine,
-    }
+    run.kept = 0;
+    run.state = r.state;
+    run.heads = r.heads;
+    run.fine &= put(program, out, r.at, r.state, r.heads, nexts);
 }
 
-// How many bytes were read, what the last read gave, the store then, and whether all writes went well.
+// How many bytes were read, and what the last read gave.
 #[derive(Clone, Copy)]
 struct Outcome {
     bytes: usize,
     last: Got,
-    state: Wheel,
-    heads: Heads,
-    fine: bool,
-}
-
-fn comes_to(bytes: usize, last: Got, run: Progress) -> Outcome
-    ensures { result ≡ record { bytes = bytes; last = last; state = run.state; heads = run.heads; fine = run.fine } }
-{
-    let state = run.state;
-    let heads = run.heads;
-    Outcome {
-        bytes,
-        last,
-        state,
-        heads,
-        fine: run.fine,
-    }
 }
 
 // Reads until the input ends, cannot be read any more, or an answer cannot be written. What each read gave is answered, and
@@ -241,41 +181,40 @@ fn comes_to(bytes: usize, last: Got, run: Progress) -> Outcome
 // run comes there.
 fn serve(
     from: &mut Stdin,
-    limits: bool,
-    line: &mut [u8],
-    start: Progress,
+    program: Program,
+    line: &mut [u8; 81],
+    run: &mut Progress,
     values: &mut [u64],
     deadlines: &mut [u64],
     nexts: &mut [u16],
     prevs: &mut [u16],
     turns: &mut [u64],
     marks: &mut [u16],
-    out: &mut [u8],
+    out: &mut [u8; 4096],
 ) -> Outcome
-    requires { (start.kept ≤ 81) × (length line.old ≡ 81) × (length out.old ≡ 4096) }
     ensures { ProgramRan
-        (LineAnswered limits)
+        (LineAnswered program.limits)
         (length line.old)
-        (take start.kept line.old)
-        (words start.state start.heads.heads values.old deadlines.old nexts.old prevs.old turns.old marks.old)
+        (take run.old.kept line.old)
+        (words run.old.state run.old.heads.heads values.old deadlines.old nexts.old prevs.old turns.old marks.old)
         result.bytes
         result.last.ended
-        (words result.state result.heads.heads values.new deadlines.new nexts.new prevs.new turns.new marks.new) }
+        (words run.new.state run.new.heads.heads values.new deadlines.new nexts.new prevs.new turns.new marks.new) }
 {
     let mut buf = io::buffer();
-    let mut run = start;
     let mut bytes: usize = 0;
+    // no `for`: what is counted are the bytes, and a read gives as many as come
     while bytes < 9223372036854775808 {
         let got = input::more(from, &mut buf);
         let k = input::count(got);
         if k == 0 {
-            let end = finish(
-                limits, got, line, run, values, deadlines, nexts, prevs, turns, marks, out,
+            finish(
+                program, got, line, run, values, deadlines, nexts, prevs, turns, marks, out,
             );
-            return comes_to(bytes, got, end);
+            return Outcome { bytes, last: got };
         }
-        run = answer(
-            limits,
+        answer(
+            program,
             &buf[..k],
             line,
             run,
@@ -289,81 +228,69 @@ fn serve(
         );
         bytes += k;
         if !run.fine {
-            return comes_to(bytes, got, run);
+            return Outcome { bytes, last: got };
         }
     }
-    comes_to(bytes, input::nothing(), run)
-}
-
-// The contracts give the lengths alone, so that no proof meets the zeros.
-fn pairs() -> [u64; 2048]
-    ensures { length result ≡ 2048 }
-{
-    [0; 2048]
-}
-
-fn words() -> [u64; 1024]
-    ensures { length result ≡ 1024 }
-{
-    [0; 1024]
-}
-
-fn numbers() -> [u16; 1024]
-    ensures { length result ≡ 1024 }
-{
-    [0; 1024]
-}
-
-fn line_space() -> [u8; 81]
-    ensures { length result ≡ 81 }
-{
-    [0; 81]
-}
-
-fn no_heads() -> [[u16; 64]; 6] {
-    [[links::NOBODY; 64]; 6]
+    Outcome {
+        bytes,
+        last: input::nothing(),
+    }
 }
 
 // Each line is answered with one.
 pub fn replay(from: &mut Stdin) {
-    with_room(from, false, false);
+    with_room(
+        from,
+        Program {
+            limits: false,
+            lists: false,
+        },
+    );
 }
 
 // The same, and behind each answer stand the contents of the lists, once there is a store.
 pub fn replay_lists(from: &mut Stdin) {
-    with_room(from, false, true);
+    with_room(
+        from,
+        Program {
+            limits: false,
+            lists: true,
+        },
+    );
 }
 
 // As `replay`, and the lines of a poll with a limit are known too.
 pub fn replay_paused(from: &mut Stdin) {
-    with_room(from, true, false);
+    with_room(
+        from,
+        Program {
+            limits: true,
+            lists: false,
+        },
+    );
 }
 
 // Room for 1,024 records, with two words of values each.
-fn with_room(from: &mut Stdin, limits: bool, lists: bool) {
-    let mut values = pairs();
-    let mut deadlines = words();
-    let mut nexts = numbers();
-    let mut prevs = numbers();
-    let mut turns = words();
-    let mut marks = numbers();
-    let mut line = line_space();
+fn with_room(from: &mut Stdin, program: Program) {
+    let mut values = [0; 2048];
+    let mut deadlines = [0; 1024];
+    let mut nexts = [0; 1024];
+    let mut prevs = [0; 1024];
+    let mut turns = [0; 1024];
+    let mut marks = [0; 1024];
+    let mut line = [0; 81];
     let mut out = io::buffer();
-    let grid = no_heads();
-    let heads = delay_queue::heads_of(grid);
-    let state = delay_queue::no_store();
-    let start = Progress {
-        lists,
+    let mut run = Progress {
         kept: 0,
-        state,
-        heads,
+        state: delay_queue::no_store(),
+        heads: delay_queue::heads_of([[links::NOBODY; 64]; 6]),
         fine: true,
     };
-    let end = serve(
+    serve(
         from,
-        limits,
+        program,
         &mut line,
-        start,
+        &mut run,
         &mut values,
         &mut deadlines,
         &mut nexts,
@@ -372,7 +299,7 @@ fn with_room(from: &mut Stdin, limits: bool, lists: bool) {
         &mut marks,
         &mut out,
     );
-    if !end.fine {
+    if !run.fine {
         io::write_all(STDERR_FILENO, b"replay: cannot write\n");
     }
 }

@@ -2,17 +2,17 @@
 use Rattle.bench.proofs.laws.Line.{line_asks, line_not}
 use Rattle.bench.proofs.answer_known.Goals as goal
 
-pub returns-in-Asks : goal.returns-in-Asks
-returns-in-Asks c =
+pub returns-in-Some : goal.returns-in-Some
+returns-in-Some c =
     let K = c.known-said.ensures in
     record {
-      line = line_asks _ c.hear-asked.ensures c.in-Asks.is _ K.does c.write_answer-end.ensures;
+      line = line_asks _ c.hear.ensures c.in-Some.is _ K.does c.write_answer.ensures;
       tells = K.tells;
     }
 
-pub returns-in-Bad : goal.returns-in-Bad
-returns-in-Bad c =
+pub returns-in-None : goal.returns-in-None
+returns-in-None c =
     record {
-      line = line_not c.hear-asked.ensures c.in-Bad.is c.write_bad-end.ensures;
+      line = line_not c.hear.ensures c.in-None.is c.write_bad.ensures;
       tells = c.requires;
     }

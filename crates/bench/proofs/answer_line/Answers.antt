@@ -2,11 +2,11 @@
 use Rattle.bench.proofs.laws.Line.{line_asks, line_heads, line_not}
 use Rattle.bench.proofs.answer_line.Goals as goal
 
-pub returns-in-Asks : goal.returns-in-Asks
-returns-in-Asks c =
+pub returns-in-Some : goal.returns-in-Some
+returns-in-Some c =
     line_heads _ _ _ _ _ _ _ c.heads_in.ensures
-    (line_asks _ c.hear-asked.ensures c.in-Asks.is _ c.ask-reply.ensures c.write_answer-end.ensures)
+    (line_asks _ c.hear.ensures c.in-Some.is _ c.ask-reply.ensures c.write_answer.ensures)
 
-pub returns-in-Bad : goal.returns-in-Bad
-returns-in-Bad c =
-    line_not c.hear-asked.ensures c.in-Bad.is c.write_bad-end.ensures
+pub returns-in-None : goal.returns-in-None
+returns-in-None c =
+    line_not c.hear.ensures c.in-None.is c.write_bad.ensures

@@ -1,50 +1,51 @@
 -- What a line asks of the bench: what it says, but by the letter q only where limits are known.
-use mathlib.Core.Path.{◌≡◌, refl, sym, ap, ◌∙◌, subst}
-use mathlib.Core.Bool.{Bool, true, false, true≢false}
+use mathlib.Core.Path.{◌≡◌, refl, subst}
+use mathlib.Core.Bool.{Bool}
 use mathlib.Core.Logic.{by_cases}
 use mathlib.Core.List.{List}
 use Prim.Native.Nat.{ℕ}
 use Prim.Native.Char.{code}
 use native.Mathlib.Omega.{arith}
-use lib.ListN.{length, get_or}
 use Rattle.delay_queue.specs.declared.Call.{Call}
-use Rattle.asking.specs.declared.Line.{Line}
-use Rattle.asking.specs.declared.Line.TheVariants as L
-use Rattle.asking.specs.Text.{letter, Says, ReadClaim}
+use Rattle.delay_queue.specs.declared.Call.TheVariants as C
+use Rattle.std.specs.Prelude.{Option, Some, None}
+use Rattle.asking.proofs.laws.Asking.{one_call}
+use Rattle.asking.specs.Text.{letter, ReadClaim}
 use Rattle.bench.specs.Line.{Asks}
-use Rattle.bench.specs.Parts.{Heard, asks, bad}
+use Rattle.bench.specs.Parts.{Known, Heard, asks, bad}
 
--- the first byte of a line is the letter of what it says
-first_byte : {l : List ℕ} {c : Call} → Says l c → get_or l 0 0 ≡ letter c
-first_byte s = ap (λ (t : List ℕ). get_or t 0 0) s.line
+-- only a poll with a limit has the letter q
+q_polls : (c : Call) → letter c ≡ code "q" → (time limit : ℕ) × (c ≡ C.PollSome time limit)
+q_polls (C.Format n turn) e = absurd (omega (arith, e))
+q_polls (C.Insert v w p) e = absurd (omega (arith, e))
+q_polls (C.Reset k w) e = absurd (omega (arith, e))
+q_polls (C.Remove k) e = absurd (omega (arith, e))
+q_polls (C.Poll n) e = absurd (omega (arith, e))
+q_polls (C.PollSome n m) e = (n, m, refl)
+q_polls C.Clear e = absurd (omega (arith, e))
+q_polls C.Wake e = absurd (omega (arith, e))
+q_polls C.Length e = absurd (omega (arith, e))
 
 module _ {limits : Bool} {l : List ℕ} where
-  -- all that the line may say is known
-  heard : (r : Line) → ((c : Call) → Says l c → letter c ≡ code "q" → limits ≡ true) → ReadClaim l r → Heard limits l r
-  heard (L.Asks c) k R = let s = (R.asks c).0 refl in asks (record { says = s; known = k c s })
-  heard L.Bad k R = bad (λ c x. R.bad.0 refl c x.says)
+  -- what was read stands, where its letter is known
+  pub heard : {c : Call} → ReadClaim l (Some c) → Known limits c → Heard limits l (Some c)
+  heard {c} R k = asks (record { says = (R.asks c).0 refl; known = k })
 
-  pub limits_known : (r : Line) → limits ≡ true → ReadClaim l r → Heard limits l r
-  limits_known r e R = heard r (λ c s h. e) R
+  pub heard_none : ReadClaim l None → Heard limits l None
+  heard_none R = bad (λ c x. R.bad.0 refl c x.says)
 
-  pub empty_heard : (r : Line) → length l ≡ 0 → ReadClaim l r → Heard limits l r
-  empty_heard r e R = heard r (λ c s h. absurd (omega (arith, ap (λ (t : List ℕ). length t) s.line))) R
-
-  pub other_letter : (r : Line) → (get_or l 0 0 ≡ code "q" → ⊥) → ReadClaim l r → Heard limits l r
-  other_letter r n R = heard r (λ c s h. absurd (n (first_byte s ∙ h))) R
-
-  pub no_limits : limits ≡ false → get_or l 0 0 ≡ code "q" → Heard limits l L.Bad
-  no_limits e h = bad (λ c x. true≢false (sym (x.known (sym (first_byte x.says) ∙ h)) ∙ e))
+  pub heard_not : {c : Call} → ReadClaim l (Some c) → (Known limits c → ⊥) → Heard limits l None
+  heard_not {c} R k = bad (λ d x. let e : d ≡ c = one_call x.says ((R.asks c).0 refl) in k (subst (λ (y : Call). Known limits y) e x.known))
 
   -- what a caller of `hear` has from it
-  pub heard_asks : {r : Line} {c : Call} → Heard limits l r → r ≡ L.Asks c → Asks limits l c
+  pub heard_asks : {r : Option Call} {c : Call} → Heard limits l r → r ≡ Some c → Asks limits l c
   heard_asks {c = c} (asks {c = d} x) e = let h : d ≡ c = cc in subst (λ (k : Call). Asks limits l k) h x
   heard_asks (bad n) e = let z : ◌≡◌ {A = ℕ} 0 1 = cc in absurd (omega arith)
 
-  pub heard_bad : {r : Line} → Heard limits l r → r ≡ L.Bad → (c : Call) → Asks limits l c → ⊥
+  pub heard_bad : {r : Option Call} → Heard limits l r → r ≡ None → (c : Call) → Asks limits l c → ⊥
   heard_bad (asks x) e = let z : ◌≡◌ {A = ℕ} 0 1 = cc in absurd (omega arith)
   heard_bad (bad n) e = n
 
 -- any line may be taken as heard where the goal can be tested: it asks a call or none
-pub as_heard : (limits : Bool) (l : List ℕ) {P : Type 0} → Dec P → ((r : Line) → Heard limits l r → P) → P
-as_heard limits l d f = by_cases d (λ p. p) (λ k. absurd (k (f L.Bad (bad (λ c x. k (f (L.Asks c) (asks x)))))))
+pub as_heard : (limits : Bool) (l : List ℕ) {P : Type 0} → Dec P → ((r : Option Call) → Heard limits l r → P) → P
+as_heard limits l d f = by_cases d (λ p. p) (λ k. absurd (k (f None (bad (λ c x. k (f (Some c) (asks x)))))))

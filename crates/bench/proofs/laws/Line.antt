@@ -11,8 +11,7 @@ use Rattle.queue.specs.declared.Answer.{Answer}
 use Rattle.records.specs.Words.{QueueWords, words}
 use Rattle.delay_queue.specs.declared.Call.{Call}
 use Rattle.delay_queue.specs.Claims.{CallClaim}
-use Rattle.asking.specs.declared.Line.{Line}
-use Rattle.asking.specs.declared.Line.TheVariants as L
+use Rattle.std.specs.Prelude.{Option, Some, None}
 use Rattle.answering.specs.Text.{WriteClaim, BadClaim}
 use Rattle.asking.proofs.laws.Asking.{one_call}
 use Rattle.answering.proofs.laws.Answering.{within}
@@ -22,7 +21,7 @@ use Rattle.bench.proofs.laws.Hearing.{heard_asks, heard_bad}
 
 module _ {limits : Bool} {l o : List ℕ} {s : QueueWords} {at : ℕ} {o' : List ℕ} {end : ℕ} where
   -- the line was heard as a call
-  pub line_asks : {s' : QueueWords} {r : Line} (c : Call) → Heard limits l r → r ≡ L.Asks c → (a : Answer) → CallClaim c s a s'
+  pub line_asks : {s' : QueueWords} {r : Option Call} (c : Call) → Heard limits l r → r ≡ Some c → (a : Answer) → CallClaim c s a s'
       → WriteClaim a o at end o' → LineClaim limits l s o at s' o' end
   line_asks {s'} c H e a x w =
       let y : Asks limits l c = heard_asks H e in
@@ -38,7 +37,7 @@ line_heads {limits} {l} {o} {o'} {at} {end} {s'} w vs ds ns ps ts ms e C =
     subst (λ (h : List (List ℕ)). LineClaim limits l (words w h vs ds ns ps ts ms) o at s' o' end) e C
 
 -- it asks no call
-pub line_not : {limits : Bool} {l o o' : List ℕ} {at end : ℕ} {r : Line} {s : QueueWords} → Heard limits l r → r ≡ L.Bad → BadClaim o at end o'
+pub line_not : {limits : Bool} {l o o' : List ℕ} {at end : ℕ} {r : Option Call} {s : QueueWords} → Heard limits l r → r ≡ None → BadClaim o at end o'
     → LineClaim limits l s o at s o' end
 line_not H e x = record { asks = λ c z. absurd (heard_bad H e c z); bad = λ f. (refl, x) }
 

@@ -10,7 +10,8 @@ use Rattle.wheel.specs.Words.{wheel_words}
 use Rattle.queue.specs.declared.Answer.{Answer}
 use Rattle.records.specs.Words.{QueueWords, queue_words}
 use Rattle.promises.proofs.laws.OneCall.{call_once}
-use Rattle.asking.specs.declared.Line.{Line}
+use Rattle.std.specs.Prelude.{Option}
+use Rattle.delay_queue.specs.declared.Call.{Call}
 use Rattle.answering.specs.Text.{WriteClaim}
 use Rattle.answering.proofs.laws.Answering.{write_once}
 use Rattle.bench.specs.Line.{LineClaim}
@@ -18,7 +19,7 @@ use Rattle.bench.specs.Parts.{Heard, asks, bad}
 use Rattle.bench.proofs.laws.Hearing.{as_heard}
 
 -- r is what the line asks
-heard_once : {limits : Bool} {l o o' o'' : List ℕ} {s s' s'' : QueueWords} {at end end'' : ℕ} (r : Line) → Heard limits l r
+heard_once : {limits : Bool} {l o o' o'' : List ℕ} {s s' s'' : QueueWords} {at end end'' : ℕ} (r : Option Call) → Heard limits l r
     → LineClaim limits l s o at s' o' end → LineClaim limits l s o at s'' o'' end''
     → (s' ≡ s'') × (end ≡ end'') × (o' ≡ o'')
 heard_once {o = o} {o' = o'} {s = s} {s' = s'} {s'' = s''} {at = at} {end = end} r (asks {c = c} h) A B =

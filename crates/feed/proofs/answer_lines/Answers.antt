@@ -9,5 +9,5 @@ answer_parts-r-requires c =
 
 pub returns : goal.returns
 returns c =
-    rw (c.heads_of-h.ensures, c.wheel_of-after.ensures)
+    rw (c.heads_of.ensures, c.wheel_of.ensures)
     (feed_heads _ _ _ _ _ _ _ c.tops_in-tops.ensures c.heads_in-here.ensures c.answer_parts-r.ensures)

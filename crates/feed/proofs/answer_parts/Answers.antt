@@ -9,21 +9,21 @@ pub loop-line-init : goal.loop-line-init
 loop-line-init c =
     (reaches_none, c.requires)
 
-pub next_line-r-requires : goal.next_line-r-requires
-next_line-r-requires c =
+pub next_line-fed-requires : goal.next_line-fed-requires
+next_line-fed-requires c =
     c.loop-line.invariant.1
 
 pub loop-line-smaller : goal.loop-line-smaller
 loop-line-smaller c =
     let g = c.goes.ensures.yes c.loop-line-test.true in
-    omega (arith, g.0, next_forth g.0 c.next_line-r.ensures.does)
+    omega (arith, g.0, next_forth g.0 c.next_line-fed.ensures.does)
 
 pub loop-line-preserved : goal.loop-line-preserved
 loop-line-preserved c =
     let I = c.loop-line.invariant in
     let g = c.goes.ensures.yes c.loop-line-test.true in (
-      reaches_more I.0 g c.next_line-r.ensures.does,
-      c.next_line-r.ensures.tells,
+      reaches_more I.0 g c.next_line-fed.ensures.does,
+      c.next_line-fed.ensures.tells,
     )
 
 pub returns : goal.returns

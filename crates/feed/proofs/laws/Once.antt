@@ -10,7 +10,8 @@ use lib.ListN.{length, take}
 use Rattle.queue.specs.declared.Answer.{Answer}
 use Rattle.records.specs.Words.{QueueWords}
 use Rattle.promises.proofs.laws.OneCall.{call_once}
-use Rattle.asking.specs.declared.Line.{Line}
+use Rattle.std.specs.Prelude.{Option}
+use Rattle.delay_queue.specs.declared.Call.{Call}
 use Rattle.answering.specs.Text.{Written, word, shown, ending}
 use Rattle.answering.proofs.laws.Answering.{one_written}
 use Rattle.bench.specs.Line.{LineClaim}
@@ -61,7 +62,7 @@ last_once {l = l} a b =
 
 -- ---- answers to lines
 
-heard_reply : {limits : Bool} {l : List ℕ} {w w' w'' : QueueWords} {t u : List ℕ} (r : Line) → Heard limits l r → ReplyTo limits l w t w'
+heard_reply : {limits : Bool} {l : List ℕ} {w w' w'' : QueueWords} {t u : List ℕ} (r : Option Call) → Heard limits l r → ReplyTo limits l w t w'
     → ReplyTo limits l w u w''
     → (t ≡ u) × (w' ≡ w'')
 heard_reply {w = w} {w' = w'} {w'' = w''} {t = t} r (asks {c = c} h) a b =

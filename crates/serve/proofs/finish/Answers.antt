@@ -5,4 +5,4 @@ use Rattle.serve.proofs.finish.Goals as goal
 
 pub returns : goal.returns
 returns c =
-    closes_last (take c.args.run.kept c.args.line.now) (sym c.at_end.ensures ∙ c.if-not-at_end.false) (omega arith) c.answer_last-r.ensures
+    closes_last (take c.args.run.now.kept c.args.line.now) (sym c.at_end.ensures ∙ c.if-not-at_end.false) (omega arith) c.answer_last-r.ensures

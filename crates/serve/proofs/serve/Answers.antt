@@ -8,22 +8,16 @@ counted : {k n : ℕ} (xs : List ℕ) → k ≡ n → n ≤ length xs → k ≡ 
 counted {k} xs e h = simp length-take (omega arith)
 
 pub loop-bytes-init : goal.loop-bytes-init
-loop-bytes-init c = record { kept = omega arith; reads = reads_none }
+loop-bytes-init c = record { size = omega arith; reads = reads_none }
 
 pub loop-bytes-preserved : goal.loop-bytes-preserved
 loop-bytes-preserved c =
-    let I = c.loop-bytes.invariant in
-    let A = c.answer-run.ensures in
-    let size = counted c.more-got.new.buf c.count-k.ensures c.more-got.ensures.0.0 in
-    record { kept = A.kept_bound; reads = reads_more I.reads A.passes c.loop-bytes.auto.line size }
+    let size = counted c.more-got.new.buf c.count-k.ensures c.more-got.ensures.0 in
+    record { size = omega arith; reads = reads_more c.loop-bytes.invariant.reads c.answer.ensures (omega arith) size }
 
 pub returns-then-not-run : goal.returns-then-not-run
 returns-then-not-run c =
-    let I = c.loop-bytes.invariant in
-    let A = c.answer-run.ensures in
-    let size = counted c.more-got.new.buf c.count-k.ensures c.more-got.ensures.0.0 in
+    let size = counted c.more-got.new.buf c.count-k.ensures c.more-got.ensures.0 in
     let some : 0 < c.more-got.result.bytes = omega (arith, c.count-k.ensures, c.if-k-eq0.false) in
-    let short : length (take c.answer-run.result.kept c.answer-run.new.line) ≤ length c.args.line.now =
-    simp length-take (omega (arith, A.kept_bound, c.requires.1)) in
-    rw c.comes_to-then-not-run.ensures
-    (ran (reads_more I.reads A.passes c.loop-bytes.auto.line size) short (breaks_off (c.more-got.ensures.1 some)))
+    let short : length (take c.answer.new.run.kept c.answer.new.line) ≤ length c.args.line.now = simp length-take (omega arith) in
+    ran (reads_more c.loop-bytes.invariant.reads c.answer.ensures (omega arith) size) short (breaks_off (c.more-got.result.apart some))

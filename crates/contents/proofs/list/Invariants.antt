@@ -1,9 +1,0 @@
--- every step writes one record
-use Rattle.std.proofs.Common.{◌≤◌}
-use Rattle.contents.proofs.list.Given as goal
-
-abbrev pub invariant-loop-left : goal.invariant-loop-left
-invariant-loop-left l = l.left ≤ l.n
-
-abbrev pub decreases-loop-left : goal.decreases-loop-left
-decreases-loop-left l = l.left
