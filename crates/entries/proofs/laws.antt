@@ -1,4 +1,5 @@
 pub mod Writing
+pub mod Room
 pub mod Reading
 pub mod Inverse
 pub mod More

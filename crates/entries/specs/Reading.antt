@@ -1,10 +1,11 @@
 -- What bytes say: the step that they begin with, or why there is none.
 use Rattle.std.specs.Prelude.{◌≡◌, Bool, true, cond, ◌&&◌, ◌||◌, List, [], ◌∷◌, ℕ, ◌+◌, ◌*◌, ◌/◌, ◌%◌, ◌<◌, eqb, ltb, length, take, drop}
+use Rattle.std.specs.Prelude.{Result, Ok, Err}
 use Rattle.delay_queue.specs.declared.Call.TheVariants as C
+use Rattle.entries.specs.declared.Ending.{Ending}
+use Rattle.entries.specs.declared.Step.{Step}
 use Rattle.entries.specs.declared.Step.TheVariants as S
 use Rattle.entries.specs.declared.Ending.TheVariants as E
-use Rattle.entries.specs.declared.NextStep.{NextStep}
-use Rattle.entries.specs.declared.NextStep.TheVariants as X
 use Rattle.entries.specs.declared.Entry.{Entry}
 
 -- ---- bytes
@@ -50,37 +51,37 @@ unfoldable pub zeros : Entry → Bool
 zeros e = eqb e.spare 0 && field_zeros e.kind e.a e.b
 
 -- a bad kind is named before a 1 where zero is due, and both before what the entry says with others
-unfoldable pub checked : Entry → NextStep → NextStep
-checked e x = cond (known e.kind) (cond (zeros e) x (X.Ends E.Zero)) (X.Ends E.Kind)
+unfoldable pub checked : {A : Type 0} → Entry → Result A Ending → Result A Ending
+checked e x = cond (known e.kind) (cond (zeros e) x (Err E.Zero)) (Err E.Kind)
 
 -- ---- a step
 
 -- "A repeating insert is kind 9 (value, when) followed at once by kind 10 (period over 0, 0), one call together": of kind 9 and the entry
 -- behind it
-unfoldable pub pair_of : Entry → Entry → NextStep
-pair_of e p = cond (eqb p.kind 10 && ltb 0 p.a) (X.One (S.Asks (C.Insert e.a e.b p.a))) (X.Ends E.Pair)
+unfoldable pub pair_of : Entry → Entry → Result Step Ending
+pair_of e p = cond (eqb p.kind 10 && ltb 0 p.a) (Ok (S.Asks (C.Insert e.a e.b p.a))) (Err E.Pair)
 
 -- "A kind 9 that ends the file without its kind 10 is a cut", as what is left of an entry is
-unfoldable pub repeating : Entry → List ℕ → NextStep
-repeating e l = cond (ltb (length l) 18) (X.Ends E.Cut) (checked (entry_in l) (pair_of e (entry_in l)))
+unfoldable pub repeating : Entry → List ℕ → Result Step Ending
+repeating e l = cond (ltb (length l) 18) (Err E.Cut) (checked (entry_in l) (pair_of e (entry_in l)))
 
 -- the step of an entry, where l stands behind it. Kind 10 alone is "a broken pair"
-unfoldable pub step_of : Entry → List ℕ → NextStep
+unfoldable pub step_of : Entry → List ℕ → Result Step Ending
 step_of e l =
-    cond (eqb e.kind 1) (X.One (S.Asks (C.Format e.a e.b)))
-    (cond (eqb e.kind 2) (X.One (S.Asks (C.Insert e.a e.b 0)))
-    (cond (eqb e.kind 3) (X.One (S.Asks (C.Reset e.a e.b)))
-    (cond (eqb e.kind 4) (X.One (S.Asks (C.Remove e.a)))
-    (cond (eqb e.kind 5) (X.One (S.Asks (C.Poll e.a)))
-    (cond (eqb e.kind 6) (X.One (S.Asks C.Clear))
-    (cond (eqb e.kind 7) (X.One S.Open)
-    (cond (eqb e.kind 8) (X.One S.Close)
+    cond (eqb e.kind 1) (Ok (S.Asks (C.Format e.a e.b)))
+    (cond (eqb e.kind 2) (Ok (S.Asks (C.Insert e.a e.b 0)))
+    (cond (eqb e.kind 3) (Ok (S.Asks (C.Reset e.a e.b)))
+    (cond (eqb e.kind 4) (Ok (S.Asks (C.Remove e.a)))
+    (cond (eqb e.kind 5) (Ok (S.Asks (C.Poll e.a)))
+    (cond (eqb e.kind 6) (Ok (S.Asks C.Clear))
+    (cond (eqb e.kind 7) (Ok S.Open)
+    (cond (eqb e.kind 8) (Ok S.Close)
     (cond (eqb e.kind 9) (repeating e l)
-    (cond (eqb e.kind 11) (X.One (S.Asks (C.PollSome e.a e.b))) (X.Ends E.Pair))))))))))
+    (cond (eqb e.kind 11) (Ok (S.Asks (C.PollSome e.a e.b))) (Err E.Pair))))))))))
 
 -- what l begins with: fewer than 18 bytes are a cut, whatever they are
-unfoldable pub next : List ℕ → NextStep
-next l = cond (ltb (length l) 18) (X.Ends E.Cut) (checked (entry_in l) (step_of (entry_in l) (drop 18 l)))
+unfoldable pub next : List ℕ → Result Step Ending
+next l = cond (ltb (length l) 18) (Err E.Cut) (checked (entry_in l) (step_of (entry_in l) (drop 18 l)))
 
 -- ---- a cut
 

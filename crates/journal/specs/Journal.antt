@@ -9,8 +9,6 @@ use Rattle.delay_queue.specs.Claims.{CallClaim}
 use Rattle.entries.specs.declared.Step.{Step}
 use Rattle.entries.specs.declared.Step.TheVariants as S
 use Rattle.entries.specs.Entries.{step_bytes, Fit}
-use Rattle.writing.specs.Writing.{Wrote}
-use Rattle.entries.specs.Writing.{blank}
 
 -- ---- one step
 
@@ -43,11 +41,10 @@ unwritten (T.no n) = eqb n 1 || (eqb n 2 || eqb n 13)
 unfoldable pub written : Step → Told → List ℕ
 written x t = cond (unwritten t) [] (step_bytes x)
 
--- what `act` claims: the step is done, and its bytes are those to be written, `size` of them
-pub record ActClaim (p : Bool) (s : QueueWords) (x : Step) (a : Answer) (p' : Bool) (s' : QueueWords) (size : ℕ) (bytes : List ℕ)
-    : Type 0 where
+-- what `act` claims: the step is done, and its bytes are those to be written
+pub record ActClaim (p : Bool) (s : QueueWords) (x : Step) (a : Answer) (p' : Bool) (s' : QueueWords) (bytes : List ℕ) : Type 0 where
   pub acts : Acts p s x a p' s'
-  pub writes : Wrote blank 0 (written x (told a)) size bytes
+  pub writes : bytes ≡ written x (told a)
 
 -- ---- a run of steps
 

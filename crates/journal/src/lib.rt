@@ -5,23 +5,20 @@ ghost use Rattle.records.specs.Words.{words};
 ghost use Rattle.std.specs.Prelude.{◌≡◌, cond};
 ghost use Rattle.queue.specs.Told.{told};
 ghost use Rattle.queue.specs.Told as T;
-ghost use Rattle.writing.specs.Writing.{Wrote};
-ghost use Rattle.entries.specs.Writing.{blank};
 ghost use Rattle.journal.specs.Journal.{unwritten, written, ActClaim};
 
 use delay_queue::Heads;
 use entries::{Bytes, Step};
 use queue::Answer;
+use refusals::Refusal;
 use wheel::Wheel;
 
-// The answer, whether a patch is open, the bytes to be written, of which the first `size` count, and the state and the
-// heads after the step.
+// The answer, whether a patch is open, the bytes to be written, and the state and the heads after the step.
 #[derive(Clone, Copy)]
 pub struct Acted {
     pub answer: Answer,
     pub patch: bool,
-    pub size: usize,
-    pub bytes: [u8; 36],
+    pub bytes: Bytes,
     pub state: Wheel,
     pub heads: Heads,
 }
@@ -30,29 +27,12 @@ pub struct Acted {
 fn is_unwritten(answer: Answer) -> bool
     ensures { result ≡ unwritten (told answer) }
 {
-    match answer {
-        Answer::No(number) => match number {
-            1 => true,
-            2 => true,
-            13 => true,
-            _ => false,
-        },
-        Answer::Done => false,
-        Answer::Key(_k) => false,
-        Answer::Gone(_v, _d) => false,
-        Answer::Out(_k, _v, _d, _m, _n) => false,
-        Answer::Last(_k, _v, _d, _m, _n) => false,
-        Answer::Nothing(_m, _n) => false,
-        Answer::NotYet(_m, _n) => false,
-        Answer::Wake(_t) => false,
-        Answer::NoWake => false,
-        Answer::Length(_n) => false,
-    }
+    matches!(answer, Answer::No(1 | 2 | 13))
 }
 
 // The bytes of a step with its answer.
 pub fn note(step: Step, answer: Answer) -> Bytes
-    ensures { Wrote blank 0 (written step (told answer)) result.size result.bytes }
+    ensures { result ≡ written step (told answer) }
 {
     if is_unwritten(answer) {
         return entries::no_bytes();
@@ -65,7 +45,7 @@ pub fn patched(refused: bool) -> Answer
     ensures { told result ≡ cond refused (T.no 13) T.ok }
 {
     if refused {
-        return Answer::No(refusals::BAD_PATCH);
+        return Answer::No(Refusal::BadPatch as u64);
     }
     Answer::Done
 }
@@ -85,7 +65,7 @@ pub fn act(
 ) -> Acted
     ensures { ActClaim patch (words state heads values.old deadlines.old nexts.old prevs.old turns.old marks.old) step
         result.answer result.patch (words result.state result.heads.heads values.new deadlines.new nexts.new prevs.new turns.new marks.new)
-        result.size result.bytes }
+        result.bytes }
 {
     match step {
         Step::Asks(call) => {
@@ -93,48 +73,32 @@ pub fn act(
                 state, heads, values, deadlines, nexts, prevs, turns, marks, call,
             );
             let answer = r.answer;
-            let after = r.state;
-            let left = r.heads;
-            let noted = note(step, answer);
-            let size = noted.size;
-            let bytes = noted.bytes;
             Acted {
                 answer,
                 patch,
-                size,
-                bytes,
-                state: after,
-                heads: left,
+                bytes: note(step, answer),
+                state: r.state,
+                heads: r.heads,
             }
         }
         Step::Open => {
             let answer = patched(patch);
-            let noted = note(step, answer);
-            let size = noted.size;
-            let bytes = noted.bytes;
-            let left = delay_queue::heads_of(heads);
             Acted {
                 answer,
                 patch: true,
-                size,
-                bytes,
+                bytes: note(step, answer),
                 state,
-                heads: left,
+                heads: delay_queue::heads_of(heads),
             }
         }
         Step::Close => {
             let answer = patched(!patch);
-            let noted = note(step, answer);
-            let size = noted.size;
-            let bytes = noted.bytes;
-            let left = delay_queue::heads_of(heads);
             Acted {
                 answer,
                 patch: false,
-                size,
-                bytes,
+                bytes: note(step, answer),
                 state,
-                heads: left,
+                heads: delay_queue::heads_of(heads),
             }
         }
     }

@@ -17,7 +17,9 @@ use entries::Ending;
 use input::Got;
 use keeping::{Keeping, Synced};
 use recover::Seen;
+use restore::Restored;
 use std::env::Env;
+use std::fmt;
 use std::fs::{File, OpenFile, OpenOptions};
 use std::io::{Stdin, Write};
 use wheel::Wheel;
@@ -59,10 +61,7 @@ fn settle<'a>(file: Synced<'a>, notes: &[u8], noted: usize, out: &[u8], at: usiz
 fn goes(i: usize, len: usize, fine: bool) -> bool
     ensures { Tells ((i < len) × (fine ≡ true)) result }
 {
-    if len <= i {
-        return false;
-    }
-    fine
+    i < len && fine
 }
 
 // Does each line that ends in what was read, keeps what they write to the journal and answers them.
@@ -106,6 +105,7 @@ fn answer<'a>(
     let mut file = run.file;
     let mut fine = true;
     let mut i: usize = 0;
+    // no `for`: a call goes on where the one before it had no more room
     while goes(i, got.len(), fine) {
         let r = noting::answer_lines(
             got, i, line, n, patch, state, heads, values, deadlines, nexts, prevs, turns, marks,
@@ -113,10 +113,10 @@ fn answer<'a>(
         );
         i = r.next;
         n = r.kept;
-        patch = r.patch;
-        state = r.state;
-        heads = r.heads;
-        let k = settle(file, notes, r.noted, out, r.at);
+        patch = r.after.patch;
+        state = r.after.state;
+        heads = r.after.heads;
+        let k = settle(file, notes, r.after.noted, out, r.after.at);
         file = k.kept;
         fine = k.fine;
     }
@@ -165,15 +165,11 @@ fn finish<'a>(
         io::write_all(STDERR_FILENO, b"journaled: cannot read\n");
         return run;
     }
-    let n = run.kept;
-    let state = run.state;
-    let heads = run.heads;
-    let file = run.file;
     let r = noting::answer_last(
-        &line[..n],
+        &line[..run.kept],
         run.patch,
-        state,
-        heads,
+        run.state,
+        run.heads,
         values,
         deadlines,
         nexts,
@@ -183,55 +179,24 @@ fn finish<'a>(
         notes,
         out,
     );
-    let after = r.state;
-    let left = r.heads;
-    let k = settle(file, notes, r.noted, out, r.at);
-    let kept = k.kept;
+    let after = r.after;
+    let k = settle(run.file, notes, after.noted, out, after.at);
     Progress {
         kept: 0,
-        patch: r.patch,
-        state: after,
-        heads: left,
-        file: kept,
+        patch: after.patch,
+        state: after.state,
+        heads: after.heads,
+        file: k.kept,
         fine: k.fine,
     }
 }
 
-// How many bytes were read, what the last read gave, and what is held then.
+// How many bytes were read, what the last read gave, and how it stands then.
 #[derive(Clone, Copy)]
 struct Outcome<'a> {
     bytes: usize,
     last: Got,
-    patch: bool,
-    state: Wheel,
-    heads: Heads,
-    file: Synced<'a>,
-    fine: bool,
-}
-
-fn comes_to<'a>(bytes: usize, last: Got, run: Progress<'a>) -> Outcome<'a>
-    ensures { result ≡ record {
-      bytes = bytes;
-      last = last;
-      patch = run.entry.patch;
-      state = run.entry.state;
-      heads = run.entry.heads;
-      file = run.entry.file;
-      fine = run.entry.fine;
-    } }
-{
-    let state = run.state;
-    let heads = run.heads;
-    let file = run.file;
-    Outcome {
-        bytes,
-        last,
-        patch: run.patch,
-        state,
-        heads,
-        file,
-        fine: run.fine,
-    }
+    run: Progress<'a>,
 }
 
 // Reads until the input ends, cannot be read any more, or something could not be kept or answered. Where all went well,
@@ -252,7 +217,7 @@ fn serve<'a>(
 ) -> Outcome<'a>
     requires kept_bound { (start.kept ≤ 81) × (length line.old ≡ 81) }
     requires notes_len { (length notes.old ≡ 40000) × (length out.old ≡ 131072) }
-    ensures { result.fine ≡ true →
+    ensures { result.run.fine ≡ true →
         ProgramRan
         LineAnswered
         (length line.old)
@@ -264,13 +229,14 @@ fn serve<'a>(
         result.bytes
         result.last.ended
         (held
-        result.patch
-        (words result.state result.heads.heads values.new deadlines.new nexts.new prevs.new turns.new marks.new)
-        result.file.length) }
+        result.run.patch
+        (words result.run.state result.run.heads.heads values.new deadlines.new nexts.new prevs.new turns.new marks.new)
+        result.run.file.length) }
 {
     let mut buf = io::buffer();
     let mut run = start;
     let mut bytes: usize = 0;
+    // no `for`: what is counted are the bytes, and a read gives as many as come
     while bytes < 9223372036854775808 {
         let got = input::more(from, &mut buf);
         let k = input::count(got);
@@ -278,7 +244,11 @@ fn serve<'a>(
             let end = finish(
                 got, line, run, values, deadlines, nexts, prevs, turns, marks, notes, out,
             );
-            return comes_to(bytes, got, end);
+            return Outcome {
+                bytes,
+                last: got,
+                run: end,
+            };
         }
         run = answer(
             &buf[..k],
@@ -295,51 +265,18 @@ fn serve<'a>(
         );
         bytes += k;
         if !run.fine {
-            return comes_to(bytes, got, run);
+            return Outcome {
+                bytes,
+                last: got,
+                run,
+            };
         }
     }
-    comes_to(bytes, input::nothing(), run)
-}
-
-// Room for 65,535 records, with two words of values each. The contracts give the lengths alone, so that no proof meets
-// the zeros.
-fn pairs() -> [u64; 131070]
-    ensures { length result ≡ 131070 }
-{
-    [0; 131070]
-}
-
-fn words() -> [u64; 65535]
-    ensures { length result ≡ 65535 }
-{
-    [0; 65535]
-}
-
-fn numbers() -> [u16; 65535]
-    ensures { length result ≡ 65535 }
-{
-    [0; 65535]
-}
-
-fn line_space() -> [u8; 81]
-    ensures { length result ≡ 81 }
-{
-    [0; 81]
-}
-
-// What the lines of one read write to the journal has room in these, so that one sync is enough: 2 bytes of input, as a
-// clear, write 18.
-fn note_space() -> [u8; 40000]
-    ensures { length result ≡ 40000 }
-{
-    [0; 40000]
-}
-
-// And their answers: 4 bytes of input, as a poll, are answered with 114 at most.
-fn answer_space() -> [u8; 131072]
-    ensures { length result ≡ 131072 }
-{
-    [0; 131072]
+    Outcome {
+        bytes,
+        last: input::nothing(),
+        run,
+    }
 }
 
 // The file, for reading and writing, if it is there.
@@ -396,9 +333,8 @@ fn tell_damage(ending: Ending) {
 fn tell_found(seen: Seen) {
     tell_number(b"kept ", seen.kept as u64);
     end_line();
-    let ending = seen.ending;
-    if !recover::is_cut(ending) {
-        tell_damage(ending);
+    if !recover::is_cut(seen.ending) {
+        tell_damage(seen.ending);
         io::write_all(STDERR_FILENO, b" at ");
         io::print_decimal(STDERR_FILENO, seen.at as u64);
         end_line();
@@ -416,6 +352,7 @@ fn tell_found(seen: Seen) {
 fn copied(file: &File, from: usize, to: &mut File) -> bool {
     let mut buf = io::large_buffer();
     let mut at = from;
+    // no `for`: a read gives as many bytes as come
     loop {
         let got = input::more_from(file, at, &mut buf);
         let k = input::count(got);
@@ -449,66 +386,32 @@ fn saved(rt: &HostRuntime, file: &File, from: usize, name: &str) -> bool {
 
 // Whether what is not kept may be cut off: it was a cut, or what is damaged is saved.
 fn may_cut(rt: &HostRuntime, file: &File, seen: Seen, name: &str) -> bool {
-    let ending = seen.ending;
-    if recover::is_cut(ending) {
-        return true;
-    }
-    if saved(rt, file, seen.kept, name) {
-        return true;
-    }
-    tell(b"cannot save what is damaged\n");
-    false
+    recover::is_cut(seen.ending) || saved(rt, file, seen.kept, name)
 }
 
-// Whether the file may be cut to the length kept, and the store that it holds up to there.
-#[derive(Clone, Copy)]
-struct Start {
-    fine: bool,
-    kept: usize,
-    state: Wheel,
-    heads: Heads,
+// Why the program does not begin.
+#[derive(Drop)]
+enum Trouble {
+    CannotOpen,
+    CannotRead,
+    CannotSave,
+    CannotCut,
 }
 
-fn cannot_read() -> Start {
-    tell(b"cannot read the journal\n");
-    Start {
-        fine: false,
-        kept: 0,
-        state: delay_queue::no_store(),
-        heads: recover::no_heads(),
+// What is said of it.
+impl fmt::Display for Trouble {
+    fn fmt<W: fmt::Write>(&self, f: &mut fmt::Formatter<W>) -> fmt::Result {
+        f.write_str(match self {
+            Trouble::CannotOpen => "cannot open the file",
+            Trouble::CannotRead => "cannot read the journal",
+            Trouble::CannotSave => "cannot save what is damaged",
+            Trouble::CannotCut => "cannot cut the journal",
+        })
     }
 }
 
-// The store after the steps that are kept, where what is not may be cut off.
-fn applied(
-    rt: &HostRuntime,
-    file: &File,
-    seen: Seen,
-    name: &str,
-    values: &mut [u64],
-    deadlines: &mut [u64],
-    nexts: &mut [u16],
-    prevs: &mut [u16],
-    turns: &mut [u64],
-    marks: &mut [u16],
-) -> Start {
-    let kept = seen.kept;
-    let r = restore::apply_file(file, kept, values, deadlines, nexts, prevs, turns, marks);
-    if !r.fine {
-        return cannot_read();
-    }
-    let fine = may_cut(rt, file, seen, name);
-    let state = r.state;
-    let heads = r.heads;
-    Start {
-        fine,
-        kept,
-        state,
-        heads,
-    }
-}
-
-// Recovers the file and tells what was found.
+// Recovers the file and tells what was found: the length kept, and the store after the steps that are, where what is not
+// kept may be cut off.
 fn recovered(
     rt: &HostRuntime,
     file: &File,
@@ -519,27 +422,34 @@ fn recovered(
     prevs: &mut [u16],
     turns: &mut [u64],
     marks: &mut [u16],
-) -> Start {
+) -> Result<(usize, Restored), Trouble> {
     let s = restore::scan_file(file, values, deadlines, nexts, prevs, turns, marks);
     if !restore::is_whole(s) {
-        return cannot_read();
+        return Err(Trouble::CannotRead);
     }
     let seen = s.seen;
     tell_found(seen);
-    applied(
-        rt, file, seen, name, values, deadlines, nexts, prevs, turns, marks,
+    let found = restore::apply_file(
+        file, seen.kept, values, deadlines, nexts, prevs, turns, marks,
     )
+    .ok_or(Trouble::CannotRead)?;
+    if !may_cut(rt, file, seen, name) {
+        return Err(Trouble::CannotSave);
+    }
+    Ok((seen.kept, found))
 }
 
-// Answers standard input over the file.
-fn with_file(rt: &HostRuntime, file: &File, name: &str) {
-    let mut values = pairs();
-    let mut deadlines = words();
-    let mut nexts = numbers();
-    let mut prevs = numbers();
-    let mut turns = words();
-    let mut marks = numbers();
-    let found = recovered(
+// Answers standard input over the file. There is room for 65,535 records, with two words of values each. What the lines of
+// one read write to the journal has room in the notes, so that one sync is enough: 2 bytes of input, as a clear, write 18;
+// and their answers have room behind: 4 bytes of input, as a poll, are answered with 114 at most.
+fn with_file(rt: &HostRuntime, file: &File, name: &str) -> Result<(), Trouble> {
+    let mut values = [0; 131070];
+    let mut deadlines = [0; 65535];
+    let mut nexts = [0; 65535];
+    let mut prevs = [0; 65535];
+    let mut turns = [0; 65535];
+    let mut marks = [0; 65535];
+    let (kept, found) = recovered(
         rt,
         file,
         name,
@@ -549,28 +459,22 @@ fn with_file(rt: &HostRuntime, file: &File, name: &str) {
         &mut prevs,
         &mut turns,
         &mut marks,
-    );
-    if !found.fine {
-        return;
-    }
-    let k = keeping::cut(file, found.kept as u64);
+    )?;
+    let k = keeping::cut(file, kept as u64);
     if !k.fine {
-        tell(b"cannot cut the journal\n");
-        return;
+        return Err(Trouble::CannotCut);
     }
-    let state = found.state;
-    let heads = found.heads;
     let start = Progress {
         kept: 0,
         patch: false,
-        state,
-        heads,
+        state: found.state,
+        heads: found.heads,
         file: k.kept,
         fine: true,
     };
-    let mut line = line_space();
-    let mut notes = note_space();
-    let mut out = answer_space();
+    let mut line = [0; 81];
+    let mut notes = [0; 40000];
+    let mut out = [0; 131072];
     serve(
         &mut rt.stdin(),
         &mut line,
@@ -584,10 +488,13 @@ fn with_file(rt: &HostRuntime, file: &File, name: &str) {
         &mut notes,
         &mut out,
     );
+    Ok(())
 }
 
-fn cannot_open() {
-    tell(b"cannot open the file\n");
+// Opens the file of that name, and answers over it.
+fn run(rt: &HostRuntime, path: &str) -> Result<(), Trouble> {
+    let file = opened(rt, path).map_err(|_| Trouble::CannotOpen)?;
+    with_file(rt, &file, path)
 }
 
 // A name that is no text in UTF-8 is that of no file.
@@ -595,8 +502,7 @@ fn main(rt: HostRuntime) {
     let mut name = io::buffer();
     let n = rt.arg(1, &mut name).unwrap_or(0);
     let path = std::str::from_utf8(&name[..n]).unwrap_or("");
-    match opened(&rt, path) {
-        Ok(file) => with_file(&rt, &file, path),
-        Err(_) => cannot_open(),
+    if let Err(trouble) = run(&rt, path) {
+        let _ = eprintln!(rt; "journaled: {trouble}");
     }
 }

@@ -23,7 +23,7 @@ pub struct Synced<'a> {
     length: u64,
 }
 
-// Whether all went well, and what is kept then.
+// Whether all went well, and what is kept then. No Result: `KeepsFile.none` holds what is handed back where it failed, too.
 #[derive(Clone, Copy)]
 pub struct Keeping<'a> {
     pub fine: bool,
@@ -57,7 +57,8 @@ pub fn cut(file: &File, length: u64) -> Keeping<'_>
     Keeping { fine: true, kept }
 }
 
-// Writes the bytes to the file from at on, and says whether all of them are written. A short write is carried on.
+// Writes the bytes to the file from at on, and says whether all of them are written. A short write is carried on: of an Err std's write_all_at
+// does not say how much it wrote.
 fn write_at(file: &File, at: u64, bytes: &[u8]) -> bool
     requires { at + length bytes.now ≤ 9223372036854775807 }
 {

@@ -3,14 +3,14 @@
 #![tactic(auto)]
 
 ghost use Rattle.records.specs.Words.{words};
-ghost use Rattle.std.specs.Prelude.{◌≡◌, true, false, [], ◌∷◌, ◌+◌, ◌≤◌, ◌<◌, length};
+ghost use Rattle.std.specs.Prelude.{◌≡◌, [], ◌∷◌, ◌+◌, ◌≤◌, ◌<◌, length};
 ghost use Rattle.contracts.specs.Tells.{Tells};
 ghost use Rattle.noting.specs.Means.{SaidClaim};
 ghost use Rattle.noting.specs.Line.{desk, note_room, Fits, Does, LineClaim, NoteClaim, LastClaim};
 ghost use Rattle.noting.specs.Feed.{stand, NextLine, FeedClaim};
 
 use answering::{write_answer, write_bad};
-use asking::{Line, read_line};
+use asking::read_line;
 use delay_queue::Heads;
 use entries::Step;
 use wheel::Wheel;
@@ -18,32 +18,22 @@ use wheel::Wheel;
 // No step writes more bytes to the journal.
 pub const NOTE_ROOM: usize = 36;
 
-// What a line says.
-#[derive(Clone, Copy)]
-enum Said {
-    Is(Step),
-    Bad,
-}
-
 // Whether a patch is open, where what is noted ends, where the answers end, and the state and the heads after a line.
 #[derive(Clone, Copy)]
-struct LineDone {
-    patch: bool,
-    noted: usize,
-    at: usize,
-    state: Wheel,
-    heads: Heads,
-}
-
-// The same, and whether there was room: where there was none, nothing is done.
-#[derive(Clone, Copy)]
-pub struct Noted {
-    pub done: bool,
+pub struct After {
     pub patch: bool,
     pub noted: usize,
     pub at: usize,
     pub state: Wheel,
     pub heads: Heads,
+}
+
+// Whether there was room, and how it stands then: where there was none, nothing is done, and it stands as before, which is
+// promised too, so that this is no Option.
+#[derive(Clone, Copy)]
+pub struct Noted {
+    pub done: bool,
+    pub after: After,
 }
 
 // Where to go on in the chunk, how many bytes of an unfinished line are kept, and the rest as after a line.
@@ -51,14 +41,10 @@ pub struct Noted {
 pub struct Fed {
     pub next: usize,
     pub kept: usize,
-    pub patch: bool,
-    pub noted: usize,
-    pub at: usize,
-    pub state: Wheel,
-    pub heads: Heads,
+    pub after: After,
 }
 
-// Whether the line is that byte alone.
+// Whether the line is that byte alone. A pattern `[b'o']` in `step_in` tells its proof the length and not the byte.
 fn is_byte(line: &[u8], b: u8) -> bool
     ensures { Tells (line.now ≡ b ∷ []) result }
 {
@@ -68,21 +54,17 @@ fn is_byte(line: &[u8], b: u8) -> bool
     line[0] == b
 }
 
-// What a line says, which comes without its newline.
-fn step_in(line: &[u8]) -> Said
+// What a line says, which comes without its newline, if it says a step.
+fn step_in(line: &[u8]) -> Option<Step>
     ensures { SaidClaim line.now result }
 {
     if is_byte(line, b'o') {
-        return Said::Is(Step::Open);
+        return Some(Step::Open);
     }
     if is_byte(line, b'e') {
-        return Said::Is(Step::Close);
+        return Some(Step::Close);
     }
-    let asked = read_line(line);
-    match asked {
-        Line::Asks(call) => Said::Is(Step::Asks(call)),
-        Line::Bad => Said::Bad,
-    }
+    Some(Step::Asks(read_line(line)?))
 }
 
 // Does a step. Its bytes are noted behind the others, and its answer is written behind the others.
@@ -101,7 +83,7 @@ fn do_step(
     noted: usize,
     out: &mut [u8],
     at: usize,
-) -> LineDone
+) -> After
     requires { noted + note_room ≤ length notes.old }
     ensures { Does
         step
@@ -124,19 +106,14 @@ fn do_step(
     let r = journal::act(
         patch, state, grid, values, deadlines, nexts, prevs, turns, marks, step,
     );
-    let answer = r.answer;
-    let bytes = r.bytes;
-    let size = r.size;
-    let after = r.state;
-    let left = r.heads;
-    let behind = writing::push(notes, noted, &bytes[..size]);
-    let end = write_answer(out, at, answer);
-    LineDone {
+    let behind = writing::push(notes, noted, r.bytes.as_slice());
+    let end = write_answer(out, at, r.answer);
+    After {
         patch: r.patch,
         noted: behind,
         at: end,
-        state: after,
-        heads: left,
+        state: r.state,
+        heads: r.heads,
     }
 }
 
@@ -156,7 +133,7 @@ fn do_line(
     noted: usize,
     out: &mut [u8],
     at: usize,
-) -> LineDone
+) -> After
     requires { noted + note_room ≤ length notes.old }
     ensures { LineClaim
         line.now
@@ -175,22 +152,18 @@ fn do_line(
         out.new
         result.at) }
 {
-    let s = step_in(line);
-    match s {
-        Said::Is(step) => do_step(
+    match step_in(line) {
+        Some(step) => do_step(
             step, patch, state, heads, values, deadlines, nexts, prevs, turns, marks, notes, noted,
             out, at,
         ),
-        Said::Bad => {
-            let end = write_bad(out, at);
-            LineDone {
-                patch,
-                noted,
-                at: end,
-                state,
-                heads,
-            }
-        }
+        None => After {
+            patch,
+            noted,
+            at: write_bad(out, at),
+            state,
+            heads,
+        },
     }
 }
 
@@ -198,16 +171,7 @@ fn do_line(
 fn has_room(noted: usize, size: usize, at: usize, len: usize) -> bool
     ensures { Tells (Fits noted size at len) result }
 {
-    if size < noted {
-        return false;
-    }
-    if size - noted < NOTE_ROOM {
-        return false;
-    }
-    if len < at {
-        return false;
-    }
-    feed::ANSWER_ROOM <= len - at
+    NOTE_ROOM <= size.saturating_sub(noted) && feed::ANSWER_ROOM <= len.saturating_sub(at)
 }
 
 // Does the line, which comes without its newline: what it writes to the journal is noted from `noted` on, and its
@@ -240,37 +204,30 @@ pub fn answer_line(
         at)
         result.done
         (desk
-        result.patch
-        (words result.state result.heads.heads values.new deadlines.new nexts.new prevs.new turns.new marks.new)
+        result.after.patch
+        (words result.after.state result.after.heads.heads values.new deadlines.new nexts.new prevs.new turns.new marks.new)
         notes.new
-        result.noted
+        result.after.noted
         out.new
-        result.at) }
+        result.after.at) }
 {
     if !has_room(noted, notes.len(), at, out.len()) {
         return Noted {
             done: false,
-            patch,
-            noted,
-            at,
-            state,
-            heads,
+            after: After {
+                patch,
+                noted,
+                at,
+                state,
+                heads,
+            },
         };
     }
-    let r = do_line(
+    let after = do_line(
         line, patch, state, heads, values, deadlines, nexts, prevs, turns, marks, notes, noted,
         out, at,
     );
-    let after = r.state;
-    let left = r.heads;
-    Noted {
-        done: true,
-        patch: r.patch,
-        noted: r.noted,
-        at: r.at,
-        state: after,
-        heads: left,
-    }
+    Noted { done: true, after }
 }
 
 // Takes one line out of the chunk and does it, or keeps it where it does not end in the chunk.
@@ -312,19 +269,17 @@ fn next_line(
         line.new
         result.kept
         (desk
-        result.patch
-        (words result.state result.heads.heads values.new deadlines.new nexts.new prevs.new turns.new marks.new)
+        result.after.patch
+        (words result.after.state result.after.heads.heads values.new deadlines.new nexts.new prevs.new turns.new marks.new)
         notes.new
-        result.noted
+        result.after.noted
         out.new
-        result.at)) }
+        result.after.at)) }
 {
     let t = lines::take_line(got, from, line, n);
-    let next = t.next;
-    let k = t.kept;
     if t.ended {
-        let done = do_line(
-            &line[..k],
+        let after = do_line(
+            &line[..t.kept],
             patch,
             state,
             heads,
@@ -339,26 +294,22 @@ fn next_line(
             out,
             at,
         );
-        let after = done.state;
-        let left = done.heads;
         return Fed {
-            next,
+            next: t.next,
             kept: 0,
-            patch: done.patch,
-            noted: done.noted,
-            at: done.at,
-            state: after,
-            heads: left,
+            after,
         };
     }
     Fed {
-        next,
-        kept: k,
-        patch,
-        noted,
-        at,
-        state,
-        heads,
+        next: t.next,
+        kept: t.kept,
+        after: After {
+            patch,
+            noted,
+            at,
+            state,
+            heads,
+        },
     }
 }
 
@@ -366,10 +317,7 @@ fn next_line(
 fn goes(next: usize, len: usize, noted: usize, size: usize, at: usize, room: usize) -> bool
     ensures { Tells ((next < len) × Fits noted size at room) result }
 {
-    if len <= next {
-        return false;
-    }
-    has_room(noted, size, at, room)
+    next < len && has_room(noted, size, at, room)
 }
 
 // Does the lines of the chunk from `from` on, of whose first line n bytes are kept already: what they write to the
@@ -404,41 +352,51 @@ pub fn answer_lines(
         line.new
         result.kept
         (desk
-        result.patch
-        (words result.state result.heads.heads values.new deadlines.new nexts.new prevs.new turns.new marks.new)
+        result.after.patch
+        (words result.after.state result.after.heads.heads values.new deadlines.new nexts.new prevs.new turns.new marks.new)
         notes.new
-        result.noted
+        result.after.noted
         out.new
-        result.at)) }
+        result.after.at)) }
 {
     let mut i = from;
     let mut k = n;
-    let mut p = patch;
-    let mut noted: usize = 0;
-    let mut end: usize = 0;
-    let mut after = state;
-    let mut left = heads;
-    while goes(i, got.len(), noted, notes.len(), end, out.len()) {
+    let mut after = After {
+        patch,
+        noted: 0,
+        at: 0,
+        state,
+        heads,
+    };
+    // no `for`: where the next line begins, this one says
+    while goes(i, got.len(), after.noted, notes.len(), after.at, out.len()) {
         let r = next_line(
-            got, i, line, k, p, after, left, values, deadlines, nexts, prevs, turns, marks, notes,
-            noted, out, end,
+            got,
+            i,
+            line,
+            k,
+            after.patch,
+            after.state,
+            after.heads,
+            values,
+            deadlines,
+            nexts,
+            prevs,
+            turns,
+            marks,
+            notes,
+            after.noted,
+            out,
+            after.at,
         );
         i = r.next;
         k = r.kept;
-        p = r.patch;
-        noted = r.noted;
-        end = r.at;
-        after = r.state;
-        left = r.heads;
+        after = r.after;
     }
     Fed {
         next: i,
         kept: k,
-        patch: p,
-        noted,
-        at: end,
-        state: after,
-        heads: left,
+        after,
     }
 }
 
@@ -462,21 +420,23 @@ pub fn answer_last(
         (desk patch (words state heads.heads values.old deadlines.old nexts.old prevs.old turns.old marks.old) notes.old 0 out.old 0)
         result.done
         (desk
-        result.patch
-        (words result.state result.heads.heads values.new deadlines.new nexts.new prevs.new turns.new marks.new)
+        result.after.patch
+        (words result.after.state result.after.heads.heads values.new deadlines.new nexts.new prevs.new turns.new marks.new)
         notes.new
-        result.noted
+        result.after.noted
         out.new
-        result.at) }
+        result.after.at) }
 {
     if line.len() == 0 {
         return Noted {
             done: true,
-            patch,
-            noted: 0,
-            at: 0,
-            state,
-            heads,
+            after: After {
+                patch,
+                noted: 0,
+                at: 0,
+                state,
+                heads,
+            },
         };
     }
     answer_line(

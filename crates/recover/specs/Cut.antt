@@ -1,6 +1,6 @@
 -- Words of the promises on a journal that is cut or damaged: steps of a patch that is not closed, what is left of a step's bytes, and
 -- what replay recovers.
-use Rattle.std.specs.Prelude.{◌≡◌, ◌≢◌, Bool, true, false, List, [], ◌∷◌, ◌++◌, ℕ, ◌+◌, ◌<◌, length, take}
+use Rattle.std.specs.Prelude.{◌≡◌, ◌≢◌, Bool, true, false, List, [], ◌∷◌, ◌++◌, ℕ, ◌+◌, ◌<◌, length, take, Ok, Err}
 use Rattle.records.specs.Slices.{Slices, Fits}
 use Rattle.records.specs.Words.{QueueWords}
 use Rattle.delay_queue.specs.declared.Call.TheVariants as C
@@ -12,7 +12,6 @@ use Rattle.entries.specs.declared.Step.{Step}
 use Rattle.entries.specs.declared.Step.TheVariants as S
 use Rattle.entries.specs.declared.Ending.{Ending}
 use Rattle.entries.specs.declared.Ending.TheVariants as E
-use Rattle.entries.specs.declared.NextStep.TheVariants as X
 use Rattle.entries.specs.Entries.{Fit}
 use Rattle.entries.specs.Reading as read
 use Rattle.journal.specs.Journal.{Acts, unwritten, written, Noted, Journals}
@@ -95,8 +94,8 @@ pub data Keeps : List Noted → List Noted → Type 0 where
 
 -- why nothing more is read of l, with p saying whether a patch is open and the store s: there is no whole step, or it gets 1, 2 or 13
 pub data Stops (p : Bool) (s : QueueWords) (l : List ℕ) : Ending → Type 0 where
-  no_step : {e : Ending} → read.next l ≡ X.Ends e → Stops p s l e
-  refused : {x : Step} {a : Answer} {q : Bool} {t : QueueWords} {n : ℕ} → read.next l ≡ X.One x → Acts p s x a q t → told a ≡ T.no n
+  no_step : {e : Ending} → read.next l ≡ Err e → Stops p s l e
+  refused : {x : Step} {a : Answer} {q : Bool} {t : QueueWords} {n : ℕ} → read.next l ≡ Ok x → Acts p s x a q t → told a ≡ T.no n
       → unwritten (told a) ≡ true
       → Stops p s l (E.Gets n)
 

@@ -1,5 +1,5 @@
 -- What replay finds in bytes, and the store that it leaves, in document 02's words: for any bytes whatever.
-use Rattle.std.specs.Prelude.{◌≡◌, Bool, true, false, List, ℕ, ◌+◌, length, drop, replicate}
+use Rattle.std.specs.Prelude.{◌≡◌, Bool, true, false, List, ℕ, ◌+◌, length, drop, replicate, Ok, Err}
 use Rattle.links.specs.Lists.{nobody}
 use Rattle.places.specs.Heads.{tops_by}
 use Rattle.wheel.specs.declared.Wheel.{Wheel}
@@ -10,7 +10,6 @@ use Rattle.records.specs.Words.{QueueWords, words}
 use Rattle.entries.specs.declared.Step.{Step}
 use Rattle.entries.specs.declared.Ending.{Ending}
 use Rattle.entries.specs.declared.Ending.TheVariants as E
-use Rattle.entries.specs.declared.NextStep.TheVariants as X
 use Rattle.entries.specs.Entries.{step_bytes}
 use Rattle.entries.specs.Reading as read
 use Rattle.journal.specs.Journal.{Acts, unwritten}
@@ -48,20 +47,20 @@ size x = length (step_bytes x)
 -- no patch was open, and t the store there: "replay keeps all of them, or none if the close is missing"
 pub data Replays : List ℕ → ℕ → Bool → QueueWords → ℕ → QueueWords → Found → Type 0 where
   -- the bytes end, or "a bad kind, a 1 where zero is due, a broken pair": "it names the damage and answers as if cut there"
-  stops : {l : List ℕ} {at : ℕ} {p : Bool} {s : QueueWords} {kept : ℕ} {t : QueueWords} {e : Ending} → read.next l ≡ X.Ends e
+  stops : {l : List ℕ} {at : ℕ} {p : Bool} {s : QueueWords} {kept : ℕ} {t : QueueWords} {e : Ending} → read.next l ≡ Err e
       → Replays l at p s kept t (found kept at e t)
   -- "or a call that gets 1, 2 or 13"
   gets : {l : List ℕ} {at : ℕ} {p p' : Bool} {s s' : QueueWords} {kept : ℕ} {t : QueueWords} {x : Step} {a : Answer} {n : ℕ}
-      → read.next l ≡ X.One x → Acts p s x a p' s' → told a ≡ T.no n → unwritten (told a) ≡ true
+      → read.next l ≡ Ok x → Acts p s x a p' s' → told a ≡ T.no n → unwritten (told a) ≡ true
       → Replays l at p s kept t (found kept at (E.Gets n) t)
   -- a step of a patch that is not closed by it
   inside : {l : List ℕ} {at : ℕ} {p : Bool} {s s' : QueueWords} {kept : ℕ} {t : QueueWords} {x : Step} {a : Answer} {f : Found}
-      → read.next l ≡ X.One x → Acts p s x a true s' → unwritten (told a) ≡ false
+      → read.next l ≡ Ok x → Acts p s x a true s' → unwritten (told a) ≡ false
       → Replays (drop (size x) l) (at + size x) true s' kept t f
       → Replays l at p s kept t f
   -- a step outside a patch, or the close of one
   outside : {l : List ℕ} {at : ℕ} {p : Bool} {s s' : QueueWords} {kept : ℕ} {t : QueueWords} {x : Step} {a : Answer} {f : Found}
-      → read.next l ≡ X.One x → Acts p s x a false s' → unwritten (told a) ≡ false
+      → read.next l ≡ Ok x → Acts p s x a false s' → unwritten (told a) ≡ false
       → Replays (drop (size x) l) (at + size x) false s' (at + size x) s' f
       → Replays l at p s kept t f
 

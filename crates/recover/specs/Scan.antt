@@ -1,6 +1,7 @@
 -- How far bytes are read, chunk by chunk, without a store. Which step gets 1, 2 or 13 follows from the lengths of the slices, whether a store was made,
 -- and whether a patch is open.
-use Rattle.std.specs.Prelude.{◌≡◌, ◌≢◌, Bool, true, false, cond, ◌&&◌, List, ℕ, ◌+◌, ◌^◌, ◌≤◌, ◌<◌, ltb, length, drop}
+use Rattle.std.specs.Prelude.{◌≡◌, Bool, true, false, cond, ◌&&◌, List, ℕ, ◌+◌, ◌^◌, ◌≤◌, ◌<◌, ltb, length, drop}
+use Rattle.std.specs.Prelude.{Option, Some, None, Result, Ok, Err}
 use Rattle.records.specs.Slices.{Slices, Fits}
 use Rattle.delay_queue.specs.declared.Call.{Call}
 use Rattle.delay_queue.specs.declared.Call.TheVariants as C
@@ -9,29 +10,34 @@ use Rattle.entries.specs.declared.Step.{Step}
 use Rattle.entries.specs.declared.Step.TheVariants as S
 use Rattle.entries.specs.declared.Ending.{Ending}
 use Rattle.entries.specs.declared.Ending.TheVariants as E
-use Rattle.entries.specs.declared.NextStep.TheVariants as X
 use Rattle.entries.specs.Reading as read
 use Rattle.recover.specs.declared.Seen.{Seen}
 use Rattle.recover.specs.Replay.{size}
 
 -- ---- one step
 
--- 1 for a format that is refused with it, else 0
-pub data Short (fits : Type 0) : ℕ → Type 0 where
-  enough : fits → Short fits 0
-  short : (fits → ⊥) → Short fits 1
+-- 1 for a format that is refused with it
+pub data Short (fits : Type 0) : Option ℕ → Type 0 where
+  enough : fits → Short fits None
+  short : (fits → ⊥) → Short fits (Some 1)
 
--- "a call that gets 1, 2 or 13": the number of a step, 0 where it gets none of these
-pub data NumberOf (l : Slices) (live p : Bool) : Step → ℕ → Type 0 where
-  formats : {n turn r : ℕ} → Short (Fits l n) r → NumberOf l live p (S.Asks (C.Format n turn)) r
-  made : {c : Call} → is_format c ≡ false → live ≡ true → NumberOf l live p (S.Asks c) 0
-  no_store : {c : Call} → is_format c ≡ false → live ≡ false → NumberOf l live p (S.Asks c) 2
-  opens : p ≡ false → NumberOf l live p S.Open 0
-  opens_twice : p ≡ true → NumberOf l live p S.Open 13
-  closes : p ≡ true → NumberOf l live p S.Close 0
-  closes_none : p ≡ false → NumberOf l live p S.Close 13
+-- "a call that gets 1, 2 or 13": the number of a step, if it gets one of these
+pub data NumberOf (l : Slices) (live p : Bool) : Step → Option ℕ → Type 0 where
+  formats : {n turn : ℕ} {r : Option ℕ} → Short (Fits l n) r → NumberOf l live p (S.Asks (C.Format n turn)) r
+  made : {c : Call} → is_format c ≡ false → live ≡ true → NumberOf l live p (S.Asks c) None
+  no_store : {c : Call} → is_format c ≡ false → live ≡ false → NumberOf l live p (S.Asks c) (Some 2)
+  opens : p ≡ false → NumberOf l live p S.Open None
+  opens_twice : p ≡ true → NumberOf l live p S.Open (Some 13)
+  closes : p ≡ true → NumberOf l live p S.Close None
+  closes_none : p ≡ false → NumberOf l live p S.Close (Some 13)
 
--- there is a store after a step that has number 0: an accepted format makes one
+-- the step that l begins with, if it gets none of these, or why nothing more is read
+pub data Admits (z : Slices) (live p : Bool) (l : List ℕ) : Result Step Ending → Type 0 where
+  no_step : {e : Ending} → read.next l ≡ Err e → Admits z live p l (Err e)
+  refused : {x : Step} {n : ℕ} → read.next l ≡ Ok x → NumberOf z live p x (Some n) → Admits z live p l (Err (E.Gets n))
+  step : {x : Step} → read.next l ≡ Ok x → NumberOf z live p x None → Admits z live p l (Ok x)
+
+-- there is a store after a step that has no such number: an accepted format makes one
 abbrev pub live_after : Bool → Step → Bool
 live_after live (S.Asks (C.Format n turn)) = cond (ltb 0 turn && ltb turn (2 ^ 48)) true live
 live_after live (S.Asks (C.Insert value when period)) = live
@@ -88,10 +94,10 @@ is_cut (E.Gets n) = false
 
 -- l stands from s.at on: its steps are read one after the other, up to where there is none, or one gets 1, 2 or 13
 pub data Scans (z : Slices) : List ℕ → Seen → Seen → Type 0 where
-  stops : {l : List ℕ} {s : Seen} {e : Ending} → read.next l ≡ X.Ends e → Scans z l s (stopped_by e s)
-  gets : {l : List ℕ} {s : Seen} {x : Step} {n : ℕ} → read.next l ≡ X.One x → NumberOf z s.live s.patch x n → n ≢ 0
+  stops : {l : List ℕ} {s : Seen} {e : Ending} → read.next l ≡ Err e → Scans z l s (stopped_by e s)
+  gets : {l : List ℕ} {s : Seen} {x : Step} {n : ℕ} → read.next l ≡ Ok x → NumberOf z s.live s.patch x (Some n)
       → Scans z l s (stopped_by (E.Gets n) s)
-  goes : {l : List ℕ} {s s' : Seen} {x : Step} → read.next l ≡ X.One x → NumberOf z s.live s.patch x 0
+  goes : {l : List ℕ} {s s' : Seen} {x : Step} → read.next l ≡ Ok x → NumberOf z s.live s.patch x None
       → Scans z (drop (size x) l) (behind x s) s'
       → Scans z l s s'
 

@@ -2,17 +2,18 @@
 // chunks: `scan` goes over them first and says how far they are kept; `apply` goes over those that are kept.
 #![tactic(auto)]
 
-ghost use Rattle.std.specs.Prelude.{◌≡◌, cond, ◌+◌, ◌^◌, ◌≤◌, ◌<◌};
+ghost use Rattle.std.specs.Prelude.{◌≡◌, ◌+◌, ◌^◌, ◌≤◌, ◌<◌, drop};
 ghost use Rattle.contracts.specs.Tells.{Tells};
 ghost use Rattle.records.specs.Slices.{slices_of, Fits};
 ghost use Rattle.records.specs.Words.{words, parts, holding, Sound};
 ghost use Rattle.recover.specs.Replay.{no_heads, without_store, found, size, ReplayClaim};
-ghost use Rattle.recover.specs.Scan.{Short, NumberOf, live_after, open_after, calls_of, at_start, is_cut, ScanClaim};
+ghost use Rattle.recover.specs.Scan.{Short, NumberOf, Admits, live_after, open_after, calls_of, at_start, behind, is_cut, ScanClaim};
 ghost use Rattle.recover.specs.Apply.{Applies};
 ghost use Rattle.recover.specs.Parts.{MakesKnown};
 
 use delay_queue::{Call, Heads};
-use entries::{Ending, NextStep, Step};
+use entries::{Ending, Step};
+use refusals::Refusal;
 use wheel::Wheel;
 
 // The length kept, where reading stopped and why, and the state and the heads of the store.
@@ -64,40 +65,21 @@ pub struct AppliedParts {
     pub until: u64,
 }
 
-// How many bytes a call has.
-fn call_size(call: Call) -> usize
-    ensures { result ≡ size (Step.Asks call) }
-{
-    match call {
-        Call::Format(_n, _turn) => 18,
-        Call::Insert(_value, _when, period) => {
-            if period == 0 {
-                return 18;
-            }
-            36
-        }
-        Call::Reset(_key, _when) => 18,
-        Call::Remove(_key) => 18,
-        Call::Poll(_time) => 18,
-        Call::PollSome(_time, _limit) => 18,
-        Call::Wake => 0,
-        Call::Length => 0,
-        Call::Clear => 18,
-    }
-}
-
 // How many bytes a step has.
 fn size_of(step: Step) -> usize
     ensures { result ≡ size step }
 {
-    match step {
-        Step::Asks(call) => call_size(call),
-        Step::Open => 18,
-        Step::Close => 18,
+    let Step::Asks(call) = step else {
+        return 18;
+    };
+    match call {
+        Call::Insert(_, _, period) => if period == 0 { 18 } else { 36 },
+        Call::Wake | Call::Length => 0,
+        _ => 18,
     }
 }
 
-// 1 for a format that is refused with it, else 0.
+// 1 for a format that is refused with it.
 fn format_number(
     n: u64,
     values: &[u64],
@@ -106,32 +88,19 @@ fn format_number(
     prevs: &[u16],
     turns: &[u64],
     marks: &[u16],
-) -> u64
+) -> Option<u64>
     ensures { Short (Fits (slices_of values.now deadlines.now nexts.now prevs.now turns.now marks.now) n) result }
 {
-    if n == 0 {
-        return refusals::NO_ROOM;
-    }
-    if (records::LIMIT as u64) < n {
-        return refusals::NO_ROOM;
+    if n == 0 || (records::LIMIT as u64) < n {
+        return Some(Refusal::NoRoom as u64);
     }
     if !records::has_room(n as u16, values, deadlines, nexts, prevs, turns, marks) {
-        return refusals::NO_ROOM;
+        return Some(Refusal::NoRoom as u64);
     }
-    0
+    None
 }
 
-// x where it is so, else y.
-fn choose(so: bool, x: u64, y: u64) -> u64
-    ensures { result ≡ cond so x y }
-{
-    if so {
-        return x;
-    }
-    y
-}
-
-// The number of a step, if it is 1, 2 or 13, else 0.
+// The number of a step, if it is 1, 2 or 13.
 fn number_of(
     step: Step,
     live: bool,
@@ -142,7 +111,7 @@ fn number_of(
     prevs: &[u16],
     turns: &[u64],
     marks: &[u16],
-) -> u64
+) -> Option<u64>
     ensures { NumberOf (slices_of values.now deadlines.now nexts.now prevs.now turns.now marks.now) live patch step result }
 {
     match step {
@@ -150,17 +119,10 @@ fn number_of(
             Call::Format(n, _turn) => format_number(
                 n, values, deadlines, nexts, prevs, turns, marks,
             ),
-            Call::Insert(_value, _when, _period) => choose(live, 0, 2),
-            Call::Reset(_key, _when) => choose(live, 0, 2),
-            Call::Remove(_key) => choose(live, 0, 2),
-            Call::Poll(_time) => choose(live, 0, 2),
-            Call::PollSome(_time, _limit) => choose(live, 0, 2),
-            Call::Wake => choose(live, 0, 2),
-            Call::Length => choose(live, 0, 2),
-            Call::Clear => choose(live, 0, 2),
+            _ => (!live).then_some(2),
         },
-        Step::Open => choose(patch, 13, 0),
-        Step::Close => choose(patch, 0, 13),
+        Step::Open => patch.then_some(13),
+        Step::Close => (!patch).then_some(13),
     }
 }
 
@@ -170,26 +132,10 @@ fn lives(live: bool, step: Step) -> bool
 {
     match step {
         Step::Asks(call) => match call {
-            Call::Format(_n, turn) => {
-                if turn == 0 {
-                    return live;
-                }
-                if records::LAST_TURN < turn {
-                    return live;
-                }
-                true
-            }
-            Call::Insert(_value, _when, _period) => live,
-            Call::Reset(_key, _when) => live,
-            Call::Remove(_key) => live,
-            Call::Poll(_time) => live,
-            Call::PollSome(_time, _limit) => live,
-            Call::Wake => live,
-            Call::Length => live,
-            Call::Clear => live,
+            Call::Format(_, turn) => live || turn != 0 && turn <= records::LAST_TURN,
+            _ => live,
         },
-        Step::Open => live,
-        Step::Close => live,
+        _ => live,
     }
 }
 
@@ -198,7 +144,7 @@ fn opens(patch: bool, step: Step) -> bool
     ensures { result ≡ open_after patch step }
 {
     match step {
-        Step::Asks(_call) => patch,
+        Step::Asks(_) => patch,
         Step::Open => true,
         Step::Close => false,
     }
@@ -210,22 +156,39 @@ fn calls_of(step: Step) -> usize
     ensures upper_bound { result ≤ 1 }
 {
     match step {
-        Step::Asks(_call) => 1,
+        Step::Asks(_) => 1,
         Step::Open => 0,
         Step::Close => 0,
     }
 }
 
-// How many calls of a patch that is not closed were read, a step more, behind which `patch` says whether it is open.
-fn left_after(left: usize, patch: bool, step: Step) -> usize
-    requires { left + 1 < 2 ^ 64 }
-    ensures { result ≡ cond patch (left + calls_of step) 0 }
+// How far a journal was read, a step more: where no patch is open behind it, all is kept.
+fn behind(step: Step, seen: Seen) -> Seen
+    requires { (seen.at + size step < 2 ^ 64) × (seen.left + 1 < 2 ^ 64) }
+    ensures { result ≡ behind step seen }
 {
-    let n = calls_of(step);
+    let at = seen.at + size_of(step);
+    let live = lives(seen.live, step);
+    let patch = opens(seen.patch, step);
+    let ending = Ending::Cut;
     if patch {
-        return left + n;
+        return Seen {
+            kept: seen.kept,
+            at,
+            left: seen.left + calls_of(step),
+            live,
+            patch,
+            ending,
+        };
     }
-    0
+    Seen {
+        kept: at,
+        at,
+        left: 0,
+        live,
+        patch,
+        ending,
+    }
 }
 
 // Before anything is read.
@@ -246,12 +209,30 @@ pub fn unread() -> Seen
 pub fn is_cut(ending: Ending) -> bool
     ensures { result ≡ is_cut ending }
 {
-    match ending {
-        Ending::Cut => true,
-        Ending::Kind => false,
-        Ending::Zero => false,
-        Ending::Pair => false,
-        Ending::Gets(_number) => false,
+    matches!(ending, Ending::Cut)
+}
+
+// The step that the bytes from at on begin with, if it gets none of 1, 2 and 13.
+fn admitted(
+    bytes: &[u8],
+    at: usize,
+    live: bool,
+    patch: bool,
+    values: &[u64],
+    deadlines: &[u64],
+    nexts: &[u16],
+    prevs: &[u16],
+    turns: &[u64],
+    marks: &[u16],
+) -> Result<Step, Ending>
+    ensures { Admits (slices_of values.now deadlines.now nexts.now prevs.now turns.now marks.now) live patch (drop at bytes.now) result }
+{
+    let step = entries::read_step(bytes, at)?;
+    match number_of(
+        step, live, patch, values, deadlines, nexts, prevs, turns, marks,
+    ) {
+        Some(number) => Err(Ending::Gets(number)),
+        None => Ok(step),
     }
 }
 
@@ -269,57 +250,20 @@ pub fn scan(
 ) -> Seen
     ensures { ScanClaim (slices_of values.now deadlines.now nexts.now prevs.now turns.now marks.now) bytes.now seen result }
 {
-    let ending = seen.ending;
-    if !is_cut(ending) {
+    if !is_cut(seen.ending) {
         return seen;
     }
-    let start = seen.at;
-    if usize::MAX - start < bytes.len() {
+    if usize::MAX - seen.at < bytes.len() || seen.at < seen.left {
         return seen;
     }
-    if start < seen.left {
-        return seen;
-    }
-    let mut i: usize = 0;
-    let mut kept = seen.kept;
-    let mut left = seen.left;
-    let mut live = seen.live;
-    let mut patch = seen.patch;
+    let mut now = seen;
     loop {
-        let n = entries::read_step(bytes, i);
-        match n {
-            NextStep::Ends(e) => {
-                return Seen {
-                    kept,
-                    at: start + i,
-                    left,
-                    live,
-                    patch,
-                    ending: e,
-                };
-            }
-            NextStep::One(step) => {
-                let number = number_of(
-                    step, live, patch, values, deadlines, nexts, prevs, turns, marks,
-                );
-                if number != 0 {
-                    return Seen {
-                        kept,
-                        at: start + i,
-                        left,
-                        live,
-                        patch,
-                        ending: Ending::Gets(number),
-                    };
-                }
-                live = lives(live, step);
-                patch = opens(patch, step);
-                left = left_after(left, patch, step);
-                i += size_of(step);
-                if !patch {
-                    kept = start + i;
-                }
-            }
+        let i = now.at - seen.at;
+        match admitted(
+            bytes, i, now.live, now.patch, values, deadlines, nexts, prevs, turns, marks,
+        ) {
+            Err(ending) => return Seen { ending, ..now },
+            Ok(step) => now = behind(step, now),
         }
     }
 }
@@ -376,13 +320,7 @@ fn one(
                 sound: said.sound,
             }
         }
-        Step::Open => Held {
-            elapsed,
-            hand,
-            until,
-            sound,
-        },
-        Step::Close => Held {
+        Step::Open | Step::Close => Held {
             elapsed,
             hand,
             until,
@@ -420,29 +358,22 @@ pub fn apply_parts(
     let mut h = hand;
     let mut u = until;
     let mut fine = sound;
-    loop {
-        let n = entries::read_step(bytes, used);
-        match n {
-            NextStep::Ends(_e) => {
-                return AppliedParts {
-                    used,
-                    elapsed: e,
-                    hand: h,
-                    until: u,
-                };
-            }
-            NextStep::One(step) => {
-                let r = one(
-                    step, fine, e, occupied, tops, heads, values, deadlines, nexts, prevs, turns,
-                    marks, h, u,
-                );
-                e = r.elapsed;
-                h = r.hand;
-                u = r.until;
-                fine = r.sound;
-                used += size_of(step);
-            }
-        }
+    while let Ok(step) = entries::read_step(bytes, used) {
+        let r = one(
+            step, fine, e, occupied, tops, heads, values, deadlines, nexts, prevs, turns, marks, h,
+            u,
+        );
+        e = r.elapsed;
+        h = r.hand;
+        u = r.until;
+        fine = r.sound;
+        used += size_of(step);
+    }
+    AppliedParts {
+        used,
+        elapsed: e,
+        hand: h,
+        until: u,
     }
 }
 
@@ -515,13 +446,10 @@ pub fn replay(
 {
     let start = unread();
     let s = scan(start, bytes, values, deadlines, nexts, prevs, turns, marks);
-    let kept = s.kept;
-    let at = s.at;
-    let ending = s.ending;
     let none = delay_queue::no_store();
     let heads = no_heads();
     let r = apply(
-        &bytes[..kept],
+        &bytes[..s.kept],
         none,
         heads,
         values,
@@ -531,13 +459,11 @@ pub fn replay(
         turns,
         marks,
     );
-    let state = r.state;
-    let left = r.heads;
     Recovered {
-        kept,
-        at,
-        ending,
-        state,
-        heads: left,
+        kept: s.kept,
+        at: s.at,
+        ending: s.ending,
+        state: r.state,
+        heads: r.heads,
     }
 }

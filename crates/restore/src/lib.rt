@@ -4,7 +4,7 @@
 #![tactic(auto)]
 
 ghost use Rattle.records.specs.Words.{words};
-ghost use Rattle.std.specs.Prelude.{◌≡◌, true, ◌≤◌, ◌<◌};
+ghost use Rattle.std.specs.Prelude.{◌≡◌, true, ◌<◌, IfSome};
 ghost use Rattle.records.specs.Slices.{slices_of};
 ghost use Rattle.recover.specs.Replay.{without_store};
 ghost use Rattle.recover.specs.Scan.{is_cut};
@@ -40,6 +40,7 @@ pub fn scan_file(
     let mut buf = io::large_buffer();
     let mut seen = recover::unread();
     let mut at = seen.at;
+    // no `for`: how far a chunk brings the scan, the scan says
     loop {
         let got = input::more_from(file, at, &mut buf);
         let k = input::count(got);
@@ -53,7 +54,6 @@ pub fn scan_file(
             turns,
             marks,
         );
-        let next = seen.at;
         if !goes_on(seen, at) {
             let last = input::more_from(file, at + k, &mut buf);
             return Scanned {
@@ -62,7 +62,7 @@ pub fn scan_file(
                 last,
             };
         }
-        at = next;
+        at = seen.at;
     }
 }
 
@@ -70,44 +70,24 @@ pub fn scan_file(
 fn goes_on(seen: Seen, at: usize) -> bool
     ensures { result ≡ true → (at < seen.at) × (is_cut seen.ending ≡ true) }
 {
-    let ending = seen.ending;
-    if !recover::is_cut(ending) {
-        return false;
-    }
-    at < seen.at
+    recover::is_cut(seen.ending) && at < seen.at
 }
 
 // Whether the scan saw all of the file: it has ended behind what was seen, or damage was found before.
 pub fn is_whole(scanned: Scanned) -> bool
     ensures { result ≡ is_whole scanned }
 {
-    let seen = scanned.seen;
-    let ending = seen.ending;
-    if !recover::is_cut(ending) {
-        return true;
-    }
-    let last = scanned.last;
-    input::at_end(last)
+    !recover::is_cut(scanned.seen.ending) || input::at_end(scanned.last)
 }
 
-// Whether all that is kept was applied, and the state and the heads of the store then.
+// The state and the heads of the store after all that is kept.
 #[derive(Clone, Copy)]
 pub struct Restored {
-    pub fine: bool,
     pub state: Wheel,
     pub heads: Heads,
 }
 
-fn least(a: usize, b: usize) -> usize
-    ensures { (result ≤ a) × (result ≤ b) }
-{
-    if a < b {
-        return a;
-    }
-    b
-}
-
-// Reads the first `kept` bytes of the file again, and asks their steps of no store.
+// Reads the first `kept` bytes of the file again, and asks their steps of no store. There is none where they cannot be read.
 pub fn apply_file(
     file: &File,
     kept: usize,
@@ -117,18 +97,18 @@ pub fn apply_file(
     prevs: &mut [u16],
     turns: &mut [u64],
     marks: &mut [u16],
-) -> Restored
-    ensures { result.fine ≡ true
-        → AppliedSo kept (without_store values.old deadlines.old nexts.old prevs.old turns.old marks.old)
-        (words result.state result.heads.heads values.new deadlines.new nexts.new prevs.new turns.new marks.new) }
+) -> Option<Restored>
+    ensures { IfSome result (λ r. AppliedSo kept (without_store values.old deadlines.old nexts.old prevs.old turns.old marks.old)
+        (words r.state r.heads.heads values.new deadlines.new nexts.new prevs.new turns.new marks.new)) }
 {
     let mut buf = io::large_buffer();
     let mut at: usize = 0;
     let mut state = delay_queue::no_store();
     let mut heads = recover::no_heads();
+    // no `for`: how many bytes of a chunk are used, `apply` says
     while at < kept {
         let got = input::more_from(file, at, &mut buf);
-        let k = least(input::count(got), kept - at);
+        let k = input::count(got).min(kept - at);
         let r = recover::apply(
             &buf[..k],
             state,
@@ -140,21 +120,12 @@ pub fn apply_file(
             turns,
             marks,
         );
-        let used = r.used;
+        if r.used == 0 {
+            return None;
+        }
         state = r.state;
         heads = r.heads;
-        if used == 0 {
-            return Restored {
-                fine: false,
-                state,
-                heads,
-            };
-        }
-        at += used;
+        at += r.used;
     }
-    Restored {
-        fine: true,
-        state,
-        heads,
-    }
+    Some(Restored { state, heads })
 }

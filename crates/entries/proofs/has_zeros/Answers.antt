@@ -8,7 +8,7 @@ unfolding zeros
 returns-then-e-eq0 c =
     simp (eq-eqb c.args.e.spare 0 c.if-e-eq0.true) c.has_field_zeros.ensures
 
-pub returns : goal.returns
+pub returns-else-e-eq0 : goal.returns-else-e-eq0
 unfolding zeros
-returns c =
+returns-else-e-eq0 c =
     simp (ne_eqb c.args.e.spare 0 c.if-e-eq0.false)

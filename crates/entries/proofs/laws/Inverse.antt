@@ -7,13 +7,12 @@ use Prim.Native.Nat.{ℕ, ◌≤◌, ◌<◌}
 use native.Mathlib.Decide.{ℕ_discrete, dec_lt}
 use native.Mathlib.Omega.{arith}
 use lib.ListN.{length, drop, length-drop}
+use Rattle.std.proofs.Common.{Result, Ok, Err}
 use Rattle.delay_queue.specs.declared.Call.TheVariants as C
 use Rattle.entries.specs.declared.Step.{Step}
 use Rattle.entries.specs.declared.Step.TheVariants as S
 use Rattle.entries.specs.declared.Ending.{Ending}
 use Rattle.entries.specs.declared.Ending.TheVariants as E
-use Rattle.entries.specs.declared.NextStep.{NextStep}
-use Rattle.entries.specs.declared.NextStep.TheVariants as X
 use Rattle.entries.specs.declared.Entry.{Entry}
 use Rattle.entries.specs.Entries.{step_bytes}
 use Rattle.entries.specs.Reading.{entry_in, known, zeros, checked, pair_of, step_of, next, Unfinished, part, half}
@@ -35,39 +34,39 @@ pair_damage : Damage E.Pair
 pair_damage e = let n : ◌≡◌ {A = ℕ} 0 1 = cc in omega arith
 
 -- an entry shows damage by itself, or it is x
-data CheckedIs (e : Entry) (x : NextStep) : NextStep → Type 0 where
+data CheckedIs (e : Entry) (x : Result Step Ending) : Result Step Ending → Type 0 where
   fine : zeros e ≡ true → CheckedIs e x x
-  spoilt : {d : Ending} → Damage d → CheckedIs e x (X.Ends d)
+  spoilt : {d : Ending} → Damage d → CheckedIs e x (Err d)
 
-checked_is : (e : Entry) (x : NextStep) → CheckedIs e x (checked e x)
+checked_is : (e : Entry) (x : Result Step Ending) → CheckedIs e x (checked e x)
 unfolding checked
 checked_is e x = by (known e.kind) (zeros e) refl
   where
-    by : (k z : Bool) → zeros e ≡ z → CheckedIs e x (cond k (cond z x (X.Ends E.Zero)) (X.Ends E.Kind))
+    by : (k z : Bool) → zeros e ≡ z → CheckedIs e x (cond k (cond z x (Err E.Zero)) (Err E.Kind))
     by true true q = fine q
     by true false q = spoilt zero_damage
     by false z q = spoilt kind_damage
 
 -- ---- what an entry says where l stands behind it
 
-pub data StepIs (e : Entry) (l : List ℕ) : NextStep → Type 0 where
-  format : e.kind ≡ 1 → StepIs e l (X.One (S.Asks (C.Format e.a e.b)))
-  insert : e.kind ≡ 2 → StepIs e l (X.One (S.Asks (C.Insert e.a e.b 0)))
-  reset : e.kind ≡ 3 → StepIs e l (X.One (S.Asks (C.Reset e.a e.b)))
-  remove : e.kind ≡ 4 → StepIs e l (X.One (S.Asks (C.Remove e.a)))
-  poll : e.kind ≡ 5 → StepIs e l (X.One (S.Asks (C.Poll e.a)))
-  poll_some : e.kind ≡ 11 → StepIs e l (X.One (S.Asks (C.PollSome e.a e.b)))
-  clear : e.kind ≡ 6 → StepIs e l (X.One (S.Asks C.Clear))
-  opens : e.kind ≡ 7 → StepIs e l (X.One S.Open)
-  closes : e.kind ≡ 8 → StepIs e l (X.One S.Close)
+pub data StepIs (e : Entry) (l : List ℕ) : Result Step Ending → Type 0 where
+  format : e.kind ≡ 1 → StepIs e l (Ok (S.Asks (C.Format e.a e.b)))
+  insert : e.kind ≡ 2 → StepIs e l (Ok (S.Asks (C.Insert e.a e.b 0)))
+  reset : e.kind ≡ 3 → StepIs e l (Ok (S.Asks (C.Reset e.a e.b)))
+  remove : e.kind ≡ 4 → StepIs e l (Ok (S.Asks (C.Remove e.a)))
+  poll : e.kind ≡ 5 → StepIs e l (Ok (S.Asks (C.Poll e.a)))
+  poll_some : e.kind ≡ 11 → StepIs e l (Ok (S.Asks (C.PollSome e.a e.b)))
+  clear : e.kind ≡ 6 → StepIs e l (Ok (S.Asks C.Clear))
+  opens : e.kind ≡ 7 → StepIs e l (Ok S.Open)
+  closes : e.kind ≡ 8 → StepIs e l (Ok S.Close)
   pair : e.kind ≡ 9 → 18 ≤ length l → zeros (entry_in l) ≡ true → (entry_in l).kind ≡ 10 → 0 < (entry_in l).a
-      → StepIs e l (X.One (S.Asks (C.Insert e.a e.b (entry_in l).a)))
-  alone : e.kind ≡ 9 → length l < 18 → StepIs e l (X.Ends E.Cut)
-  broken : {d : Ending} → Damage d → StepIs e l (X.Ends d)
+      → StepIs e l (Ok (S.Asks (C.Insert e.a e.b (entry_in l).a)))
+  alone : e.kind ≡ 9 → length l < 18 → StepIs e l (Err E.Cut)
+  broken : {d : Ending} → Damage d → StepIs e l (Err d)
 
 module _ (e : Entry) (l : List ℕ) where
-  this : {x y : NextStep} → x ≡ y → StepIs e l x → StepIs e l y
-  this q i = subst (λ (z : NextStep). StepIs e l z) q i
+  this : {x y : Result Step Ending} → x ≡ y → StepIs e l x → StepIs e l y
+  this q i = subst (λ (z : Result Step Ending). StepIs e l z) q i
 
   nine : e.kind ≡ 9 → StepIs e l (step_of e l)
   nine k =
@@ -86,7 +85,7 @@ module _ (e : Entry) (l : List ℕ) where
           (λ n. this (pair_made e p t n) (pair k h z t (omega arith))))
           (λ t. this (pair_kind e p t) (broken pair_damage))
 
-      by : {x : NextStep} → 18 ≤ length l → CheckedIs p (pair_of e p) x → StepIs e l x
+      by : {x : Result Step Ending} → 18 ≤ length l → CheckedIs p (pair_of e p) x → StepIs e l x
       by h (fine z) = made h z
       by h (spoilt d) = broken d
 
@@ -116,31 +115,31 @@ module _ (e : Entry) (l : List ℕ) where
 
 -- ---- what bytes begin with
 
-pub data NextIs (l : List ℕ) : NextStep → Type 0 where
-  short : length l < 18 → NextIs l (X.Ends E.Cut)
-  whole : {x : NextStep} → 18 ≤ length l → zeros (entry_in l) ≡ true → StepIs (entry_in l) (drop 18 l) x → NextIs l x
-  damaged : {d : Ending} → Damage d → NextIs l (X.Ends d)
+pub data NextIs (l : List ℕ) : Result Step Ending → Type 0 where
+  short : length l < 18 → NextIs l (Err E.Cut)
+  whole : {x : Result Step Ending} → 18 ≤ length l → zeros (entry_in l) ≡ true → StepIs (entry_in l) (drop 18 l) x → NextIs l x
+  damaged : {d : Ending} → Damage d → NextIs l (Err d)
 
-pub next_is : (l : List ℕ) {x : NextStep} → next l ≡ x → NextIs l x
+pub next_is : (l : List ℕ) {x : Result Step Ending} → next l ≡ x → NextIs l x
 next_is l {x} q =
-    subst (λ (y : NextStep). NextIs l y) q
+    subst (λ (y : Result Step Ending). NextIs l y) q
     (by_cases (dec_lt (length l) 18) (λ (h : length l < 18). carried (next_cut l 0 h) (short h))
     (λ h. carried (next_read l 0 (omega arith) refl refl refl) (by (omega arith) (checked_is e (step_of e (drop 18 l))))))
   where
     e : Entry
     e = entry_in l
 
-    carried : {y z : NextStep} → y ≡ z → NextIs l y → NextIs l z
-    carried r i = subst (λ (w : NextStep). NextIs l w) r i
+    carried : {y z : Result Step Ending} → y ≡ z → NextIs l y → NextIs l z
+    carried r i = subst (λ (w : Result Step Ending). NextIs l w) r i
 
-    by : {y : NextStep} → 18 ≤ length l → CheckedIs e (step_of e (drop 18 l)) y → NextIs l y
+    by : {y : Result Step Ending} → 18 ≤ length l → CheckedIs e (step_of e (drop 18 l)) y → NextIs l y
     by h (fine z) = whole h z (step_is e (drop 18 l))
     by h (spoilt d) = damaged d
 
 -- ---- sizes
 
 -- one entry, or a kind 9 and its kind 10
-step_size : (e : Entry) (l : List ℕ) {x : Step} → StepIs e l (X.One x)
+step_size : (e : Entry) (l : List ℕ) {x : Step} → StepIs e l (Ok x)
     → ((e.kind ≡ 9 → ⊥) × (length (step_bytes x) ≡ 18)) ⊎ ((18 ≤ length l) × (length (step_bytes x) ≡ 36))
 step_size e l (format k) = inl (λ g. omega arith, entry_length 1 e.a e.b)
 step_size e l (insert k) = inl (λ g. omega arith, entry_length 2 e.a e.b)
@@ -154,31 +153,31 @@ step_size e l (closes k) = inl (λ g. omega arith, entry_length 8 0 0)
 step_size e l (pair k s z t p) = inr (s, pair_size e.a e.b (entry_in l).a p)
 
 -- the bytes of a step are there: 18 where its kind is not 9, else 36
-pub next_sizes : (l : List ℕ) {x : Step} → next l ≡ X.One x
+pub next_sizes : (l : List ℕ) {x : Step} → next l ≡ Ok x
     → (((entry_in l).kind ≡ 9 → ⊥) × (18 ≤ length l) × (length (step_bytes x) ≡ 18)) ⊎ ((36 ≤ length l) × (length (step_bytes x) ≡ 36))
 next_sizes l {x} q = by (next_is l q)
   where
-    by : NextIs l (X.One x)
+    by : NextIs l (Ok x)
         → (((entry_in l).kind ≡ 9 → ⊥) × (18 ≤ length l) × (length (step_bytes x) ≡ 18)) ⊎ ((36 ≤ length l) × (length (step_bytes x) ≡ 36))
     by (whole h z i) =
         ⊎_elim (λ a. inl (a.0, h, a.1)) (λ b. inr (omega (arith, h, b.0, length-drop 18 l), b.1)) (step_size (entry_in l) (drop 18 l) i)
 
-pub next_size : (l : List ℕ) {x : Step} → next l ≡ X.One x → (0 < length (step_bytes x)) × (length (step_bytes x) ≤ length l)
+pub next_size : (l : List ℕ) {x : Step} → next l ≡ Ok x → (0 < length (step_bytes x)) × (length (step_bytes x) ≤ length l)
 next_size l q = ⊎_elim (λ a. (omega (arith, a.2), omega (arith, a.1, a.2))) (λ b. (omega (arith, b.1), omega (arith, b.0, b.1))) (next_sizes l q)
 
 -- ---- a cut
 
 -- a cut is what is left of a step
-pub cut_is : (l : List ℕ) → next l ≡ X.Ends E.Cut → Unfinished l
+pub cut_is : (l : List ℕ) → next l ≡ Err E.Cut → Unfinished l
 cut_is l q = by (next_is l q)
   where
-    by : NextIs l (X.Ends E.Cut) → Unfinished l
+    by : NextIs l (Err E.Cut) → Unfinished l
     by (short h) = part h
     by (whole h z (alone k s)) = half k z (omega (arith, s, length-drop 18 l))
     by (whole h z (broken d)) = absurd (d refl)
     by (damaged d) = absurd (d refl)
 
-pub cut_short : (l : List ℕ) → next l ≡ X.Ends E.Cut → length l < 36
+pub cut_short : (l : List ℕ) → next l ≡ Err E.Cut → length l < 36
 cut_short l q = by (cut_is l q)
   where
     by : Unfinished l → length l < 36

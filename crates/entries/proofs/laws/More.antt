@@ -9,11 +9,10 @@ use native.Mathlib.Omega.{arith}
 use borrow.Author.Tests.{ne_eqb}
 use lib.ListN.{length, take, drop, length-append, length-drop, take-append-drop}
 use lib.Seq.{take-append-le, drop-append-le, length-take-le}
+use Rattle.std.proofs.Common.{Result, Ok, Err}
 use Rattle.entries.specs.declared.Step.{Step}
 use Rattle.entries.specs.declared.Ending.{Ending}
 use Rattle.entries.specs.declared.Ending.TheVariants as E
-use Rattle.entries.specs.declared.NextStep.{NextStep}
-use Rattle.entries.specs.declared.NextStep.TheVariants as X
 use Rattle.entries.specs.declared.Entry.{Entry}
 use Rattle.entries.specs.Entries.{step_bytes}
 use Rattle.entries.specs.Reading.{worth, word_at, entry_in, zeros, checked, pair_of, repeating, step_of, next, Unfinished, part, half}
@@ -21,14 +20,14 @@ use Rattle.entries.proofs.laws.Reading.{next_cut, next_read, pair_read, pair_cut
 use Rattle.entries.proofs.laws.Inverse.{cut_is, next_size, next_sizes}
 
 -- what is left of a step is a cut
-pub cut_when : (l : List ℕ) → Unfinished l → next l ≡ X.Ends E.Cut
+pub cut_when : (l : List ℕ) → Unfinished l → next l ≡ Err E.Cut
 cut_when l (part h) = sym (next_cut l 0 h)
 cut_when l (half k z h) =
     by_cases (dec_lt (length l) 18) (λ (s : length l < 18). sym (next_cut l 0 s))
     (λ s.
     let m = drop 18 l in
-    let y : X.Ends E.Cut ≡ step_of (entry_in l) m = pair_cut (entry_in l) m 0 (omega (arith, length-drop 18 l)) ∙ step_nine (entry_in l) m k in
-    sym (next_read l 0 (omega arith) refl y (no_damage (entry_in l) (X.Ends E.Cut) (λ g. omega arith) (omega arith) z)))
+    let y : Err E.Cut ≡ step_of (entry_in l) m = pair_cut (entry_in l) m 0 (omega (arith, length-drop 18 l)) ∙ step_nine (entry_in l) m k in
+    sym (next_read l 0 (omega arith) refl y (no_damage (entry_in l) (Err E.Cut) (λ g. omega arith) (omega arith) z)))
 
 -- ---- an entry
 
@@ -60,11 +59,11 @@ pair_front e l r h =
     ∙ ap (λ (p : Entry). checked p (pair_of e p)) (entry_front l r h)
     ∙ pair_read e l 0 h refl refl
 
-zero_first : (e : Entry) (x y : NextStep) → zeros e ≡ false → checked e x ≡ checked e y
+zero_first : (e : Entry) (x y : Result Step Ending) → zeros e ≡ false → checked e x ≡ checked e y
 unfolding checked
 zero_first e x y z = simp z
 
-module _ (l r : List ℕ) (n : (next l ≡ X.Ends E.Cut → ⊥)) where
+module _ (l r : List ℕ) (n : (next l ≡ Err E.Cut → ⊥)) where
   abbrev e : Entry
   e = entry_in l
 
@@ -84,8 +83,8 @@ module _ (l r : List ℕ) (n : (next l ≡ X.Ends E.Cut → ⊥)) where
       by_cases (ℕ_discrete e.kind 9)
       (λ (k : e.kind ≡ 9).
       by_cases (dec_lt (length m) 18) (λ (h : length m < 18). lone (zeros e) refl k h)
-      (λ h. ap (λ (x : NextStep). checked e x) (sym (step_nine e (m ++ r) k) ∙ pair_front e m r (omega arith) ∙ step_nine e m k)))
-      (λ k. ap (λ (x : NextStep). checked e x) (step_alone e (m ++ r) m k))
+      (λ h. ap (λ (x : Result Step Ending). checked e x) (sym (step_nine e (m ++ r) k) ∙ pair_front e m r (omega arith) ∙ step_nine e m k)))
+      (λ k. ap (λ (x : Result Step Ending). checked e x) (step_alone e (m ++ r) m k))
 
   next_front : next (l ++ r) ≡ next l
   next_front =
@@ -98,15 +97,15 @@ module _ (l r : List ℕ) (n : (next l ≡ X.Ends E.Cut → ⊥)) where
 -- ---- what is read
 
 -- a step that was read is read whatever stands behind
-pub next_same : (l r : List ℕ) {x : Step} → next l ≡ X.One x → next (l ++ r) ≡ X.One x
+pub next_same : (l r : List ℕ) {x : Step} → next l ≡ Ok x → next (l ++ r) ≡ Ok x
 next_same l r q = next_front l r (λ c. let z : ◌≡◌ {A = ℕ} 0 1 = cc in omega arith) ∙ q
 
 -- damage is damage whatever stands behind
-pub next_damage : (l r : List ℕ) {e : Ending} → next l ≡ X.Ends e → (e ≡ E.Cut → ⊥) → next (l ++ r) ≡ X.Ends e
+pub next_damage : (l r : List ℕ) {e : Ending} → next l ≡ Err e → (e ≡ E.Cut → ⊥) → next (l ++ r) ≡ Err e
 next_damage l r q d = next_front l r (λ c. d (cc)) ∙ q
 
 -- a step that was read is read from its own bytes, whatever stands behind them
-pub next_more : (l r : List ℕ) {x : Step} → next l ≡ X.One x → next (take (length (step_bytes x)) l ++ r) ≡ X.One x
+pub next_more : (l r : List ℕ) {x : Step} → next l ≡ Ok x → next (take (length (step_bytes x)) l ++ r) ≡ Ok x
 next_more l r {x} q = next_front a r whole ∙ sym (next_front a (drop k l) whole) ∙ ap next (take-append-drop k l) ∙ q
   where
     k : ℕ
@@ -125,5 +124,5 @@ next_more l r {x} q = next_front a r whole ∙ sym (next_front a (drop k l) whol
     none (part h) = ⊎_elim (λ s. omega (arith, size, h, s.2)) (λ s. omega (arith, size, h, s.1)) (next_sizes l q)
     none (half t z h) = ⊎_elim (λ s. s.0 (same (omega (arith, s.2)) ∙ t)) (λ s. omega (arith, size, h, s.1)) (next_sizes l q)
 
-    whole : next a ≡ X.Ends E.Cut → ⊥
+    whole : next a ≡ Err E.Cut → ⊥
     whole c = none (cut_is a c)

@@ -8,8 +8,8 @@ use borrow.Author.Tests.{eqb-true}
 use lib.Dec.{eqb}
 use lib.ListN.{length, take, drop, length-append, length-drop}
 use lib.Seq.{take-add, drop-drop, length-take-le}
+use Rattle.std.proofs.Common.{Ok}
 use Rattle.entries.specs.declared.Step.{Step}
-use Rattle.entries.specs.declared.NextStep.TheVariants as X
 use Rattle.entries.specs.declared.Entry.{Entry}
 use Rattle.entries.specs.Entries.{bytes_of, entry, insert_bytes, step_bytes, Fits64, Fit}
 use Rattle.entries.specs.Reading.{Bytes, worth, word_at, entry_in, bare, field_zeros, zeros, next}
@@ -86,7 +86,7 @@ module _ (l : List ℕ) where
       ap (λ (k : ℕ). take k l) n ∙ take-add 18 18 l ∙ ap₂ (λ (x y : List ℕ). x ++ y) e f ∙ sym i
 
 module _ (l : List ℕ) (h : Bytes l) where
-  only : {x : Step} → 18 ≤ length l → zeros (entry_in l) ≡ true → StepIs (entry_in l) (drop 18 l) (X.One x)
+  only : {x : Step} → 18 ≤ length l → zeros (entry_in l) ≡ true → StepIs (entry_in l) (drop 18 l) (Ok x)
       → (take (length (step_bytes x)) l ≡ step_bytes x) × Fit x
   only {x} g z i = by i
     where
@@ -102,7 +102,7 @@ module _ (l : List ℕ) (h : Bytes l) where
       f : Fits64 e.a × Fits64 e.b
       f = fields_fit l h g
 
-      by : {y : Step} → StepIs (entry_in l) (drop 18 l) (X.One y) → (take (length (step_bytes y)) l ≡ step_bytes y) × Fit y
+      by : {y : Step} → StepIs (entry_in l) (drop 18 l) (Ok y) → (take (length (step_bytes y)) l ≡ step_bytes y) × Fit y
       by (format k) = (single l 1 e.a e.b t k refl refl, f)
       by (insert k) = (single l 2 e.a e.b t k refl refl, (f.0, f.1, omega arith))
       by (reset k) = (single l 3 e.a e.b t k refl refl, f)
@@ -123,8 +123,8 @@ module _ (l : List ℕ) (h : Bytes l) where
           (double l e.a e.b (entry_in d).a p t₉ t₁₀, (f.0, f.1, c.0))
 
   -- the bytes are those of the step
-  pub step_only : {x : Step} → next l ≡ X.One x → (take (length (step_bytes x)) l ≡ step_bytes x) × Fit x
+  pub step_only : {x : Step} → next l ≡ Ok x → (take (length (step_bytes x)) l ≡ step_bytes x) × Fit x
   step_only {x} n = by (next_is l n)
     where
-      by : NextIs l (X.One x) → (take (length (step_bytes x)) l ≡ step_bytes x) × Fit x
+      by : NextIs l (Ok x) → (take (length (step_bytes x)) l ≡ step_bytes x) × Fit x
       by (whole g z i) = only g z i

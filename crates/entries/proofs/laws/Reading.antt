@@ -1,76 +1,69 @@
 -- What the parts of the reader find, for the code: a word byte by byte, and each test of an entry.
-use mathlib.Core.Path.{◌≡◌, refl, sym, ap, ap₂, ◌∙◌}
+use mathlib.Core.Path.{◌≡◌, refl, sym, ap, ◌∙◌}
 use mathlib.Core.Logic.{by_cases}
-use mathlib.Core.Bool.{true, false}
-use mathlib.Core.List.{List, [], ◌∷◌, ◌++◌}
-use Prim.Native.Nat.{ℕ, ◌+◌, ◌*◌, ◌/◌, ◌%◌, ◌^◌, ◌≤◌, ◌<◌}
-use native.Mathlib.Numerals.{add-one}
+use mathlib.Core.Bool.{Bool, true, false, cond}
+use mathlib.Core.List.{List, [], ◌∷◌}
+use Prim.Native.Nat.{ℕ, ◌+◌, ◌/◌, ◌%◌, ◌≤◌, ◌<◌}
 use native.Mathlib.Decide.{ℕ_discrete}
 use native.Mathlib.Omega.{arith}
-use native.Mathlib.Nat.{pow-succ', pow-le-pow_right}
 use borrow.Author.Tests.{lt-ltb, le-ltb, eq-eqb, ne_eqb}
 use lib.Dec.{eqb}
-use lib.ListN.{length, take, drop, get_or, length-drop}
-use lib.Seq.{take-suc, drop-drop, get_or-drop}
+use lib.ListN.{length, take, drop, length-drop}
+use lib.Seq.{drop-drop}
+use Rattle.std.proofs.Common.{Result, Ok, Err}
+use Rattle.std.specs.Int.{w16, w64, from_be_bytes}
 use Rattle.delay_queue.specs.declared.Call.TheVariants as C
+use Rattle.entries.specs.declared.Ending.{Ending}
+use Rattle.entries.specs.declared.Step.{Step}
 use Rattle.entries.specs.declared.Step.TheVariants as S
 use Rattle.entries.specs.declared.Ending.TheVariants as E
-use Rattle.entries.specs.declared.NextStep.{NextStep}
-use Rattle.entries.specs.declared.NextStep.TheVariants as X
 use Rattle.entries.specs.declared.Entry.{Entry}
-use Rattle.entries.specs.Reading.{worth, word_at, entry_in, bare, field_zeros, zeros, checked, pair_of, repeating, step_of, next}
+use Rattle.entries.specs.Reading.{worth, word_at, known, entry_in, bare, field_zeros, zeros, checked, pair_of, repeating, step_of, next}
 
 -- ---- a word
 
-worth_snoc : (acc : ℕ) (l : List ℕ) (b : ℕ) → worth acc (l ++ b ∷ []) ≡ worth acc l * 256 + b
+be_two : (l : List ℕ) {n : ℕ} → 2 ≤ length l → n ≡ from_be_bytes w16 (take 2 l) → n ≡ worth 0 (take 2 l)
 unfolding worth
-worth_snoc acc [] b = refl
-worth_snoc acc (x ∷ l) b = worth_snoc (acc * 256 + x) l b
+be_two [] h e = absurd (omega arith)
+be_two (a ∷ []) h e = absurd (omega arith)
+be_two (a ∷ b ∷ l) h e = omega (arith, e)
 
--- the first i bytes of a word are read
-pub record Wording (l : List ℕ) (at i acc : ℕ) : Type 0 where
-  pub so_far : acc ≡ word_at i at l
-  pub below : acc < 256 ^ i
-
-pub word_start : {l : List ℕ} {at : ℕ} → Wording l at 0 0
-unfolding word_at worth
-word_start = record { so_far = refl; below = omega arith }
-
--- a byte more
-pub word_step : {l : List ℕ} {at i acc : ℕ} → Wording l at i acc → at + i < length l → get_or l (at + i) 0 < 256
-    → Wording l at (i + 1) (acc * 256 + get_or l (at + i) 0)
-unfolding word_at
-word_step {l} {at} {i} {acc} w h b =
-    let e = get_or-drop at l i 0 in
-    let g : i < length (drop at l) = omega (arith, length-drop at l) in
-    record {
-      so_far =
-          ap₂ (λ (x y : ℕ). x * 256 + y) w.so_far (sym e)
-          ∙ sym (worth_snoc 0 (take i (drop at l)) (get_or (drop at l) i 0))
-          ∙ ap (λ (x : List ℕ). worth 0 x) (sym (take-suc (drop at l) i 0 g))
-          ∙ ap (λ (k : ℕ). worth 0 (take k (drop at l))) (sym (add-one i));
-      below = rw (add-one i, pow-succ' 256 i) (omega (arith, w.below));
-    }
-
--- eight bytes fit a word
-pub word_fits : (i : ℕ) {acc : ℕ} → i < 8 → acc < 256 ^ i → acc * 256 + 255 < 2 ^ 64
-word_fits i h b = omega (arith, pow-le-pow_right {n = 256} (omega arith) {i = i} {j = 7} (omega arith))
+be_eight : (l : List ℕ) {n : ℕ} → 8 ≤ length l → n ≡ from_be_bytes w64 (take 8 l) → n ≡ worth 0 (take 8 l)
+unfolding worth
+be_eight [] h e = absurd (omega arith)
+be_eight (a ∷ []) h e = absurd (omega arith)
+be_eight (a ∷ b ∷ []) h e = absurd (omega arith)
+be_eight (a ∷ b ∷ c ∷ []) h e = absurd (omega arith)
+be_eight (a ∷ b ∷ c ∷ d ∷ []) h e = absurd (omega arith)
+be_eight (a ∷ b ∷ c ∷ d ∷ f ∷ []) h e = absurd (omega arith)
+be_eight (a ∷ b ∷ c ∷ d ∷ f ∷ g ∷ []) h e = absurd (omega arith)
+be_eight (a ∷ b ∷ c ∷ d ∷ f ∷ g ∷ i ∷ []) h e = absurd (omega arith)
+be_eight (a ∷ b ∷ c ∷ d ∷ f ∷ g ∷ i ∷ j ∷ l) h e = omega (arith, e)
 
 -- ---- an entry
 
-word_behind : (n k at : ℕ) (l : List ℕ) → word_at n (at + k) l ≡ word_at n k (drop at l)
-unfolding word_at
-word_behind n k at l = ap (λ (x : List ℕ). worth 0 (take n x)) (sym (drop-drop k at l))
+-- an entry, what l begins with, and what stands behind it
+abbrev pub Front : List ℕ → Entry → List ℕ → Type 0
+Front l e m = (18 ≤ length l) × (e ≡ entry_in l) × (m ≡ drop 18 l)
 
-pub entry_is : (l : List ℕ) (at : ℕ) {head a b : ℕ} → head ≡ word_at 2 at l → a ≡ word_at 8 (at + 2) l → b ≡ word_at 8 (at + 10) l
-    → record { kind = head / 4096; spare = head % 4096; a = a; b = b } ≡ entry_in (drop at l)
-unfolding entry_in
-entry_is l at {head} {a} {b} e f g =
-    let h : at ≡ at + 0 = omega arith in
-    let p = e ∙ ap (λ (k : ℕ). word_at 2 k l) h ∙ word_behind 2 0 at l in
-    let q = f ∙ word_behind 8 2 at l in
-    let r = g ∙ word_behind 8 10 at l in
-    λ i. record { kind = p i / 4096; spare = p i % 4096; a = q i; b = r i }
+-- what `split_first_chunk` gives
+abbrev pub Chunk : ℕ → List ℕ → List ℕ → List ℕ → Type 0
+Chunk n l x m = (x ≡ take n l) × (m ≡ drop n l) × (length m + n ≡ length l)
+
+pub chunks_read : (l h m x n y k : List ℕ) {head a b : ℕ} → Chunk 2 l h m → Chunk 8 m x n → Chunk 8 n y k → head ≡ from_be_bytes w16 h
+    → a ≡ from_be_bytes w64 x → b ≡ from_be_bytes w64 y → Front l (record { kind = head / 4096; spare = head % 4096; a = a; b = b }) k
+unfolding entry_in word_at
+chunks_read l h m x n y k p q r e f g =
+    let d : n ≡ drop 10 l = q.1 ∙ ap (λ (z : List ℕ). drop 8 z) p.1 ∙ drop-drop 8 2 l in
+    let u = be_two l (omega (arith, p.2)) (e ∙ ap (λ (z : List ℕ). from_be_bytes w16 z) p.0) in
+    let v = be_eight m (omega (arith, q.2)) (f ∙ ap (λ (z : List ℕ). from_be_bytes w64 z) q.0)
+    ∙ ap (λ (z : List ℕ). worth 0 (take 8 z)) p.1 in
+    let w = be_eight n (omega (arith, r.2)) (g ∙ ap (λ (z : List ℕ). from_be_bytes w64 z) r.0)
+    ∙ ap (λ (z : List ℕ). worth 0 (take 8 z)) d in (
+      omega (arith, p.2, q.2, r.2),
+      (λ i. record { kind = u i / 4096; spare = u i % 4096; a = v i; b = w i }),
+      r.1 ∙ ap (λ (z : List ℕ). drop 8 z) d ∙ drop-drop 8 10 l,
+    )
 
 -- ---- zeros
 
@@ -89,17 +82,17 @@ none_due k a b h = simp (ne_eqb k 4 h.0, ne_eqb k 5 h.1, ne_eqb k 10 h.2, ne_eqb
 
 -- ---- damage
 
-module _ (e : Entry) (x : NextStep) where
-  pub kind_low : e.kind ≡ 0 → X.Ends E.Kind ≡ checked e x
+module _ {A : Type 0} (e : Entry) (x : Result A Ending) where
+  pub kind_low : e.kind ≡ 0 → Err E.Kind ≡ checked e x
   unfolding checked
   kind_low h = simp (le-ltb 0 e.kind (omega arith))
 
-  pub kind_high : 11 < e.kind → X.Ends E.Kind ≡ checked e x
+  pub kind_high : 11 < e.kind → Err E.Kind ≡ checked e x
   unfolding checked
   kind_high h = simp (lt-ltb 0 e.kind (omega arith), le-ltb e.kind 12 (omega arith))
 
   module _ (h : (e.kind ≡ 0 → ⊥)) (g : e.kind ≤ 11) where
-    pub zero_missed : zeros e ≡ false → X.Ends E.Zero ≡ checked e x
+    pub zero_missed : zeros e ≡ false → Err E.Zero ≡ checked e x
     unfolding checked
     zero_missed z = simp (lt-ltb 0 e.kind (omega arith), lt-ltb e.kind 12 (omega arith), z)
 
@@ -107,27 +100,46 @@ module _ (e : Entry) (x : NextStep) where
     unfolding checked
     no_damage z = simp (lt-ltb 0 e.kind (omega arith), lt-ltb e.kind 12 (omega arith), z)
 
+  -- what is found of the entry alone
+  pub spoilt_so : {d : Ending} → Err d ≡ checked {A = Unit {0}} e (Ok tt) → Err d ≡ checked e x
+  unfolding checked
+  spoilt_so {d} = by (known e.kind) (zeros e)
+    where
+      by : (k z : Bool) → Err d ≡ cond k (cond z (Ok (tt {0})) (Err E.Zero)) (Err E.Kind) → Err d ≡ cond k (cond z x (Err E.Zero)) (Err E.Kind)
+      by true true q = absurd cc
+      by true false q = let r : d ≡ E.Zero = cc in ap (λ (z : Ending). Err z) r
+      by false z q = let r : d ≡ E.Kind = cc in ap (λ (z : Ending). Err z) r
+
+  pub fine_so : Ok tt ≡ checked {A = Unit {0}} e (Ok tt) → x ≡ checked e x
+  unfolding checked
+  fine_so = by (known e.kind) (zeros e)
+    where
+      by : (k z : Bool) → Ok (tt {0}) ≡ cond k (cond z (Ok (tt {0})) (Err E.Zero)) (Err E.Kind) → x ≡ cond k (cond z x (Err E.Zero)) (Err E.Kind)
+      by true true q = refl
+      by true false q = absurd cc
+      by false z q = absurd cc
+
 -- ---- a pair
 
 module _ (e p : Entry) where
-  pub pair_kind : (p.kind ≡ 10 → ⊥) → X.Ends E.Pair ≡ pair_of e p
+  pub pair_kind : (p.kind ≡ 10 → ⊥) → Err E.Pair ≡ pair_of e p
   unfolding pair_of
   pair_kind h = simp (ne_eqb p.kind 10 h)
 
-  pub pair_none : p.kind ≡ 10 → p.a ≡ 0 → X.Ends E.Pair ≡ pair_of e p
+  pub pair_none : p.kind ≡ 10 → p.a ≡ 0 → Err E.Pair ≡ pair_of e p
   unfolding pair_of
   pair_none h z = simp (eq-eqb p.kind 10 h, le-ltb 0 p.a (omega arith))
 
-  pub pair_made : p.kind ≡ 10 → (p.a ≡ 0 → ⊥) → X.One (S.Asks (C.Insert e.a e.b p.a)) ≡ pair_of e p
+  pub pair_made : p.kind ≡ 10 → (p.a ≡ 0 → ⊥) → Ok (S.Asks (C.Insert e.a e.b p.a)) ≡ pair_of e p
   unfolding pair_of
   pair_made h z = simp (eq-eqb p.kind 10 h, lt-ltb 0 p.a (omega arith))
 
 module _ (e : Entry) (l : List ℕ) (at : ℕ) where
-  pub pair_cut : length l < at + 18 → X.Ends E.Cut ≡ repeating e (drop at l)
+  pub pair_cut : length l < at + 18 → Err E.Cut ≡ repeating e (drop at l)
   unfolding repeating
   pair_cut h = let g = length-drop at l in simp (lt-ltb (length (drop at l)) 18 (omega arith))
 
-  pub pair_read : {x : NextStep} {p : Entry} → at + 18 ≤ length l → p ≡ entry_in (drop at l) → x ≡ checked p (pair_of e p) → x ≡ repeating e (drop at l)
+  pub pair_read : {x : Result Step Ending} {p : Entry} → at + 18 ≤ length l → p ≡ entry_in (drop at l) → x ≡ checked p (pair_of e p) → x ≡ repeating e (drop at l)
   unfolding repeating
   pair_read {x} {p} h q r =
       let g = length-drop at l in
@@ -136,7 +148,7 @@ module _ (e : Entry) (l : List ℕ) (at : ℕ) where
 -- ---- a step
 
 pub no_step : (e : Entry) (l : List ℕ) → let k = e.kind in (k ≡ 1 → ⊥) → (k ≡ 2 → ⊥) → (k ≡ 3 → ⊥) → (k ≡ 4 → ⊥) → (k ≡ 5 → ⊥) → (k ≡ 6 → ⊥)
-    → (k ≡ 7 → ⊥) → (k ≡ 8 → ⊥) → (k ≡ 9 → ⊥) → (k ≡ 11 → ⊥) → X.Ends E.Pair ≡ step_of e l
+    → (k ≡ 7 → ⊥) → (k ≡ 8 → ⊥) → (k ≡ 9 → ⊥) → (k ≡ 11 → ⊥) → Err E.Pair ≡ step_of e l
 unfolding step_of
 no_step e l h₁ h₂ h₃ h₄ h₅ h₆ h₇ h₈ h₉ h₁₁ =
     let k = e.kind in
@@ -162,15 +174,30 @@ pub step_nine : (e : Entry) (l : List ℕ) → e.kind ≡ 9 → repeating e l �
 unfolding step_of repeating pair_of
 step_nine e l h = step_kind e l 9 h
 
-pub next_cut : (l : List ℕ) (at : ℕ) → length l < at + 18 → X.Ends E.Cut ≡ next (drop at l)
+pub next_cut : (l : List ℕ) (at : ℕ) → length l < at + 18 → Err E.Cut ≡ next (drop at l)
 unfolding next
 next_cut l at h = let g = length-drop at l in simp (lt-ltb (length (drop at l)) 18 (omega arith))
 
-pub next_read : (l : List ℕ) (at : ℕ) {x y : NextStep} {e : Entry} → at + 18 ≤ length l → e ≡ entry_in (drop at l) → y ≡ step_of e (drop (at + 18) l)
+pub next_read : (l : List ℕ) (at : ℕ) {x y : Result Step Ending} {e : Entry} → at + 18 ≤ length l → e ≡ entry_in (drop at l) → y ≡ step_of e (drop (at + 18) l)
     → x ≡ checked e y → x ≡ next (drop at l)
 unfolding next
 next_read l at {x} {y} {e} h q r z =
     let g = length-drop at l in
     simp (le-ltb (length (drop at l)) 18 (omega arith))
-    (z ∙ ap (λ (u : NextStep). checked e u) (r ∙ ap (λ (d : List ℕ). step_of e d) (sym (drop-drop 18 at l)))
+    (z ∙ ap (λ (u : Result Step Ending). checked e u) (r ∙ ap (λ (d : List ℕ). step_of e d) (sym (drop-drop 18 at l)))
     ∙ ap (λ (u : Entry). checked u (step_of u (drop 18 (drop at l)))) q)
+
+-- ---- with the entry that they begin with
+
+module _ (l : List ℕ) (e : Entry) (m : List ℕ) (F : Front l e m) where
+  pub next_spoilt : {d : Ending} → Err d ≡ checked {A = Unit {0}} e (Ok tt) → Err d ≡ next l
+  next_spoilt q = next_read l 0 F.0 F.1 refl (spoilt_so e (step_of e (drop 18 l)) q)
+
+  pub next_fine : {x : Result Step Ending} → Ok tt ≡ checked {A = Unit {0}} e (Ok tt) → x ≡ step_of e m → x ≡ next l
+  next_fine {x} q r = next_read l 0 F.0 F.1 (r ∙ ap (λ (z : List ℕ). step_of e z) F.2) (fine_so e x q)
+
+  pub pair_spoilt : (o : Entry) {d : Ending} → Err d ≡ checked {A = Unit {0}} e (Ok tt) → Err d ≡ repeating o l
+  pair_spoilt o q = pair_read o l 0 F.0 F.1 (spoilt_so e (pair_of o e) q)
+
+  pub pair_fine : (o : Entry) {x : Result Step Ending} → Ok tt ≡ checked {A = Unit {0}} e (Ok tt) → x ≡ pair_of o e → x ≡ repeating o l
+  pair_fine o {x} q r = pair_read o l 0 F.0 F.1 (r ∙ fine_so e (pair_of o e) q)

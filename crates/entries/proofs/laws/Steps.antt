@@ -8,12 +8,12 @@ use native.Mathlib.Decide.{dec_lt}
 use native.Mathlib.Omega.{arith}
 use lib.ListN.{length, take, drop, length-append}
 use lib.Seq.{length-take-le, drop_at, take-append-add}
+use Rattle.std.proofs.Common.{Result, Ok, Err}
 use Rattle.delay_queue.specs.declared.Call.TheVariants as C
+use Rattle.entries.specs.declared.Ending.{Ending}
 use Rattle.entries.specs.declared.Step.{Step}
 use Rattle.entries.specs.declared.Step.TheVariants as S
 use Rattle.entries.specs.declared.Ending.TheVariants as E
-use Rattle.entries.specs.declared.NextStep.{NextStep}
-use Rattle.entries.specs.declared.NextStep.TheVariants as X
 use Rattle.entries.specs.declared.Entry.{Entry}
 use Rattle.writing.specs.Writing.{digits_of}
 use Rattle.entries.specs.Entries.{entry, step_bytes, Fits64, Fit}
@@ -57,7 +57,7 @@ module _ (k a b : ℕ) (kind : (0 < k) × (k ≤ 11)) (fa : Fits64 a) (fb : Fits
   behind = drop_at (entry k a b) l 18 (entry_length k a b)
 
   -- an entry with its zeros is the step of its kind
-  entry_next : {x : NextStep} → field_zeros k a b ≡ true → x ≡ step_of (parts k a b) l → next (entry k a b ++ l) ≡ x
+  entry_next : {x : Result Step Ending} → field_zeros k a b ≡ true → x ≡ step_of (parts k a b) l → next (entry k a b ++ l) ≡ x
   unfolding zeros
   entry_next {x} z e =
       let c : x ≡ checked (parts k a b) x = no_damage (parts k a b) x (λ g. omega arith) kind.1 z in
@@ -66,29 +66,29 @@ module _ (k a b : ℕ) (kind : (0 < k) × (k ≤ 11)) (fa : Fits64 a) (fb : Fits
 
 -- a kind 9 and its kind 10
 pair_next : (value when p : ℕ) → Fits64 value → Fits64 when → Fits64 p → 0 < p → (l : List ℕ)
-    → next (entry 9 value when ++ (entry 10 p 0 ++ l)) ≡ X.One (S.Asks (C.Insert value when p))
+    → next (entry 9 value when ++ (entry 10 p 0 ++ l)) ≡ Ok (S.Asks (C.Insert value when p))
 unfolding zeros
 pair_next value when p fv fw fp o l =
     let e = parts 9 value when in
     let q = parts 10 p 0 in
     let m = entry 10 p 0 ++ l in
-    let y : X.One (S.Asks (C.Insert value when p)) ≡ pair_of e q = pair_made e q refl (λ g. omega arith) in
+    let y : Ok (S.Asks (C.Insert value when p)) ≡ pair_of e q = pair_made e q refl (λ g. omega arith) in
     let c = no_damage q (pair_of e q) (λ g. omega arith) (omega arith) refl in
-    let r : X.One (S.Asks (C.Insert value when p)) ≡ repeating e m =
+    let r : Ok (S.Asks (C.Insert value when p)) ≡ repeating e m =
     pair_read e m 0 (omega (arith, length-append (entry 10 p 0) l, entry_length 10 p 0)) (sym (entry_back 10 p 0 (omega arith) fp (omega arith) l)) (y ∙ c)
     in
     entry_next 9 value when (omega arith) fv fw m refl (r ∙ step_nine e m refl)
 
 -- a kind 9 and less than its kind 10
-half_next : (value when : ℕ) → Fits64 value → Fits64 when → (l : List ℕ) → length l < 18 → next (entry 9 value when ++ l) ≡ X.Ends E.Cut
+half_next : (value when : ℕ) → Fits64 value → Fits64 when → (l : List ℕ) → length l < 18 → next (entry 9 value when ++ l) ≡ Err E.Cut
 half_next value when fv fw l h =
     let e = parts 9 value when in
-    let r : X.Ends E.Cut ≡ repeating e l = pair_cut e l 0 h in
+    let r : Err E.Cut ≡ repeating e l = pair_cut e l 0 h in
     entry_next 9 value when (omega arith) fv fw l refl (r ∙ step_nine e l refl)
 
 -- ---- a step is read back
 
-pub step_back : (x : Step) (l : List ℕ) → Fit x → 0 < length (step_bytes x) → next (step_bytes x ++ l) ≡ X.One x
+pub step_back : (x : Step) (l : List ℕ) → Fit x → 0 < length (step_bytes x) → next (step_bytes x ++ l) ≡ Ok x
 unfolding step_of
 step_back (S.Asks (C.Format n turn)) l f h = entry_next 1 n turn (omega arith) f.0 f.1 l refl refl
 step_back (S.Asks (C.Insert value when zero)) l f h = entry_next 2 value when (omega arith) f.0 f.1 l refl refl
@@ -106,10 +106,10 @@ step_back S.Close l f h = entry_next 8 0 0 (omega arith) (omega arith) (omega ar
 
 -- ---- a part of it is a cut
 
-single_cut : (l : List ℕ) (k : ℕ) → length l ≡ 18 → k < length l → next (take k l) ≡ X.Ends E.Cut
+single_cut : (l : List ℕ) (k : ℕ) → length l ≡ 18 → k < length l → next (take k l) ≡ Err E.Cut
 single_cut l k e h = sym (next_cut (take k l) 0 (omega (arith, length-take-le k l (omega arith))))
 
-pair_part : (value when p k : ℕ) → Fits64 value → Fits64 when → k < 36 → next (take k (entry 9 value when ++ entry 10 p 0)) ≡ X.Ends E.Cut
+pair_part : (value when p k : ℕ) → Fits64 value → Fits64 when → k < 36 → next (take k (entry 9 value when ++ entry 10 p 0)) ≡ Err E.Cut
 pair_part value when p k fv fw h =
     by_cases (dec_lt k 18)
     (λ (g : k < 18). sym (next_cut (take k m) 0 (omega (arith, length-take-le k m (omega (arith, size))))))
@@ -130,7 +130,7 @@ pair_part value when p k fv fw h =
     short g = omega (arith, length-take-le (k - 18) (entry 10 p 0) (omega (arith, entry_length 10 p 0)))
 
 -- "Cut the file at any byte": what is left of a step's bytes is a cut
-pub step_cut : (x : Step) (k : ℕ) → Fit x → k < length (step_bytes x) → next (take k (step_bytes x)) ≡ X.Ends E.Cut
+pub step_cut : (x : Step) (k : ℕ) → Fit x → k < length (step_bytes x) → next (take k (step_bytes x)) ≡ Err E.Cut
 step_cut (S.Asks (C.Format n turn)) k f h = single_cut _ k (entry_length 1 n turn) h
 step_cut (S.Asks (C.Insert value when zero)) k f h = single_cut _ k (entry_length 2 value when) h
 step_cut (S.Asks (C.Insert value when (suc p))) k f h =

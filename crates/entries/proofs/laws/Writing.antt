@@ -1,18 +1,17 @@
--- What the writers leave: an entry, and the parts of a step.
-use mathlib.Core.Path.{◌≡◌, refl, sym, ap, ◌∙◌, subst}
-use mathlib.Core.List.{List, [], ◌++◌}
-use Prim.Native.Nat.{ℕ, zero, suc, ◌*◌, ◌<◌}
+-- What the writers leave: an entry, and the bytes of a step.
+use mathlib.Core.Path.{◌≡◌, refl, sym, ap, ap₂, ◌∙◌, subst}
+use mathlib.Core.List.{List, [], ◌∷◌, ◌++◌}
+use Prim.Native.Nat.{ℕ, zero, suc, ◌*◌, ◌/◌, ◌%◌, ◌^◌, ◌<◌}
 use native.Mathlib.Omega.{arith}
 use lib.ListN.{length, length-append}
+use Rattle.std.specs.Int.{w16, w64, byte_at, bytes_high_first, to_be_bytes}
 use Rattle.delay_queue.specs.declared.Call.{Call}
 use Rattle.delay_queue.specs.declared.Call.TheVariants as C
 use Rattle.entries.specs.declared.Step.{Step}
 use Rattle.entries.specs.declared.Step.TheVariants as S
-use Rattle.entries.specs.declared.Parts.{Parts}
-use Rattle.writing.specs.Writing.{Wrote}
+use Rattle.writing.specs.Writing.{Wrote, digits_of}
 use Rattle.writing.proofs.laws.Writing.{wrote_more, digits_length}
 use Rattle.entries.specs.Entries.{bytes_of, entry, insert_bytes, step_bytes}
-use Rattle.entries.specs.Writing.{parts_bytes}
 
 pub wrote_none : {o : List ℕ} → Wrote o 0 [] 0 o
 wrote_none = record { text = refl; end = refl; rest = refl; size = refl }
@@ -38,16 +37,29 @@ entry_length kind a b =
       bytes_length 8 b,
     )
 
+-- the bytes of a word, as the library gives them
+digit : (k x : ℕ) → byte_at k x ≡ x / 256 ^ k % 256
+digit zero x = omega arith
+digit (suc k) x = refl
+
+be_digits : (k x : ℕ) → bytes_high_first k x ≡ bytes_of k x
+unfolding digits_of
+be_digits zero x = refl
+be_digits (suc k) x = ap₂ (λ (d : ℕ) (l : List ℕ). d ∷ l) (digit k x) (be_digits k x)
+
+pub be_bytes : (x : ℕ) → to_be_bytes w64 x ≡ bytes_of 8 x
+be_bytes x = be_digits 8 x
+
+pub be_head : (kind : ℕ) {head : ℕ} → head ≡ kind * 4096 % 65536 → to_be_bytes w16 head ≡ bytes_of 2 (kind * 4096)
+unfolding digits_of
+be_head kind e = ap₂ (λ (x y : ℕ). x ∷ y ∷ []) (omega (arith, e)) (omega (arith, e))
+
 pub entry_wrote : {o : List ℕ} {at : ℕ} (kind a b : ℕ) {i j r : ℕ} {p q o' : List ℕ} → Wrote o at (bytes_of 2 (kind * 4096)) i p
     → Wrote p i (bytes_of 8 a) j q → Wrote q j (bytes_of 8 b) r o' → Wrote o at (entry kind a b) r o'
 unfolding entry
 entry_wrote kind a b w x y = wrote_more w (wrote_more x y)
 
--- ---- parts
-
--- those that are known by another name
-pub parts_wrote : {x y : Parts} {o : List ℕ} {r : ℕ} {o' : List ℕ} → x ≡ y → Wrote o 0 (parts_bytes y) r o' → Wrote o 0 (parts_bytes x) r o'
-parts_wrote e w = wrote_as refl (ap parts_bytes (sym e)) w
+-- ---- a step
 
 pub asked_bytes : {x : Step} {c d : Call} → x ≡ S.Asks c → c ≡ d → step_bytes (S.Asks d) ≡ step_bytes x
 asked_bytes e f = ap (λ (c : Call). step_bytes (S.Asks c)) (sym f) ∙ ap step_bytes (sym e)

@@ -1,21 +1,12 @@
--- `push_entry` writes three numbers (`entry_wrote`).
+-- `push_entry` writes three numbers (`entry_wrote`), as the library gives their bytes.
+use mathlib.Core.Path.{refl, ◌∙◌}
 use native.Mathlib.Omega.{arith}
-use mathlib.Core.Path.{refl}
-use Rattle.entries.proofs.laws.Writing.{bytes_length, entry_wrote}
-use Prim.Native.Nat.{◌*◌}
+use Rattle.entries.proofs.laws.Writing.{wrote_as, be_head, be_bytes, entry_wrote}
 use Rattle.entries.proofs.push_entry.Goals as goal
-
-pub push_word-j-requires : goal.push_word-j-requires
-push_word-j-requires c =
-    let w = c.push_word-i.ensures in
-    (omega (arith, w.end, w.size, bytes_length 2 (c.args.kind * 4096)), refl)
-
-pub push_word-requires : goal.push_word-requires
-push_word-requires c =
-    let p = c.push_word-j.ensures in
-    let w = c.push_word-i.ensures in
-    (omega (arith, p.end, p.size, w.end, w.size, bytes_length 2 (c.args.kind * 4096), bytes_length 8 c.args.a), refl)
 
 pub returns : goal.returns
 returns c =
-    entry_wrote _ _ _ c.push_word-i.ensures c.push_word-j.ensures c.push_word.ensures
+    entry_wrote _ _ _
+    (wrote_as refl (c.to_be_bytes.ensures ∙ be_head c.args.kind (omega (arith, c.from-head.ensures))) c.push-i.ensures)
+    (wrote_as refl (c.to_be_bytes-2.ensures ∙ be_bytes c.args.a) c.push-j.ensures)
+    (wrote_as refl (c.to_be_bytes-3.ensures ∙ be_bytes c.args.b) c.push.ensures)

@@ -1,19 +1,17 @@
--- `repeats`: what is behind a kind 9 is too short (`pair_cut`), or is read as its pair (`pair_read`).
-use mathlib.Core.Path.{◌≡◌, ap, ◌∙◌}
-use native.Mathlib.Omega.{arith}
-use Rattle.entries.specs.declared.NextStep.{NextStep}
-use Rattle.entries.specs.Reading.{checked, pair_of}
-use Rattle.entries.proofs.laws.Reading.{pair_cut, pair_read}
+-- `repeats`: fewer than 18 bytes are a cut (`pair_cut`); else the entry shows damage by itself (`pair_spoilt`), or none (`pair_fine`).
+use Rattle.std.proofs.lemmas.Result.{err_from_is_err_and}
+use Rattle.entries.proofs.laws.Reading.{pair_cut, pair_spoilt, pair_fine}
 use Rattle.entries.proofs.repeats.Goals as goal
 
-pub returns-then-bytes-at-lt18 : goal.returns-then-bytes-at-lt18
-returns-then-bytes-at-lt18 c =
-    let a = c.args in pair_cut a.e a.bytes.now a.at (omega (arith, c.if-bytes-at-lt18.true, c.requires))
+pub returns-in_default : goal.returns-in_default
+returns-in_default c =
+    pair_cut c.args.e c.args.behind.now 0 c.in_default.ensures
+
+pub returns-in_err-check : goal.returns-in_err-check
+returns-in_err-check c =
+    let p = err_from_is_err_and c.from_residual.result c.from_residual.ensures.1 in
+    rw (p.1, p.2) (pair_spoilt _ _ _ c.in-Some.ensures c.args.e c.in_err-check.ensures)
 
 pub returns : goal.returns
 returns c =
-    let a = c.args in
-    let e : c.check.result ≡ checked c.entry_at-p.result (pair_of a.e c.entry_at-p.result) =
-    c.check.ensures ∙ ap (λ (x : NextStep). checked c.entry_at-p.result x) c.pair-x.ensures
-    in
-    pair_read a.e a.bytes.now a.at (omega (arith, c.if-bytes-at-lt18.false)) c.entry_at-p.ensures e
+    pair_fine _ _ _ c.in-Some.ensures c.args.e c.in_ok-check.ensures c.pair.ensures

@@ -6,18 +6,18 @@ use Rattle.journal.proofs.act.Goals as goal
 pub returns-in-Asks : goal.returns-in-Asks
 returns-in-Asks c =
     let e = c.in-Asks.is in
-    record { acts = act_asked e c.ask-r.ensures; writes = asked_wrote c.ask-r.result.answer e c.note-noted.ensures }
+    record { acts = act_asked e c.ask-r.ensures; writes = asked_wrote c.ask-r.result.answer e c.note.ensures }
 
 pub returns-in-Open : goal.returns-in-Open
 returns-in-Open c =
     record {
-      acts = act_opened _ _ _ _ _ _ _ c.heads_of-left.ensures c.in-Open.is c.patched-answer.ensures;
-      writes = c.note-noted-in-Open.ensures;
+      acts = act_opened _ _ _ _ _ _ _ c.heads_of.ensures c.in-Open.is c.patched-answer.ensures;
+      writes = c.note-in-Open.ensures;
     }
 
 pub returns-in-Close : goal.returns-in-Close
 returns-in-Close c =
     record {
-      acts = act_closed _ _ _ _ _ _ _ c.heads_of-left-in-Close.ensures c.in-Close.is c.patched-answer-in-Close.ensures;
-      writes = c.note-noted-in-Close.ensures;
+      acts = act_closed _ _ _ _ _ _ _ c.heads_of-in-Close.ensures c.in-Close.is c.patched-answer-in-Close.ensures;
+      writes = c.note-in-Close.ensures;
     }

@@ -1,5 +1,5 @@
 -- What `act` has done, for the code: a call, an open, a close.
-use mathlib.Core.Path.{◌≡◌, subst, sym}
+use mathlib.Core.Path.{◌≡◌, subst, sym, ap, ◌∙◌}
 use mathlib.Core.Bool.{Bool, true, false, not, cond}
 use mathlib.Core.List.{List}
 use Prim.Native.Nat.{ℕ}
@@ -12,8 +12,6 @@ use Rattle.delay_queue.specs.declared.Call.{Call}
 use Rattle.delay_queue.specs.Claims.{CallClaim}
 use Rattle.entries.specs.declared.Step.{Step}
 use Rattle.entries.specs.declared.Step.TheVariants as S
-use Rattle.writing.specs.Writing.{Wrote}
-use Rattle.entries.specs.Writing.{blank}
 use Rattle.journal.specs.Journal.{Acts, asks, opened, open_twice, closed, not_open, written}
 
 acts_open : (p : Bool) {s : QueueWords} {a : Answer} → told a ≡ cond p (T.no 13) T.ok → Acts p s S.Open a true s
@@ -27,9 +25,8 @@ acts_close false e = not_open e
 pub act_asked : {p : Bool} {s s' : QueueWords} {x : Step} {c : Call} {a : Answer} → x ≡ S.Asks c → CallClaim c s a s' → Acts p s x a p s'
 act_asked {p} {s} {s'} {x} {c} {a} e A = subst (λ (y : Step). Acts p s y a p s') (sym e) (asks A)
 
-pub asked_wrote : {x y : Step} (a : Answer) {m : ℕ} {k : List ℕ} → x ≡ y → Wrote blank 0 (written y (told a)) m k
-    → Wrote blank 0 (written x (told a)) m k
-asked_wrote {x} {y} a {m} {k} e w = subst (λ (z : Step). Wrote blank 0 (written z (told a)) m k) (sym e) w
+pub asked_wrote : {x y : Step} (a : Answer) {k : List ℕ} → x ≡ y → k ≡ written y (told a) → k ≡ written x (told a)
+asked_wrote a e w = w ∙ ap (λ (z : Step). written z (told a)) (sym e)
 
 -- the heads are handed back as they came
 module _ (w : Wheel) {hh hh' : List (List ℕ)} (vs ds ns ps ts ms : List ℕ) (q : hh' ≡ hh) {p : Bool} {x : Step} {a : Answer} where

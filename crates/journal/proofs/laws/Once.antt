@@ -23,9 +23,6 @@ use Rattle.entries.specs.declared.Step.{Step}
 use Rattle.entries.specs.declared.Step.TheVariants as S
 use Rattle.entries.specs.Entries.{entry, step_bytes}
 use Rattle.entries.proofs.laws.Writing.{entry_length, pair_size}
-use Rattle.writing.specs.Writing.{Wrote}
-use Rattle.writing.proofs.laws.Writing.{wrote_once}
-use Rattle.entries.specs.Writing.{blank}
 use Rattle.journal.specs.Journal.{Acts, asks, opened, open_twice, closed, not_open, unwritten, written, ActClaim, Noted, Journals, rest, next}
 
 -- ---- one outcome
@@ -39,14 +36,11 @@ acts_once {a = a} {b} (closed e) (closed f) = (told_one a b (e ∙ sym f), refl,
 acts_once {a = a} {b} (not_open e) (not_open f) = (told_one a b (e ∙ sym f), refl, refl)
 
 -- "Write each call ..": the claim of `act` leaves one answer, one store, one state of the patch and the same bytes
-pub act_once : {x : Step} {o p q : Bool} {s t u : QueueWords} {a b : Answer} {m n : ℕ} {k l : List ℕ} → ActClaim o s x a p t m k
-    → ActClaim o s x b q u n l → (a ≡ b) × (p ≡ q) × (t ≡ u) × (m ≡ n) × (k ≡ l)
-act_once {x} {a = a} {b} {m} {n} {k} {l} A B =
+pub act_once : {x : Step} {o p q : Bool} {s t u : QueueWords} {a b : Answer} {k l : List ℕ} → ActClaim o s x a p t k → ActClaim o s x b q u l
+    → (a ≡ b) × (p ≡ q) × (t ≡ u) × (k ≡ l)
+act_once {x} {k = k} A B =
     let r = acts_once A.acts B.acts in
-    let e : b ≡ a = sym r.0 in
-    let w : Wrote blank 0 (written x (told a)) n l = rw e at B.writes in
-    let y = wrote_once A.writes w in
-    (r.0, r.1, r.2, y.0, y.1)
+    (r.0, r.1, r.2, A.writes ∙ ap (λ (y : Answer). written x (told y)) r.0 ∙ sym B.writes)
 
 pub acts_met : (x : Step) (o : Bool) (s : QueueWords) → (a : Answer) × (p : Bool) × (t : QueueWords) × Acts o s x a p t
 acts_met (S.Asks c) o s = let m = call_met c s in (m.0, o, m.1, asks m.2)
@@ -58,15 +52,11 @@ acts_met S.Close false s = (A.No 13, false, s, not_open refl)
 -- ---- what is not written
 
 -- for the code
-pub other_number : (n : ℕ) → (n ≡ 1 → ⊥) → (n ≡ 2 → ⊥) → (n ≡ 13 → ⊥) → false ≡ unwritten (T.no n)
-other_number n h₁ h₂ h₃ = simp (ne_eqb n 1 h₁, ne_eqb n 2 h₂, ne_eqb n 13 h₃)
-
-pub note_none : (x : Step) (a : Answer) {m : ℕ} {k : List ℕ} → unwritten (told a) ≡ true → Wrote blank 0 [] m k → Wrote blank 0 (written x (told a)) m k
+pub note_none : (x : Step) (a : Answer) {k : List ℕ} → unwritten (told a) ≡ true → k ≡ [] → k ≡ written x (told a)
 unfolding written
 note_none x a e w = rw e w
 
-pub note_some : (x : Step) (a : Answer) {m : ℕ} {k : List ℕ} → unwritten (told a) ≡ false → Wrote blank 0 (step_bytes x) m k
-    → Wrote blank 0 (written x (told a)) m k
+pub note_some : (x : Step) (a : Answer) {k : List ℕ} → unwritten (told a) ≡ false → k ≡ step_bytes x → k ≡ written x (told a)
 unfolding written
 note_some x a e w = rw e w
 

@@ -19,18 +19,18 @@ pub loop-bytes-preserved : goal.loop-bytes-preserved
 loop-bytes-preserved c =
     let I = c.loop-bytes.invariant in
     let A = c.answer-run.ensures in
-    let size = counted c.more-got.new.buf c.count-k.ensures c.more-got.ensures.0.0 in
+    let size = counted c.more-got.new.buf c.count-k.ensures c.more-got.ensures.0 in
     record { kept = A.kept_bound_2; reads = reads_more I.reads (A.passes c.if-not-run.false) c.loop-bytes.auto.line size }
 
 pub returns-then-k-eq0 : goal.returns-then-k-eq0
 returns-then-k-eq0 c =
     let I = c.loop-bytes.invariant in
-    rw c.comes_to.ensures (λ e. ran I.reads (short c.loop-bytes.line I.kept (omega arith) (omega arith)) (c.finish-end.ensures e))
+    λ e. ran I.reads (short c.loop-bytes.line I.kept (omega arith) (omega arith)) (c.finish-end.ensures e)
 
 pub returns-then-not-run : goal.returns-then-not-run
-returns-then-not-run c = rw c.comes_to-then-not-run.ensures (λ e. absurd (false≢true (sym c.if-not-run.true ∙ e)))
+returns-then-not-run c = λ e. absurd (false≢true (sym c.if-not-run.true ∙ e))
 
 pub returns : goal.returns
 returns c =
     let I = c.loop-bytes.invariant in
-    rw c.comes_to-2.ensures (λ e. ran I.reads (short c.loop-bytes.line I.kept (omega arith) (omega arith)) (breaks_off c.nothing.ensures))
+    λ e. ran I.reads (short c.loop-bytes.line I.kept (omega arith) (omega arith)) (breaks_off c.nothing.ensures)

@@ -2,10 +2,10 @@
 use Rattle.noting.proofs.laws.Line.{line_step, line_bad}
 use Rattle.noting.proofs.do_line.Goals as goal
 
-pub returns-in-Is : goal.returns-in-Is
-returns-in-Is c =
-    line_step c.step_in-s.ensures c.in-Is.is c.do_step.ensures
+pub returns-in-Some : goal.returns-in-Some
+returns-in-Some c =
+    line_step c.in-Some.ensures c.do_step.ensures
 
-pub returns-in-Bad : goal.returns-in-Bad
-returns-in-Bad c =
-    line_bad c.step_in-s.ensures c.in-Bad.is c.write_bad-end.ensures
+pub returns-in-None : goal.returns-in-None
+returns-in-None c =
+    line_bad c.in-None.ensures c.write_bad.ensures

@@ -1,22 +1,17 @@
 -- `do_step` meets its claim: the step has acted, its bytes have room (`act_size`) and stand behind the others (`step_done`).
+use mathlib.Core.Path.{refl, ap}
+use mathlib.Core.List.{List}
+use Prim.Native.Nat.{ℕ}
 use native.Mathlib.Omega.{arith}
-use lib.ListN.{length-take}
+use lib.ListN.{length}
+use Rattle.entries.proofs.laws.Writing.{wrote_as}
 use Rattle.noting.proofs.laws.Line.{act_size, step_done}
 use Rattle.noting.proofs.do_step.Goals as goal
 
-pub slice_bounds-bytes-end : goal.slice_bounds-bytes-end
-slice_bounds-bytes-end c =
-    let z = act_size c.act-r.ensures in omega (arith, z.0, z.1)
-
-pub slice_bounds-push-end : goal.slice_bounds-push-end
-slice_bounds-push-end c =
-    let z = act_size c.act-r.ensures in simp length-take (omega (arith, z.0, z.1))
-
 pub push-behind-requires : goal.push-behind-requires
 push-behind-requires c =
-    let z = act_size c.act-r.ensures in
-    simp length-take (omega (arith, z.0, z.1, c.requires))
+    omega (arith, act_size c.act-r.ensures, ap (λ (l : List ℕ). length l) c.as_slice.ensures, c.requires)
 
 pub returns : goal.returns
 returns c =
-    step_done _ _ _ _ _ _ _ c.heads_in-grid.ensures c.act-r.ensures c.push-behind.ensures c.write_answer-end.ensures
+    step_done _ _ _ _ _ _ _ c.heads_in-grid.ensures c.act-r.ensures (wrote_as refl c.as_slice.ensures c.push-behind.ensures) c.write_answer-end.ensures

@@ -6,19 +6,16 @@ use Prim.Native.Char.{code}
 use native.Mathlib.Omega.{arith}
 use lib.ListN.{length, take, get_or}
 use lib.Seq.{take_all}
+use Rattle.std.specs.Prelude.{Some, None}
 use Rattle.delay_queue.specs.declared.Call.{Call}
 use Rattle.delay_queue.specs.declared.Call.TheVariants as C
 use Rattle.decimals.specs.Text.{bytes, Spaced, Fit as AllFit}
-use Rattle.asking.specs.declared.Line.{Line}
-use Rattle.asking.specs.declared.Line.TheVariants as L
 use Rattle.asking.specs.Text.{letter, numbers, Says, ReadClaim}
 use Rattle.asking.proofs.laws.Asking.{one_call}
 use Rattle.lines.proofs.laws.Lines.{whole_line}
 use Rattle.entries.specs.declared.Step.{Step}
 use Rattle.entries.specs.declared.Step.TheVariants as S
 use Rattle.entries.specs.Entries.{Fit}
-use Rattle.noting.specs.declared.Said.{Said}
-use Rattle.noting.specs.declared.Said.TheVariants as D
 use Rattle.noting.specs.Means.{Means, opens, ends, asks, Bad, SaidClaim, is, bad}
 
 -- ---- one step
@@ -93,25 +90,23 @@ first_bad {l} f x m = f x (subst (λ (t : List ℕ). Means t x) (sym (take_all 8
 
 -- ---- what `step_in` has read
 
-pub said_asks : {l : List ℕ} {r : Line} {c : Call} → ReadClaim l r → r ≡ L.Asks c → SaidClaim l (D.Is (S.Asks c))
-said_asks {c = c} R e = is (asks ((R.asks c).0 e))
+pub said_asks : {l : List ℕ} {c : Call} → ReadClaim l (Some c) → SaidClaim l (Some (S.Asks c))
+said_asks {c = c} R = is (asks ((R.asks c).0 refl))
 
-pub said_bad : {l : List ℕ} {r : Line} → ReadClaim l r → r ≡ L.Bad → (l ≡ bytes "o" → ⊥) → (l ≡ bytes "e" → ⊥) → SaidClaim l D.Bad
-said_bad {l} R e f g = bad (none_of R e)
+pub said_bad : {l : List ℕ} → ReadClaim l None → (l ≡ bytes "o" → ⊥) → (l ≡ bytes "e" → ⊥) → SaidClaim l None
+said_bad {l} R f g = bad none_of
   where
-    none_of : {r : Line} → ReadClaim l r → r ≡ L.Bad → Bad l
-    none_of R e S.Open (opens h) = f h
-    none_of R e S.Close (ends h) = g h
-    none_of R e (S.Asks c) (asks s) = R.bad.0 e c s
+    none_of : Bad l
+    none_of S.Open (opens h) = f h
+    none_of S.Close (ends h) = g h
+    none_of (S.Asks c) (asks s) = R.bad.0 refl c s
 
 -- and what its caller has from it
-pub said_means : {l : List ℕ} {r : Said} {x : Step} → SaidClaim l r → r ≡ D.Is x → Means l x
-said_means {l} {x = x} (is {x = y} m) e = let h : y ≡ x = cc in subst (λ (z : Step). Means l z) h m
-said_means (bad f) e = let z : ◌≡◌ {A = ℕ} 0 1 = cc in absurd (omega arith)
+pub said_means : {l : List ℕ} {x : Step} → SaidClaim l (Some x) → Means l x
+said_means (is m) = m
 
-pub said_none : {l : List ℕ} {r : Said} → SaidClaim l r → r ≡ D.Bad → Bad l
-said_none (is m) e = let z : ◌≡◌ {A = ℕ} 0 1 = cc in absurd (omega arith)
-said_none (bad f) e = f
+pub said_none : {l : List ℕ} → SaidClaim l None → Bad l
+said_none (bad f) = f
 
 -- ---- a line of one byte
 

@@ -10,7 +10,7 @@ slice_bounds-do_line-end-then-t c =
 
 pub returns-then-t : goal.returns-then-t
 returns-then-t c =
-    next_ended c.take_line-t.ensures c.if-t.true c.do_line-done.ensures
+    next_ended c.take_line-t.ensures c.if-t.true c.do_line-after.ensures
 
 pub returns : goal.returns
 returns c =

@@ -11,11 +11,11 @@ pub returns-then-is_byte-2 : goal.returns-then-is_byte-2
 returns-then-is_byte-2 c =
     is (ends (c.is_byte-2.ensures.yes c.if-is_byte-2.true))
 
-pub returns-in-Asks : goal.returns-in-Asks
-returns-in-Asks c =
-    said_asks c.read_line-asked.ensures c.in-Asks.is
+pub returns-in_err-read_line : goal.returns-in_err-read_line
+returns-in_err-read_line c =
+    rw c.from_residual.ensures
+    (said_bad c.in_err-read_line.ensures (c.is_byte.ensures.no c.if-is_byte.false) (c.is_byte-2.ensures.no c.if-is_byte-2.false))
 
-pub returns-in-Bad : goal.returns-in-Bad
-returns-in-Bad c =
-    said_bad c.read_line-asked.ensures c.in-Bad.is (c.is_byte.ensures.no c.if-is_byte.false)
-    (c.is_byte-2.ensures.no c.if-is_byte-2.false)
+pub returns : goal.returns
+returns c =
+    said_asks c.in_ok-read_line.ensures

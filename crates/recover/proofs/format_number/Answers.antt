@@ -3,14 +3,14 @@ use mathlib.Core.Path.{ap}
 use mathlib.Core.Bool.{not}
 use Rattle.recover.proofs.laws.Parts.{not_none, not_many, no_room, fits_so}
 use Rattle.recover.proofs.format_number.Goals as goal
+use Rattle.recover.proofs.format_number.Goals.{then-n-eq0-via-then-n-eq0, then-n-eq0-via-else-n-eq0+then-n}
 
 pub returns-then-n-eq0 : goal.returns-then-n-eq0
 returns-then-n-eq0 c =
-    not_none c.if-n-eq0.true
-
-pub returns-then-n : goal.returns-then-n
-returns-then-n c =
-    not_many c.if-n.true
+    elim c.then-n-eq0.branch [
+      | then-n-eq0-via-then-n-eq0 w ↦ not_none w.if-n-eq0.true
+      | then-n-eq0-via-else-n-eq0+then-n w ↦ not_many w.if-n.true
+    ]
 
 pub returns-then-not-has_room : goal.returns-then-not-has_room
 returns-then-not-has_room c =

@@ -6,14 +6,13 @@ use Prim.Native.Nat.{ℕ, zero, suc, ◌+◌, ◌≤◌, ◌<◌}
 use native.Mathlib.Omega.{arith}
 use lib.ListN.{length, take, drop, length-drop}
 use lib.Seq.{take-add, drop-drop, drop-append_seam, length-take-le}
+use Rattle.std.proofs.Common.{Result, Ok, Err}
 use Rattle.queue.specs.declared.Answer.{Answer}
 use Rattle.records.specs.Words.{QueueWords}
 use Rattle.promises.proofs.laws.OneCall.{call_once, call_met}
 use Rattle.entries.specs.declared.Step.{Step}
 use Rattle.entries.specs.declared.Step.TheVariants as S
 use Rattle.entries.specs.declared.Ending.{Ending}
-use Rattle.entries.specs.declared.NextStep.{NextStep}
-use Rattle.entries.specs.declared.NextStep.TheVariants as X
 use Rattle.entries.specs.Reading as read
 use Rattle.entries.proofs.laws.Reading.{next_cut}
 use Rattle.entries.proofs.laws.Inverse.{next_size}
@@ -51,10 +50,10 @@ met : (k : ℕ) (l : List ℕ) → length l ≤ k → (s : QueueWords) → (n : 
 met zero l h s = (0, s, ends (sym (next_cut l 0 (omega arith))))
 met (suc k) l h s = by (λ (m : List ℕ) g r. met k m g r) (read.next l) refl
   where
-    by : ((m : List ℕ) → length m ≤ k → (r : QueueWords) → (n : ℕ) × (t : QueueWords) × Applies m r n t) → (n : NextStep) → read.next l ≡ n
+    by : ((m : List ℕ) → length m ≤ k → (r : QueueWords) → (n : ℕ) × (t : QueueWords) × Applies m r n t) → (n : Result Step Ending) → read.next l ≡ n
         → (n : ℕ) × (t : QueueWords) × Applies l s n t
-    by rec (X.Ends e) q = (0, s, ends q)
-    by rec (X.One x) q =
+    by rec (Err e) q = (0, s, ends q)
+    by rec (Ok x) q =
         let n = next_size l q in
         let m = makes_met x s in
         let r = rec (drop (size x) l) (omega (arith, n.0, length-drop (size x) l)) m.0 in
@@ -70,7 +69,7 @@ applies_within (ends h) = omega arith
 applies_within {l} (step {x = x} h M A) = omega (arith, applies_within A, (next_size l h).1, length-drop (size x) l)
 
 -- a step in front of what is applied
-one_more : (c : List ℕ) {r : List ℕ} {s s₁ t : QueueWords} {x : Step} {n : ℕ} → read.next c ≡ X.One x → Makes x s s₁ → Applies r s₁ n t
+one_more : (c : List ℕ) {r : List ℕ} {s s₁ t : QueueWords} {x : Step} {n : ℕ} → read.next c ≡ Ok x → Makes x s s₁ → Applies r s₁ n t
     → Applies (take (size x) c ++ r) s (size x + n) t
 one_more c {r} {s₁ = s₁} {t} {x} {n} h M A =
     let k = next_size c h in
@@ -103,11 +102,11 @@ pub nothing_left : {s : QueueWords} → Applies [] s 0 s
 nothing_left = ends (sym (next_cut [] 0 (omega arith)))
 
 -- one step more, and one alone
-front : (l : List ℕ) {s s₁ t : QueueWords} {x : Step} {v : ℕ} → read.next l ≡ X.One x → Makes x s s₁ → Applies (take v (drop (size x) l)) s₁ v t
+front : (l : List ℕ) {s s₁ t : QueueWords} {x : Step} {v : ℕ} → read.next l ≡ Ok x → Makes x s s₁ → Applies (take v (drop (size x) l)) s₁ v t
     → Applies (take (size x + v) l) s (size x + v) t
 front l {s} {t = t} {x} {v} h M A = subst (λ (m : List ℕ). Applies m s (size x + v) t) (sym (take-add (size x) v l)) (one_more l h M A)
 
-alone : (l : List ℕ) {s s₁ : QueueWords} {x : Step} → read.next l ≡ X.One x → Makes x s s₁ → Applies (take (size x) l) s (size x) s₁
+alone : (l : List ℕ) {s s₁ : QueueWords} {x : Step} → read.next l ≡ Ok x → Makes x s s₁ → Applies (take (size x) l) s (size x) s₁
 alone l {s} {s₁} {x} h M =
     let e : size x + 0 ≡ size x = omega arith in
     subst (λ (z : List ℕ × ℕ). Applies z.0 s z.1 s₁) (λ i. (append-nil (take (size x) l) i, e i)) (one_more l h M nothing_left)
@@ -117,12 +116,12 @@ data KeptUpTo (l : List ℕ) (at : ℕ) (s : QueueWords) (kept : ℕ) (t : Queue
   same : f.kept ≡ kept → f.store ≡ t → KeptUpTo l at s kept t f
   more : (u : ℕ) → f.kept ≡ at + u → Applies (take u l) s u f.store → KeptUpTo l at s kept t f
 
-inside_kept : {l : List ℕ} {at : ℕ} {s s₁ : QueueWords} {kept : ℕ} {t : QueueWords} {f : Found} {x : Step} → read.next l ≡ X.One x → Makes x s s₁
+inside_kept : {l : List ℕ} {at : ℕ} {s s₁ : QueueWords} {kept : ℕ} {t : QueueWords} {f : Found} {x : Step} → read.next l ≡ Ok x → Makes x s s₁
     → KeptUpTo (drop (size x) l) (at + size x) s₁ kept t f → KeptUpTo l at s kept t f
 inside_kept h M (same e g) = same e g
 inside_kept {l} {at} {x = x} h M (more v e A) = more (size x + v) (omega (arith, e)) (front l h M A)
 
-outside_kept : {l : List ℕ} {at : ℕ} {s s₁ : QueueWords} {kept : ℕ} {t : QueueWords} {f : Found} {x : Step} → read.next l ≡ X.One x → Makes x s s₁
+outside_kept : {l : List ℕ} {at : ℕ} {s s₁ : QueueWords} {kept : ℕ} {t : QueueWords} {f : Found} {x : Step} → read.next l ≡ Ok x → Makes x s s₁
     → KeptUpTo (drop (size x) l) (at + size x) s₁ (at + size x) s₁ f → KeptUpTo l at s kept t f
 outside_kept {l} {s = s} {x = x} h M (same e g) = more (size x) e (subst (λ (w : QueueWords). Applies (take (size x) l) s (size x) w) (sym g) (alone l h M))
 outside_kept {l} {at} {x = x} h M (more v e A) = more (size x + v) (omega (arith, e)) (front l h M A)
@@ -153,7 +152,7 @@ pub apply_start : (l : List ℕ) (s : QueueWords) → Applying l s s 0
 apply_start l s = record { then = λ n t A. let e : n ≡ 0 + n = omega arith in subst (λ (i : ℕ). Applies l s i t) e A; within = omega arith }
 
 module _ {l : List ℕ} {s s' : QueueWords} {used : ℕ} (I : Applying l s s' used) where
-  pub apply_pass : {s'' : QueueWords} {x : Step} {k : ℕ} → read.next (drop used l) ≡ X.One x → Makes x s' s'' → k ≡ size x → Applying l s s'' (used + k)
+  pub apply_pass : {s'' : QueueWords} {x : Step} {k : ℕ} → read.next (drop used l) ≡ Ok x → Makes x s' s'' → k ≡ size x → Applying l s s'' (used + k)
   apply_pass {s''} {x} e M q =
       let n = next_size (drop used l) e in
       subst (λ (k : ℕ). Applying l s s'' (used + k)) (sym q)
@@ -164,9 +163,9 @@ module _ {l : List ℕ} {s s' : QueueWords} {used : ℕ} (I : Applying l s s' us
         within = omega (arith, n.1, length-drop used l, I.within);
       })
 
-  pub apply_ends : {e : Ending} → read.next (drop used l) ≡ X.Ends e → Applies l s used s'
+  pub apply_ends : {e : Ending} → read.next (drop used l) ≡ Err e → Applies l s used s'
   apply_ends e = subst (λ (i : ℕ). Applies l s i s') (omega arith) (I.then 0 s' (ends e))
 
 -- a step goes forth, and stays within
-pub step_forth : (l : List ℕ) (at : ℕ) {x : Step} {k : ℕ} → read.next (drop at l) ≡ X.One x → k ≡ size x → (at < at + k) × (at + k ≤ length l)
+pub step_forth : (l : List ℕ) (at : ℕ) {x : Step} {k : ℕ} → read.next (drop at l) ≡ Ok x → k ≡ size x → (at < at + k) × (at + k ≤ length l)
 step_forth l at e q = let n = next_size (drop at l) e in (omega (arith, n.0), omega (arith, n.0, n.1, length-drop at l))

@@ -8,12 +8,12 @@ use native.Mathlib.Decide.{dec_lt}
 use native.Mathlib.Omega.{arith}
 use lib.ListN.{length, take, length-append}
 use lib.Seq.{drop-append_seam}
+use Rattle.std.proofs.Common.{Err}
 use Rattle.queue.specs.declared.Answer.{Answer}
 use Rattle.queue.specs.Told.{told}
 use Rattle.records.specs.Words.{QueueWords}
 use Rattle.entries.specs.declared.Step.{Step}
 use Rattle.entries.specs.declared.Ending.TheVariants as E
-use Rattle.entries.specs.declared.NextStep.TheVariants as X
 use Rattle.entries.specs.Entries.{step_bytes, Fit}
 use Rattle.entries.specs.Reading as read
 use Rattle.entries.proofs.laws.Reading.{next_cut}
@@ -188,7 +188,7 @@ run_outside {p} {q} {s} {u} (J.next {p₁ = p₁} {s₁ = s₁} {x = x} {J = K} 
 
 -- ---- the promises
 
-part_ends : {l : List ℕ} → Part l → read.next l ≡ X.Ends E.Cut
+part_ends : {l : List ℕ} → Part l → read.next l ≡ Err E.Cut
 unfolding written
 part_ends nothing = sym (next_cut [] 0 (omega arith))
 part_ends (part x k f h) = by (unwritten (told x.answer)) refl
@@ -196,7 +196,7 @@ part_ends (part x k f h) = by (unwritten (told x.answer)) refl
     W : List ℕ
     W = written x.step (told x.answer)
 
-    by : (b : Bool) → unwritten (told x.answer) ≡ b → read.next (take k W) ≡ X.Ends E.Cut
+    by : (b : Bool) → unwritten (told x.answer) ≡ b → read.next (take k W) ≡ Err E.Cut
     by true e = absurd (omega (arith, h, ap (λ (c : Bool). length (cond c [] (step_bytes x.step))) e))
     by false e =
         let w : W ≡ step_bytes x.step = ap (λ (c : Bool). cond c [] (step_bytes x.step)) e in

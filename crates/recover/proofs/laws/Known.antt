@@ -6,6 +6,8 @@ use Prim.Native.Nat.{ℕ, ◌^◌}
 use native.Mathlib.Omega.{arith}
 use borrow.Author.Tests.{ltb-true, ltb-false}
 use lib.Dec.{ltb}
+use Rattle.std.specs.Prelude.{Option, Some, None, not}
+use Rattle.std.specs.Bool.{then_some}
 use Rattle.contracts.specs.Tells.{Tells}
 use Rattle.queue.specs.declared.Answer.{Answer}
 use Rattle.queue.specs.Told.{Told, told}
@@ -114,35 +116,27 @@ written_so {t} f = by (unwritten t) refl
     by false e = e
 
 module _ {l : Slices} {b : Bool} {t : QueueWords} (K : Known l b t) where
-  -- a step with number 0 is written
-  pub number_none : {x : Step} {p p' : Bool} {a : Answer} {t' : QueueWords} {r : ℕ} → NumberOf l b p x r → r ≡ 0 → Acts p t x a p' t'
+  -- a step with no such number is written
+  pub number_none : {x : Step} {p p' : Bool} {a : Answer} {t' : QueueWords} → NumberOf l b p x None → Acts p t x a p' t'
       → unwritten (told a) ≡ false
-  number_none {a = a} {t'} (formats {n} {turn} (enough f)) z (asks A) =
+  number_none {a = a} {t'} (formats {n} {turn} (enough f)) (asks A) =
       written_so (λ k q S. (one_alone n turn t ((refused_exactly (C.Format n turn) t a t' A k).1 q) S).1 (K.forth n f))
-  number_none (formats (short f)) z A = absurd (omega arith)
-  number_none {a = a} {t'} (made {c} e h) z (asks A) =
+  number_none {a = a} {t'} (made {c} e h) (asks A) =
       written_so (λ k q S. (two_alone c t e ((refused_exactly c t a t' A k).1 q) S).1 (K.live.yes h))
-  number_none (no_store e h) z A = absurd (omega arith)
-  number_none (opens h) z (opened f) = ap unwritten f
-  number_none (opens h) z (open_twice f) = absurd (true≢false h)
-  number_none (opens_twice h) z A = absurd (omega arith)
-  number_none (closes h) z (closed f) = ap unwritten f
-  number_none (closes h) z (not_open f) = absurd (false≢true h)
-  number_none (closes_none h) z A = absurd (omega arith)
+  number_none (opens h) (opened f) = ap unwritten f
+  number_none (opens h) (open_twice f) = absurd (true≢false h)
+  number_none (closes h) (closed f) = ap unwritten f
+  number_none (closes h) (not_open f) = absurd (false≢true h)
 
-  -- one with another number gets it, and is not
-  pub number_some : {x : Step} {p p' : Bool} {a : Answer} {t' : QueueWords} {r : ℕ} → NumberOf l b p x r → r ≢ 0 → Acts p t x a p' t'
+  -- one with such a number gets it, and is not
+  pub number_some : {x : Step} {p p' : Bool} {a : Answer} {t' : QueueWords} {r : ℕ} → NumberOf l b p x (Some r) → Acts p t x a p' t'
       → (told a ≡ T.no r) × (unwritten (told a) ≡ true)
-  number_some (formats (enough f)) z A = absurd (z refl)
-  number_some (formats {n} (short f)) z (asks A) = let u = (A.short (λ g. f (K.back n g))).told in (u, no_unwritten u one)
-  number_some (made e h) z A = absurd (z refl)
-  number_some {a = a} {t'} (no_store {c} e h) z (asks A) = let u = (unsound_refused c t a t' A e (K.live.no h)).0 in (u, no_unwritten u two)
-  number_some (opens h) z A = absurd (z refl)
-  number_some (opens_twice h) z (opened f) = absurd (false≢true h)
-  number_some (opens_twice h) z (open_twice f) = (f, no_unwritten f thirteen)
-  number_some (closes h) z A = absurd (z refl)
-  number_some (closes_none h) z (closed f) = absurd (true≢false h)
-  number_some (closes_none h) z (not_open f) = (f, no_unwritten f thirteen)
+  number_some (formats {n} (short f)) (asks A) = let u = (A.short (λ g. f (K.back n g))).told in (u, no_unwritten u one)
+  number_some {a = a} {t'} (no_store {c} e h) (asks A) = let u = (unsound_refused c t a t' A e (K.live.no h)).0 in (u, no_unwritten u two)
+  number_some (opens_twice h) (opened f) = absurd (false≢true h)
+  number_some (opens_twice h) (open_twice f) = (f, no_unwritten f thirteen)
+  number_some (closes_none h) (closed f) = absurd (true≢false h)
+  number_some (closes_none h) (not_open f) = (f, no_unwritten f thirteen)
 
 -- ---- after a step
 
@@ -177,21 +171,17 @@ module _ {l : Slices} {b : Bool} {t : QueueWords} (K : Known l b t) where
   kept_after : (c : Call) {t' : QueueWords} {d : Bool} → PastKept (reach c t) t t' → Tells (Sound t') d → Known l d t'
   kept_after c P L = record { live = L; forth = λ n f. (fits_kept P).0 (K.forth n f); back = λ n f. K.back n ((fits_kept P).1 f) }
 
-  pub known_after : {x : Step} {p p' : Bool} {a : Answer} {t' : QueueWords} {r : ℕ} → NumberOf l b p x r → r ≡ 0 → Acts p t x a p' t'
+  pub known_after : {x : Step} {p p' : Bool} {a : Answer} {t' : QueueWords} → NumberOf l b p x None → Acts p t x a p' t'
       → Known l (live_after b x) t'
-  known_after {a = a} {t'} (formats {n} {turn} (enough f)) z (asks A) =
+  known_after {a = a} {t'} (formats {n} {turn} (enough f)) (asks A) =
       kept_after (C.Format n turn) (past_kept (C.Format n turn) t a t' A) (format_after n turn A (K.forth n f))
-  known_after (formats (short f)) z A = absurd (omega arith)
-  known_after {a = a} {t'} (made {c} e h) z (asks A) =
+  known_after {a = a} {t'} (made {c} e h) (asks A) =
       let S : Tells (Sound t') b = rw h (told_true (call_sound c t a t' A (K.live.yes h))) in
       rw (live_same b c e) (kept_after c (past_kept c t a t' A) S)
-  known_after (no_store e h) z A = absurd (omega arith)
-  known_after (opens h) z (opened f) = K
-  known_after (opens h) z (open_twice f) = K
-  known_after (opens_twice h) z A = absurd (omega arith)
-  known_after (closes h) z (closed f) = K
-  known_after (closes h) z (not_open f) = K
-  known_after (closes_none h) z A = absurd (omega arith)
+  known_after (opens h) (opened f) = K
+  known_after (opens h) (open_twice f) = K
+  known_after (closes h) (closed f) = K
+  known_after (closes h) (not_open f) = K
 
 pub open_after_lem : {x : Step} {p p' : Bool} {s t : QueueWords} {a : Answer} → Acts p s x a p' t → p' ≡ open_after p x
 open_after_lem (asks A) = refl
@@ -203,26 +193,38 @@ open_after_lem (not_open f) = refl
 -- ---- for the code
 
 -- a step that is known by another name
-pub number_as : {l : Slices} {b p : Bool} {x y : Step} {r : ℕ} → x ≡ y → NumberOf l b p y r → NumberOf l b p x r
+pub number_as : {l : Slices} {b p : Bool} {x y : Step} {r : Option ℕ} → x ≡ y → NumberOf l b p y r → NumberOf l b p x r
 number_as {l} {b} {p} {r = r} e N = subst (λ (z : Step). NumberOf l b p z r) (sym e) N
 
-pub number_call : {l : Slices} (b : Bool) {p : Bool} {c : Call} {r : ℕ} → is_format c ≡ false → r ≡ cond b 0 2 → NumberOf l b p (S.Asks c) r
-number_call {l} b {p} {c} {r} e q = subst (λ (k : ℕ). NumberOf l b p (S.Asks c) k) (sym q) (by b)
+pub no_format : (c : Call) → ((n turn : ℕ) → c ≡ C.Format n turn → ⊥) → is_format c ≡ false
+no_format (C.Format n turn) f = absurd (f n turn refl)
+no_format (C.Insert value when period) f = refl
+no_format (C.Reset key when) f = refl
+no_format (C.Remove key) f = refl
+no_format (C.Poll now) f = refl
+no_format (C.PollSome now limit) f = refl
+no_format C.Wake f = refl
+no_format C.Length f = refl
+no_format C.Clear f = refl
+
+pub number_call : {l : Slices} (b : Bool) {p : Bool} {c : Call} {r : Option ℕ} → is_format c ≡ false → r ≡ then_some (not b) 2
+    → NumberOf l b p (S.Asks c) r
+number_call {l} b {p} {c} {r} e q = subst (λ (k : Option ℕ). NumberOf l b p (S.Asks c) k) (sym q) (by b)
   where
-    by : (d : Bool) → NumberOf l d p (S.Asks c) (cond d 0 2)
+    by : (d : Bool) → NumberOf l d p (S.Asks c) (then_some (not d) 2)
     by true = made e refl
     by false = no_store e refl
 
-pub number_open : {l : Slices} {b : Bool} (p : Bool) {r : ℕ} → r ≡ cond p 13 0 → NumberOf l b p S.Open r
-number_open {l} {b} p {r} q = subst (λ (k : ℕ). NumberOf l b p S.Open k) (sym q) (by p)
+pub number_open : {l : Slices} {b : Bool} (p : Bool) {r : Option ℕ} → r ≡ then_some p 13 → NumberOf l b p S.Open r
+number_open {l} {b} p {r} q = subst (λ (k : Option ℕ). NumberOf l b p S.Open k) (sym q) (by p)
   where
-    by : (d : Bool) → NumberOf l b d S.Open (cond d 13 0)
+    by : (d : Bool) → NumberOf l b d S.Open (then_some d 13)
     by true = opens_twice refl
     by false = opens refl
 
-pub number_close : {l : Slices} {b : Bool} (p : Bool) {r : ℕ} → r ≡ cond p 0 13 → NumberOf l b p S.Close r
-number_close {l} {b} p {r} q = subst (λ (k : ℕ). NumberOf l b p S.Close k) (sym q) (by p)
+pub number_close : {l : Slices} {b : Bool} (p : Bool) {r : Option ℕ} → r ≡ then_some (not p) 13 → NumberOf l b p S.Close r
+number_close {l} {b} p {r} q = subst (λ (k : Option ℕ). NumberOf l b p S.Close k) (sym q) (by p)
   where
-    by : (d : Bool) → NumberOf l b d S.Close (cond d 0 13)
+    by : (d : Bool) → NumberOf l b d S.Close (then_some (not d) 13)
     by true = closes refl
     by false = closes_none refl

@@ -6,11 +6,11 @@ use Prim.Native.Nat.{ℕ, ◌+◌, ◌≤◌}
 use native.Mathlib.Omega.{arith}
 use lib.ListN.{length, take, drop, take-append-drop}
 use lib.Seq.{length-take-le}
+use Rattle.std.proofs.Common.{Err}
 use Rattle.queue.specs.Told.{told}
 use Rattle.records.specs.Words.{QueueWords}
 use Rattle.entries.specs.declared.Ending.{Ending}
 use Rattle.entries.specs.declared.Ending.TheVariants as E
-use Rattle.entries.specs.declared.NextStep.TheVariants as X
 use Rattle.entries.specs.Reading as read
 use Rattle.entries.specs.Reading.{Bytes}
 use Rattle.entries.proofs.laws.Inverse.{cut_is}
@@ -50,7 +50,7 @@ kept_longest {l} {s} {f} C k h {t = t} R =
 -- ---- no damage
 
 -- a run, and behind it bytes of which nothing more is read: that is why reading stops
-run_ends : {p q : Bool} {s u : QueueWords} {l : List Noted} {K : List ℕ} → Journals p s l K q u → (m : List ℕ) {e : Ending} → read.next m ≡ X.Ends e
+run_ends : {p q : Bool} {s u : QueueWords} {l : List Noted} {K : List ℕ} → Journals p s l K q u → (m : List ℕ) {e : Ending} → read.next m ≡ Err e
     → (at kept : ℕ) (t : QueueWords) → (f : Found) × Replays (K ++ m) at p s kept t f × (f.ending ≡ e)
 run_ends J.rest m {e} h at kept t = (found kept at e t, stops h, refl)
 run_ends {p} {s = s} (J.next {x = x} {J = K} g A R) m h at kept t =
@@ -58,8 +58,8 @@ run_ends {p} {s = s} (J.next {x = x} {J = K} g A R) m h at kept t =
     let r = step_front A g (K ++ m) at kept t (λ k v. run_ends R m h (at + length W) k v) in
     (r.0, rw (append_assoc W K m) r.1, r.2)
 
-stops_cut : {p : Bool} {t : QueueWords} {m : List ℕ} {d : Ending} → Stops p t m d → d ≡ E.Cut → read.next m ≡ X.Ends E.Cut
-stops_cut (no_step h) e = h ∙ ap (λ (d : Ending). X.Ends d) e
+stops_cut : {p : Bool} {t : QueueWords} {m : List ℕ} {d : Ending} → Stops p t m d → d ≡ E.Cut → read.next m ≡ Err E.Cut
+stops_cut (no_step h) e = h ∙ ap (λ (d : Ending). Err d) e
 stops_cut (refused h A q u) e = let z : ◌≡◌ {A = ℕ} 0 1 = cc in absurd (omega arith)
 
 -- no damage is named: the bytes are a journal and what is left of one more step

@@ -5,6 +5,7 @@ use mathlib.Core.List.{List}
 use Prim.Native.Nat.{ℕ, zero, suc, ◌+◌, ◌≤◌}
 use native.Mathlib.Omega.{arith}
 use lib.ListN.{length, drop, length-drop}
+use Rattle.std.proofs.Common.{Result, Ok, Err}
 use Rattle.queue.specs.declared.Answer.{Answer}
 use Rattle.queue.specs.Told.{told}
 use Rattle.queue.specs.Told as T
@@ -12,8 +13,6 @@ use Rattle.records.specs.Words.{QueueWords}
 use Rattle.entries.specs.declared.Step.{Step}
 use Rattle.entries.specs.declared.Ending.{Ending}
 use Rattle.entries.specs.declared.Ending.TheVariants as E
-use Rattle.entries.specs.declared.NextStep.{NextStep}
-use Rattle.entries.specs.declared.NextStep.TheVariants as X
 use Rattle.entries.specs.Reading as read
 use Rattle.entries.proofs.laws.Reading.{next_cut}
 use Rattle.entries.proofs.laws.Inverse.{next_size}
@@ -23,13 +22,13 @@ use Rattle.recover.specs.Replay.{Found, found, size, Replays, stops, gets, insid
 
 -- ---- one outcome
 
-pub same_step : {n : NextStep} {x y : Step} → n ≡ X.One x → n ≡ X.One y → x ≡ y
+pub same_step : {n : Result Step Ending} {x y : Step} → n ≡ Ok x → n ≡ Ok y → x ≡ y
 same_step p q = let e = sym p ∙ q in cc
 
-pub same_end : {n : NextStep} {d e : Ending} → n ≡ X.Ends d → n ≡ X.Ends e → d ≡ e
+pub same_end : {n : Result Step Ending} {d e : Ending} → n ≡ Err d → n ≡ Err e → d ≡ e
 same_end p q = let e = sym p ∙ q in cc
 
-pub not_both : {n : NextStep} {x : Step} {e : Ending} → n ≡ X.One x → n ≡ X.Ends e → ⊥
+pub not_both : {n : Result Step Ending} {x : Step} {e : Ending} → n ≡ Ok x → n ≡ Err e → ⊥
 not_both p q = let e = sym p ∙ q in let z : ◌≡◌ {A = ℕ} 0 1 = cc in omega arith
 
 -- the same bytes ask the same step, and it does the same
@@ -39,7 +38,7 @@ record Same (x y : Step) (a b : Answer) (q r : Bool) (t u : QueueWords) : Type 0
   patch : r ≡ q
   store : u ≡ t
 
-same : {n : NextStep} {p q r : Bool} {s t u : QueueWords} {x y : Step} {a b : Answer} → n ≡ X.One x → n ≡ X.One y → Acts p s x a q t
+same : {n : Result Step Ending} {p q r : Bool} {s t u : QueueWords} {x y : Step} {a b : Answer} → n ≡ Ok x → n ≡ Ok y → Acts p s x a q t
     → Acts p s y b r u → Same x y a b q r t u
 same {p = p} {r = r} {s} {u = u} {b = b} h k A B =
     let e = same_step k h in
@@ -89,7 +88,7 @@ met : (k : ℕ) (l : List ℕ) → length l ≤ k → Met l
 met zero l h at p s kept t = (found kept at E.Cut t, stops (sym (next_cut l 0 (omega arith))))
 met (suc k) l h at p s kept t = by (λ (m : List ℕ) g. met k m g) (read.next l) refl
   where
-    with_step : ((m : List ℕ) → length m ≤ k → Met m) → (x : Step) → read.next l ≡ X.One x → (a : Answer) (q : Bool) (u : QueueWords) → Acts p s x a q u
+    with_step : ((m : List ℕ) → length m ≤ k → Met m) → (x : Step) → read.next l ≡ Ok x → (a : Answer) (q : Bool) (u : QueueWords) → Acts p s x a q u
         → (b : Bool) → unwritten (told a) ≡ b → (f : Found) × Replays l at p s kept t f
     with_step rec x e a q u A true z = let r = unwritten_no (told a) z in (found kept at (E.Gets r.0) t, gets e A r.1 z)
     with_step rec x e a true u A false z =
@@ -101,9 +100,9 @@ met (suc k) l h at p s kept t = by (λ (m : List ℕ) g. met k m g) (read.next l
         let r = rec (drop (size x) l) (omega (arith, n.0, length-drop (size x) l)) (at + size x) false u (at + size x) u in
         (r.0, outside e A z r.1)
 
-    by : ((m : List ℕ) → length m ≤ k → Met m) → (n : NextStep) → read.next l ≡ n → (f : Found) × Replays l at p s kept t f
-    by rec (X.Ends e) q = (found kept at e t, stops q)
-    by rec (X.One x) q = let m = acts_met x p s in with_step rec x q m.0 m.1 m.2 m.3 (unwritten (told m.0)) refl
+    by : ((m : List ℕ) → length m ≤ k → Met m) → (n : Result Step Ending) → read.next l ≡ n → (f : Found) × Replays l at p s kept t f
+    by rec (Err e) q = (found kept at e t, stops q)
+    by rec (Ok x) q = let m = acts_met x p s in with_step rec x q m.0 m.1 m.2 m.3 (unwritten (told m.0)) refl
 
 pub replays_met : (l : List ℕ) → Met l
 replays_met l = met (length l) l (omega arith)

@@ -4,8 +4,9 @@ use mathlib.Core.Bool.{Bool, true, false, not, false≢true}
 use mathlib.Core.List.{List}
 use Prim.Native.Nat.{ℕ, ◌^◌, ◌≤◌, ◌<◌}
 use native.Mathlib.Omega.{arith}
-use borrow.Author.Tests.{lt-ltb, le-ltb, not-true, not-false}
+use borrow.Author.Tests.{not-true, not-false}
 use lib.ListN.{length, take}
+use Rattle.std.specs.Prelude.{Some, None}
 use Rattle.contracts.specs.Tells.{Tells}
 use Rattle.places.specs.declared.Tops.{Tops}
 use Rattle.wheel.specs.declared.Wheel.{Wheel}
@@ -27,7 +28,7 @@ use Rattle.entries.specs.declared.Step.TheVariants as S
 use Rattle.entries.proofs.laws.Writing.{entry_length, pair_size}
 use Rattle.recover.specs.Replay.{size, no_wheel, no_heads, without_store, found, ReplayClaim}
 use Rattle.recover.specs.declared.Seen.{Seen}
-use Rattle.recover.specs.Scan.{Short, enough, short, live_after, at_start, Scans, ScanClaim}
+use Rattle.recover.specs.Scan.{Short, enough, short, at_start, Scans, ScanClaim}
 use Rattle.recover.specs.Apply.{Makes, asked, opened, closed, Applies}
 use Rattle.recover.proofs.laws.Known.{Known}
 use Rattle.recover.proofs.laws.Scan.{scans_came, scans_replays}
@@ -38,32 +39,24 @@ use Rattle.recover.proofs.laws.Apply.{applies_once, replay_applies}
 pub size_as : {x y : Step} {k : ℕ} → x ≡ y → k ≡ size y → k ≡ size x
 size_as e h = h ∙ ap (λ (z : Step). size z) (sym e)
 
-pub size_call : {c d : Call} {k : ℕ} → c ≡ d → k ≡ size (S.Asks d) → k ≡ size (S.Asks c)
-size_call e h = h ∙ ap (λ (z : Call). size (S.Asks z)) (sym e)
+-- an open and a close have one entry
+pub size_patch : (x : Step) → ((c : Call) → x ≡ S.Asks c → ⊥) → 18 ≡ size x
+size_patch (S.Asks c) f = absurd (f c refl)
+size_patch S.Open f = sym (entry_length 7 0 0)
+size_patch S.Close f = sym (entry_length 8 0 0)
 
-pub size_format : (n turn : ℕ) → 18 ≡ size (S.Asks (C.Format n turn))
-size_format n turn = sym (entry_length 1 n turn)
-
-pub size_reset : (key when : ℕ) → 18 ≡ size (S.Asks (C.Reset key when))
-size_reset key when = sym (entry_length 3 key when)
-
-pub size_remove : (key : ℕ) → 18 ≡ size (S.Asks (C.Remove key))
-size_remove key = sym (entry_length 4 key 0)
-
-pub size_poll : (now : ℕ) → 18 ≡ size (S.Asks (C.Poll now))
-size_poll now = sym (entry_length 5 now 0)
-
-pub size_poll_some : (now limit : ℕ) → 18 ≡ size (S.Asks (C.PollSome now limit))
-size_poll_some now limit = sym (entry_length 11 now limit)
-
-pub size_clear : 18 ≡ size (S.Asks C.Clear)
-size_clear = sym (entry_length 6 0 0)
-
-pub size_open : 18 ≡ size S.Open
-size_open = sym (entry_length 7 0 0)
-
-pub size_close : 18 ≡ size S.Close
-size_close = sym (entry_length 8 0 0)
+-- and so has a call, if it is no insert and has any
+pub size_entry : (c : Call) → ((value when period : ℕ) → c ≡ C.Insert value when period → ⊥) → (c ≡ C.Wake → ⊥) → (c ≡ C.Length → ⊥)
+    → 18 ≡ size (S.Asks c)
+size_entry (C.Format n turn) f g h = sym (entry_length 1 n turn)
+size_entry (C.Insert value when period) f g h = absurd (f value when period refl)
+size_entry (C.Reset key when) f g h = sym (entry_length 3 key when)
+size_entry (C.Remove key) f g h = sym (entry_length 4 key 0)
+size_entry (C.Poll now) f g h = sym (entry_length 5 now 0)
+size_entry (C.PollSome now limit) f g h = sym (entry_length 11 now limit)
+size_entry C.Wake f g h = absurd (g refl)
+size_entry C.Length f g h = absurd (h refl)
+size_entry C.Clear f g h = sym (entry_length 6 0 0)
 
 pub size_insert : (value when period : ℕ) → period ≡ 0 → 18 ≡ size (S.Asks (C.Insert value when period))
 size_insert value when period e = sym (ap (λ (p : ℕ). size (S.Asks (C.Insert value when p))) e ∙ entry_length 2 value when)
@@ -73,28 +66,17 @@ size_repeat value when period f = sym (pair_size value when period (omega arith)
 
 -- ---- whether a format fits
 
-pub not_none : {l : Slices} {n : ℕ} → n ≡ 0 → Short (Fits l n) 1
+pub not_none : {l : Slices} {n : ℕ} → n ≡ 0 → Short (Fits l n) (Some 1)
 not_none e = short (λ f. omega (arith, f.some))
 
-pub not_many : {l : Slices} {n : ℕ} → 65535 < n → Short (Fits l n) 1
+pub not_many : {l : Slices} {n : ℕ} → 65535 < n → Short (Fits l n) (Some 1)
 not_many e = short (λ f. omega (arith, f.few))
 
-pub no_room : {l : Slices} {n : ℕ} {b : Bool} → Tells (Room n l) b → not b ≡ true → Short (Fits l n) 1
+pub no_room : {l : Slices} {n : ℕ} {b : Bool} → Tells (Room n l) b → not b ≡ true → Short (Fits l n) (Some 1)
 no_room {b = b} T e = short (λ f. T.no (not-true b e) f.room)
 
-pub fits_so : {l : Slices} {n : ℕ} {b : Bool} → (n ≡ 0 → ⊥) → n ≤ 65535 → Tells (Room n l) b → not b ≡ false → Short (Fits l n) 0
+pub fits_so : {l : Slices} {n : ℕ} {b : Bool} → (n ≡ 0 → ⊥) → n ≤ 65535 → Tells (Room n l) b → not b ≡ false → Short (Fits l n) None
 fits_so {b = b} z h T e = enough (record { some = omega arith; few = h; room = T.yes (not-false b e) })
-
--- ---- whether there is a store
-
-pub live_as : (b : Bool) {d : Bool} {x y : Step} → x ≡ y → d ≡ live_after b y → d ≡ live_after b x
-live_as b e h = h ∙ ap (λ (z : Step). live_after b z) (sym e)
-
-pub pass_many : (b : Bool) {n turn : ℕ} {x : Step} → x ≡ S.Asks (C.Format n turn) → 281474976710655 < turn → b ≡ live_after b x
-pass_many b {n} {turn} e h = live_as b e (simp (lt-ltb 0 turn (omega arith), le-ltb turn 281474976710656 (omega arith)))
-
-pub pass_so : (b : Bool) {n turn : ℕ} {x : Step} → x ≡ S.Asks (C.Format n turn) → (turn ≡ 0 → ⊥) → turn ≤ 281474976710655 → true ≡ live_after b x
-pass_so b {n} {turn} e f h = live_as b e (simp (lt-ltb 0 turn (omega arith), lt-ltb turn 281474976710656 (omega arith)))
 
 -- ---- one step asked
 

@@ -7,6 +7,7 @@ use Prim.Native.Nat.{ℕ, ◌+◌}
 use native.Mathlib.Omega.{arith}
 use lib.ListN.{length, take, drop, length-append, take-append-drop}
 use lib.Seq.{take-append_seam, take-append-add}
+use Rattle.std.proofs.Common.{Ok}
 use Rattle.queue.specs.declared.Answer.{Answer}
 use Rattle.queue.specs.Told.{told}
 use Rattle.records.specs.Words.{QueueWords}
@@ -14,7 +15,6 @@ use Rattle.delay_queue.specs.declared.Call.{Call}
 use Rattle.entries.specs.declared.Step.{Step}
 use Rattle.entries.specs.declared.Step.TheVariants as S
 use Rattle.entries.specs.declared.Ending.TheVariants as E
-use Rattle.entries.specs.declared.NextStep.TheVariants as X
 use Rattle.entries.specs.Entries.{step_bytes, Fit}
 use Rattle.entries.specs.Reading as read
 use Rattle.entries.specs.Reading.{Bytes}
@@ -46,7 +46,7 @@ pub record Reading (B : List ℕ) (s₀ : QueueWords) (c : List Noted) (l : List
   pub split : B ≡ journal ++ (lost_bytes ++ l)
 
 -- the bytes of a step that was read
-front : (l : List ℕ) → Bytes l → (x : Step) → read.next l ≡ X.One x → (a : Answer) → unwritten (told a) ≡ false → l ≡ written x (told a) ++ drop (size x) l
+front : (l : List ℕ) → Bytes l → (x : Step) → read.next l ≡ Ok x → (a : Answer) → unwritten (told a) ≡ false → l ≡ written x (told a) ++ drop (size x) l
 unfolding written
 front l h x n a u =
     sym (take-append-drop (size x) l) ∙ ap (λ (m : List ℕ). m ++ drop (size x) l) (step_only l h n).0
@@ -146,7 +146,7 @@ module _ {B : List ℕ} {s₀ : QueueWords} {c : List Noted} {x : Step} {a : Ans
       }
 
 module _ {B : List ℕ} {s₀ : QueueWords} {c : List Noted} {l : List ℕ} {at : ℕ} {p : Bool} {s : QueueWords} {kept : ℕ} {t : QueueWords} (h : Bytes l)
-    (I : Reading B s₀ c l at p s kept t) {x : Step} (n : read.next l ≡ X.One x) {a : Answer} {u : QueueWords} (w : unwritten (told a) ≡ false) where
+    (I : Reading B s₀ c l at p s kept t) {x : Step} (n : read.next l ≡ Ok x) {a : Answer} {u : QueueWords} (w : unwritten (told a) ≡ false) where
   read_inside : Acts p s x a true u → Reading B s₀ (c ++ record { step = x; answer = a } ∷ []) (drop (size x) l) (at + size x) true u kept t
   read_inside A =
       subst (λ (k : ℕ). Reading B s₀ (c ++ record { step = x; answer = a } ∷ []) (drop (size x) l) (at + k) true u kept t) (front_size x a w)

@@ -1,5 +1,6 @@
 -- `one`: a call is a run of one command (`run_makes`), an open and a close leave the store.
 use native.Mathlib.Omega.{arith}
+use mathlib.Core.Logic.{⊎_elim}
 use Rattle.recover.proofs.laws.Parts.{run_makes, opened_makes, closed_makes}
 use Rattle.recover.proofs.one.Goals as goal
 
@@ -13,8 +14,4 @@ returns-in-Asks c =
 
 pub returns-in-Open : goal.returns-in-Open
 returns-in-Open c =
-    record { makes = opened_makes c.in-Open.is; tells = c.requires }
-
-pub returns-in-Close : goal.returns-in-Close
-returns-in-Close c =
-    record { makes = closed_makes c.in-Close.is; tells = c.requires }
+    record { makes = ⊎_elim opened_makes closed_makes c.in-Open.is; tells = c.requires }

@@ -17,13 +17,13 @@ chunk {at} {k} {n} xs w e p b f =
 pub returns-then-not-goes_on : goal.returns-then-not-goes_on
 returns-then-not-goes_on c =
     let b = c.more_from-got.ensures in
-    let h = chunk c.more_from-got.new.buf c.loop-buf.invariant.place c.count-k.ensures b.0.0 c.if-not-goes_on.array_long b.2 in
+    let h = chunk c.more_from-got.new.buf c.loop-buf.invariant.place c.count-k.ensures b.0.0 c.if-not-goes_on.array_long b.1 in
     scanned_last c.loop-buf.invariant.scanning c.scan-seen.ensures h.within (omega (arith, h.counted))
 
 pub loop-buf-preserved : goal.loop-buf-preserved
 loop-buf-preserved c =
     let b = c.more_from-got.ensures in
     let w = c.goes_on.ensures c.if-not-goes_on.false in
-    let h = chunk c.more_from-got.new.buf c.loop-buf.invariant.place c.count-k.ensures b.0.0 c.count-k.array_long b.2 in
+    let h = chunk c.more_from-got.new.buf c.loop-buf.invariant.place c.count-k.ensures b.0.0 c.count-k.array_long b.1 in
     let t = scanned_to c.loop-buf.invariant.scanning c.scan-seen.ensures h.within in
     record { place = omega (arith, h.within, t); scanning = scanned_more c.loop-buf.invariant.scanning c.scan-seen.ensures h.within w.1 }
