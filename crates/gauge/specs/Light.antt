@@ -1,11 +1,9 @@
 -- What a gauge reads at two limits, in document 02's words.
-use Rattle.std.specs.Prelude.{Bool, cond, not, ◌||◌, Float}
+use Rattle.std.specs.Prelude.{Bool, cond, not, ◌||◌, ℕ, Result, Ok, Err, Float}
 use Rattle.std.specs.Float.Ieee.{lt, le, is_nan}
 use Rattle.gauge.specs.declared.Gauge.{Gauge}
 use Rattle.gauge.specs.declared.Light.{Light}
 use Rattle.gauge.specs.declared.Light.TheVariants as L
-use Rattle.gauge.specs.declared.Reading.{Reading}
-use Rattle.gauge.specs.declared.Reading.TheVariants as R
 use Rattle.gauge.specs.Gauge.{nought}
 
 -- "The light reads calm, slow with the smoothed value, or late with the worst value. It is late if worst is at or over the late limit,
@@ -20,5 +18,9 @@ light_of g slow late =
 abbrev pub bad_limit : Float → Bool
 bad_limit x = lt x nought || is_nan x
 
+-- a light, or the number of a refusal
+abbrev pub Reading : Type 0
+Reading = Result Light ℕ
+
 unfoldable pub reading_of : Gauge → Float → Float → Reading
-reading_of g slow late = cond (bad_limit slow || bad_limit late) (R.No 9) (R.Shows (light_of g slow late))
+reading_of g slow late = cond (bad_limit slow || bad_limit late) (Err 9) (Ok (light_of g slow late))

@@ -1,16 +1,18 @@
 // How late the timers are that are handed out: smoothed and worst, both f64, and the light that they give.
 #![tactic(auto)]
 
-ghost use Rattle.std.specs.Prelude.{◌≡◌, not, min};
+ghost use Rattle.std.specs.Prelude.{◌≡◌, not};
 ghost use Rattle.queue.specs.Told.{told};
-ghost use Rattle.gauge.specs.Gauge.{zeros, most, float_of, lateness, noted, AnswerClaim};
+ghost use Rattle.gauge.specs.Gauge.{zeros, float_of, lateness, noted, AnswerClaim};
 ghost use Rattle.gauge.specs.Light.{bad_limit, light_of, reading_of};
 ghost use Rattle.gauge.specs.Bits.{bits_of};
 
 use queue::Answer;
+use refusals::Refusal;
 
 // `any` is false until a timer was handed out: the two numbers alone cannot tell a gauge that met no timer from one that
-// met lateness 0.
+// met lateness 0. No Option of two numbers: C lends these three as words, and `ngawdrelo_gauge_note` leaves them where nothing
+// was handed out.
 #[derive(Clone, Copy)]
 pub struct Gauge {
     pub smoothed: f64,
@@ -27,12 +29,8 @@ pub enum Light {
     Late(f64),
 }
 
-// What a gauge reads at two limits: its light, or the number of the refusal.
-#[derive(Clone, Copy)]
-pub enum Reading {
-    Shows(Light),
-    No(u64),
-}
+// The greatest lateness that is counted, in milliseconds.
+pub const MOST: u64 = u32::MAX as u64;
 
 // A gauge before any timer.
 pub fn fresh() -> Gauge
@@ -45,20 +43,12 @@ pub fn fresh() -> Gauge
     }
 }
 
-fn capped(n: u64) -> u64
-    ensures { result ≡ min n most }
-{
-    if 4294967295 < n {
-        return 4294967295;
-    }
-    n
-}
-
 // Milliseconds, capped and converted.
+#[tactic(auto, unfolding(crate::specs::Gauge::float_of))]
 pub fn float_of(n: u64) -> f64
     ensures { result ≡ float_of n }
 {
-    let m = capped(n);
+    let m = n.min(MOST);
     m as f64
 }
 
@@ -73,6 +63,7 @@ pub fn lateness_of(time: u64, deadline: u64) -> f64
 }
 
 // The gauge after one lateness more.
+#[tactic(auto, using(crate::proofs::laws::Floats::smoother_bits), unfolding(crate::specs::Gauge::noted))]
 pub fn note(g: Gauge, late: f64) -> Gauge
     ensures { result ≡ noted g late }
 {
@@ -83,17 +74,9 @@ pub fn note(g: Gauge, late: f64) -> Gauge
             any: true,
         };
     }
-    let s = g.smoothed + (late - g.smoothed) / 8.0;
-    if g.worst < late {
-        return Gauge {
-            smoothed: s,
-            worst: late,
-            any: true,
-        };
-    }
     Gauge {
-        smoothed: s,
-        worst: g.worst,
+        smoothed: g.smoothed + (late - g.smoothed) / 8.0,
+        worst: if g.worst < late { late } else { g.worst },
         any: true,
     }
 }
@@ -111,6 +94,7 @@ pub fn note_answer(g: Gauge, time: u64, answer: Answer) -> Gauge
 }
 
 // Neither below zero nor not a number: what is not a number fails every comparison.
+#[tactic(auto, using(crate::proofs::laws::Floats::limit_test))]
 fn is_limit(x: f64) -> bool
     ensures { result ≡ not (bad_limit x) }
 {
@@ -118,6 +102,7 @@ fn is_limit(x: f64) -> bool
 }
 
 // The light at two limits that are taken.
+#[tactic(auto, unfolding(crate::specs::Light::light_of))]
 fn light_at(g: Gauge, slow: f64, late: f64) -> Light
     ensures { result ≡ light_of g slow late }
 {
@@ -135,20 +120,23 @@ fn light_at(g: Gauge, slow: f64, late: f64) -> Light
     Light::Calm
 }
 
-// What the gauge reads at the two limits. It hands back no gauge: the one that is read stays as it is.
-pub fn read(g: Gauge, slow: f64, late: f64) -> Reading
+// What the gauge reads at the two limits: its light, or the number of the refusal. It hands back no gauge: the one that is
+// read stays as it is.
+#[tactic(auto, unfolding(crate::specs::Light::reading_of))]
+pub fn read(g: Gauge, slow: f64, late: f64) -> Result<Light, u64>
     ensures { result ≡ reading_of g slow late }
 {
     if !is_limit(slow) {
-        return Reading::No(refusals::BAD_LIMIT);
+        return Err(Refusal::BadLimit as u64);
     }
     if !is_limit(late) {
-        return Reading::No(refusals::BAD_LIMIT);
+        return Err(Refusal::BadLimit as u64);
     }
-    Reading::Shows(light_at(g, slow, late))
+    Ok(light_at(g, slow, late))
 }
 
 // The bits of a float, and 0 for what is not a number.
+#[tactic(auto, unfolding(crate::specs::Bits::bits_of))]
 pub fn bits_of(x: f64) -> u64
     ensures { result ≡ bits_of x }
 {

@@ -3,107 +3,49 @@
 #![tactic(auto)]
 
 ghost use Rattle.std.specs.Prelude.{◌≡◌, [], length};
-ghost use Rattle.lines.specs.Running.{Chunk, Closes, ProgramRan};
-ghost use Rattle.inspector.specs.Words.{words, Inspected};
+ghost use Rattle.lines.specs.Running.{ProgramRan};
+ghost use Rattle.inspector.specs.Words.{Words, words, Inspected};
 ghost use Rattle.inspect.specs.Text.{TextClaim, SaidClaim};
 
-use input::Got;
+use hearing::{Heard, Hears};
 use inspector::State;
 use std::io::Stdin;
+use std::marker::Model;
 
 // Standard output and standard error.
 const STDOUT_FILENO: i32 = 1;
 
 const STDERR_FILENO: i32 = 2;
 
-// How many bytes of an unfinished line are kept, and what the lines have come to.
-#[derive(Clone, Copy)]
-struct Found {
-    kept: usize,
+// What the lines have come to, and room for 1,024 keys and their deadlines: two arrays, as `inspect_line` takes two slices.
+#[derive(Drop)]
+struct Log {
     state: State,
+    keys: [u64; 1024],
+    deadlines: [u64; 1024],
 }
 
-// Inspects each line that ends in what was read, and keeps what is left.
-fn take_chunk(
-    got: &[u8],
-    line: &mut [u8],
-    n: usize,
-    state: State,
-    keys: &mut [u64],
-    deadlines: &mut [u64],
-) -> Found
-    ensures { Chunk Inspected got.now 0 line.old n (words state keys.old deadlines.old)
-        line.new result.kept (words result.state keys.new deadlines.new) }
+impl Model for Log {
+    ghost Value = { Words };
+
+    ghost view = { λ l. words l.state l.keys l.deadlines };
+}
+
+impl Hears for Log {
+    ghost Step = { Inspected };
+
+    fn hear(&mut self, line: &[u8]) {
+        self.state = inspector::inspect_line(self.state, &mut self.keys, &mut self.deadlines, line);
+    }
+}
+
+// Inspects the lines of the input, each by its first 81 bytes.
+fn read_all(log: &mut Log, from: &mut Stdin) -> Heard
+    ensures { ProgramRan Inspected 81 [] (words (State.Good 0 0 0) log.old.keys log.old.deadlines) result.bytes result.last.ended log.new }
 {
-    let mut i: usize = 0;
-    let mut k = n;
-    let mut s = state;
-    while i < got.len() {
-        let t = lines::take_line(got, i, line, k);
-        i = t.next;
-        k = t.kept;
-        if t.ended {
-            s = inspector::inspect_line(s, keys, deadlines, &line[..k]);
-            k = 0;
-        }
-    }
-    Found { kept: k, state: s }
-}
-
-// The end: the last line, which may have no newline, if the input has ended and anything is kept of it.
-fn finish(got: Got, line: &[u8], state: State, keys: &mut [u64], deadlines: &mut [u64]) -> State
-    ensures { Closes Inspected line.now (words state keys.old deadlines.old) got.ended
-        (words result keys.new deadlines.new) }
-{
-    if !input::at_end(got) {
-        return state;
-    }
-    if line.len() == 0 {
-        return state;
-    }
-    inspector::inspect_line(state, keys, deadlines, line)
-}
-
-// How many bytes were read, what the last read gave, and what the lines have come to then.
-#[derive(Clone, Copy)]
-struct Outcome {
-    bytes: usize,
-    last: Got,
-    state: State,
-}
-
-// Reads until the input ends, or cannot be read any more. A proved loop has to end, so this one ends at 2^63 bytes; no
-// run comes there.
-fn read_all(from: &mut Stdin, line: &mut [u8], keys: &mut [u64], deadlines: &mut [u64]) -> Outcome
-    requires { length line.old ≡ 81 }
-    ensures { ProgramRan Inspected 81 [] (words (State.Good 0 0 0) keys.old deadlines.old) result.bytes result.last.ended
-        (words result.state keys.new deadlines.new) }
-{
-    let mut buf = io::buffer();
-    let mut n: usize = 0;
-    let mut state = inspector::fresh();
-    let mut bytes: usize = 0;
-    while bytes < 9223372036854775808 {
-        let got = input::more(from, &mut buf);
-        let k = input::count(got);
-        if k == 0 {
-            let end = finish(got, &line[..n], state, keys, deadlines);
-            return Outcome {
-                bytes,
-                last: got,
-                state: end,
-            };
-        }
-        let r = take_chunk(&buf[..k], line, n, state, keys, deadlines);
-        n = r.kept;
-        state = r.state;
-        bytes += k;
-    }
-    Outcome {
-        bytes,
-        last: input::nothing(),
-        state,
-    }
+    log.state = inspector::fresh();
+    let mut line = [0; 81];
+    hearing::read_all(log, from, &mut line)
 }
 
 // Writes `bad`, the number and a newline to the front of out, and says where they end: at 0, with out unchanged, where
@@ -135,38 +77,25 @@ fn text(out: &mut [u8], state: State) -> usize
 }
 
 // The same for the whole run: where the input could not be read to its end, nothing is said of the log.
-fn said(out: &mut [u8], outcome: Outcome) -> usize
-    ensures { SaidClaim outcome.last.ended outcome.state out.old result out.new }
+fn said(out: &mut [u8], heard: Heard, state: State) -> usize
+    ensures { SaidClaim heard.last.ended state out.old result out.new }
 {
-    let last = outcome.last;
-    if !input::at_end(last) {
+    if !input::at_end(heard.last) {
         io::write_all(STDERR_FILENO, b"inspect: cannot read\n");
         return 0;
     }
-    let state = outcome.state;
     text(out, state)
 }
 
-// The contracts give the lengths alone, so that no proof meets the zeros.
-fn line_space() -> [u8; 81]
-    ensures { length result ≡ 81 }
-{
-    [0; 81]
-}
-
-fn words_space() -> [u64; 1024]
-    ensures { length result ≡ 1024 }
-{
-    [0; 1024]
-}
-
 fn main(rt: HostRuntime) {
-    let mut line = line_space();
-    let mut keys = words_space();
-    let mut deadlines = words_space();
-    let outcome = read_all(&mut rt.stdin(), &mut line, &mut keys, &mut deadlines);
-    let mut out = line_space();
-    let n = said(&mut out, outcome);
+    let mut log = Log {
+        state: inspector::fresh(),
+        keys: [0; 1024],
+        deadlines: [0; 1024],
+    };
+    let heard = read_all(&mut log, &mut rt.stdin());
+    let mut out = [0; 81];
+    let n = said(&mut out, heard, log.state);
     if !io::write_all(STDOUT_FILENO, &out[..n]) {
         io::write_all(STDERR_FILENO, b"inspect: cannot write\n");
     }

@@ -2,14 +2,13 @@
 // pending.
 #![tactic(auto)]
 
-ghost use Rattle.std.specs.Prelude.{◌≡◌, ◌∷◌, ◌+◌, ◌-◌, ◌≤◌, ◌<◌, min, max, length, drop};
+ghost use Rattle.std.specs.Prelude.{◌≡◌, ◌∷◌, ◌+◌, ◌-◌, ◌≤◌, ◌<◌, length, drop, Some};
 ghost use Rattle.std.proofs.Math.Seq.{paste};
 ghost use Rattle.contracts.specs.Tells.{Tells};
-ghost use Rattle.inspector.specs.Words.{counted, InspectClaim};
+ghost use Rattle.inspector.specs.Words.{InspectClaim};
 ghost use Rattle.inspector.specs.Parts.{Second, Holds, entry_of, ReadClaim};
-ghost use Rattle.inspector.specs.Parts.{PlaceOf, NoneDue, NoneBefore, Within, TakeClaim};
+ghost use Rattle.inspector.specs.Parts.{Placed, NoneDue, NoneBefore, Inside, Takes};
 
-use decimals::Num;
 use splitting::First;
 
 // A call with its answer: `i key when`, `s key when`, `r key`, `p now key`, `p now -`.
@@ -22,13 +21,6 @@ pub enum Entry {
     Nothing(u64),
 }
 
-// What a line says.
-#[derive(Clone, Copy)]
-enum Line {
-    Says(Entry),
-    Bad,
-}
-
 // What stands behind a line's letter.
 #[derive(Clone, Copy)]
 enum Fields {
@@ -36,17 +28,18 @@ enum Fields {
     Two(u64, u64),
     // a number, and then a dash
     Dash(u64),
-    Bad,
 }
 
-// How many are pending after an entry, and the clock; or the entry is wrong.
+// How many are pending, how many may be, and the clock. Keys and deadlines stay beside it, since C lends them as two slices
+// (`ngawdrelo_inspect_line`).
 #[derive(Clone, Copy)]
-enum Taken {
-    On(usize, u64),
-    Bad,
+struct Pending {
+    count: usize,
+    room: usize,
+    clock: u64,
 }
 
-// What the lines so far have come to.
+// What the lines so far have come to. It is no Result: it goes back in with the next line, and a log that is bad has not failed.
 #[derive(Clone, Copy)]
 pub enum State {
     // all were right: how many are pending, the clock, and the number of lines
@@ -64,124 +57,69 @@ pub fn fresh() -> State
 
 // The number a, and behind it and a space either a number or a dash. What stands behind another space belongs to it, so
 // that it is neither then.
-fn second(a: u64, s: &[u8]) -> Fields
+fn second(a: u64, s: &[u8]) -> Option<Fields>
     ensures { Second a s.now result }
 {
-    if s.len() == 1 {
-        if s[0] == b'-' {
-            return Fields::Dash(a);
-        }
-    }
-    let x = decimals::number(s);
-    match x {
-        Num::Is(b) => Fields::Two(a, b),
-        Num::Bad => Fields::Bad,
+    match s {
+        [b'-'] => Some(Fields::Dash(a)),
+        _ => Some(Fields::Two(a, decimals::number(s)?)),
     }
 }
 
 // The fields that begin behind a space.
-fn fields_behind(s: &[u8]) -> Fields
+fn fields_behind(s: &[u8]) -> Option<Fields>
     ensures { Holds (32 ∷ s.now) result }
 {
-    let x = splitting::first_of(s);
-    match x {
-        First::Only(a) => Fields::One(a),
+    match splitting::first_of(s)? {
+        First::Only(a) => Some(Fields::One(a)),
         First::Then(a, f) => second(a, &s[f..]),
-        First::Bad => Fields::Bad,
     }
 }
 
 // The fields that s is, each with one space in front.
-fn fields_in(s: &[u8]) -> Fields
+fn fields_in(s: &[u8]) -> Option<Fields>
     ensures { Holds s.now result }
 {
-    if s.len() == 0 {
-        return Fields::Bad;
+    match s {
+        [b' ', rest @ ..] => fields_behind(rest),
+        _ => None,
     }
-    if s[0] != b' ' {
-        return Fields::Bad;
-    }
-    fields_behind(&s[1..])
 }
 
 // The entry with that letter and those fields, if there is one.
-fn entry_of(letter: u8, fields: Fields) -> Line
-    ensures { result ≡ entry_of letter fields }
+#[tactic(auto, unfolding(crate::specs::Parts::entry_of))]
+fn entry_of(letter: u8, fields: Fields) -> Option<Entry>
+    ensures { result ≡ entry_of letter (Some fields) }
 {
-    match fields {
-        Fields::One(x) => match letter {
-            b'r' => Line::Says(Entry::Remove(x)),
-            _ => Line::Bad,
-        },
-        Fields::Two(x, y) => match letter {
-            b'i' => Line::Says(Entry::Insert(x, y)),
-            b's' => Line::Says(Entry::Reset(x, y)),
-            b'p' => Line::Says(Entry::Out(x, y)),
-            _ => Line::Bad,
-        },
-        Fields::Dash(x) => match letter {
-            b'p' => Line::Says(Entry::Nothing(x)),
-            _ => Line::Bad,
-        },
-        Fields::Bad => Line::Bad,
-    }
+    Some(match (letter, fields) {
+        (b'r', Fields::One(x)) => Entry::Remove(x),
+        (b'i', Fields::Two(x, y)) => Entry::Insert(x, y),
+        (b's', Fields::Two(x, y)) => Entry::Reset(x, y),
+        (b'p', Fields::Two(x, y)) => Entry::Out(x, y),
+        (b'p', Fields::Dash(x)) => Entry::Nothing(x),
+        _ => return None,
+    })
 }
 
 // What a line says, which is handed over without its newline.
-fn read_line(line: &[u8]) -> Line
+fn read_line(line: &[u8]) -> Option<Entry>
     ensures { ReadClaim line.now result }
 {
-    if line.len() == 0 {
-        return Line::Bad;
-    }
     if 80 < line.len() {
-        return Line::Bad;
+        return None;
     }
-    let f = fields_in(&line[1..]);
-    entry_of(line[0], f)
+    let [letter, rest @ ..] = line else {
+        return None;
+    };
+    entry_of(*letter, fields_in(rest)?)
 }
 
-fn least(a: usize, b: usize) -> usize
-    ensures { result ≡ min a b }
-{
-    if a < b {
-        return a;
-    }
-    b
-}
-
-fn later(a: u64, b: u64) -> u64
-    ensures { result ≡ max a b }
-{
-    if a < b {
-        return b;
-    }
-    a
-}
-
-// A line more. No log has so many that a u64 does not count them.
-fn one_more(m: u64) -> u64
-    ensures { result ≡ counted m }
-{
-    if m < u64::MAX {
-        return m + 1;
-    }
-    m
-}
-
-// The first place of key among the first n, or n.
-fn place(keys: &[u64], n: usize, key: u64) -> usize
+// The first place of key among the first n.
+fn place(keys: &[u64], n: usize, key: u64) -> Option<usize>
     requires { n ≤ length keys.now }
-    ensures { PlaceOf keys.now n key result }
+    ensures { Placed keys.now n key result }
 {
-    let mut i = 0;
-    while i < n {
-        if keys[i] == key {
-            return i;
-        }
-        i += 1;
-    }
-    i
+    keys[..n].iter().position(|&k| k == key)
 }
 
 // Whether each of the first n deadlines is past t.
@@ -189,25 +127,15 @@ fn none_due(deadlines: &[u64], n: usize, t: u64) -> bool
     requires { n ≤ length deadlines.now }
     ensures { Tells (NoneDue deadlines.now n t) result }
 {
-    let mut i = 0;
-    while i < n {
-        if deadlines[i] <= t {
-            return false;
-        }
-        i += 1;
-    }
-    true
+    deadlines[..n].iter().all(|&d| t < d)
 }
 
-// Whether none of them is below d.
+// Whether none of them is below d. One function for both tests would take the test as a closure, and say more of it than they say.
 fn none_before(deadlines: &[u64], n: usize, d: u64) -> bool
     requires { n ≤ length deadlines.now }
     ensures { Tells (NoneBefore deadlines.now n d) result }
 {
-    if d == 0 {
-        return true;
-    }
-    none_due(deadlines, n, d - 1)
+    deadlines[..n].iter().all(|&t| d <= t)
 }
 
 // Of the first n the one at i goes, and those behind it move up.
@@ -215,135 +143,109 @@ fn close(words: &mut [u64], i: usize, n: usize)
     requires { (i < n) × (n ≤ length words.old) }
     ensures { words.new ≡ paste words.old i (drop (i + 1) words.old) (n - 1 - i) }
 {
-    let mut j = i;
-    while j < n - 1 {
+    // std's slices have no copy_within, and a rotation would change the word behind
+    for j in i..n - 1 {
         words[j] = words[j + 1];
-        j += 1;
     }
 }
 
-fn insert(
-    n: usize,
-    room: usize,
-    clock: u64,
-    keys: &mut [u64],
-    deadlines: &mut [u64],
-    key: u64,
-    when: u64,
-) -> Taken
-    requires { Within n room keys.old deadlines.old }
-    ensures { TakeClaim n room clock keys.old deadlines.old (Entry.Insert key when) result keys.new deadlines.new }
-{
-    let i = place(keys, n, key);
-    if i < n {
-        return Taken::Bad;
+impl Pending {
+    // Key is to come out at when.
+    fn insert(self, keys: &mut [u64], deadlines: &mut [u64], key: u64, when: u64) -> Option<Pending>
+        requires { Inside self keys.old deadlines.old }
+        ensures { Takes self keys.old deadlines.old (Entry.Insert key when) result keys.new deadlines.new }
+    {
+        if place(keys, self.count, key).is_some() {
+            return None;
+        }
+        if self.room <= self.count {
+            return None;
+        }
+        keys[self.count] = key;
+        deadlines[self.count] = when.max(self.clock);
+        Some(Pending {
+            count: self.count + 1,
+            ..self
+        })
     }
-    if room <= n {
-        return Taken::Bad;
-    }
-    keys[n] = key;
-    deadlines[n] = later(when, clock);
-    Taken::On(n + 1, clock)
-}
 
-fn reset(
-    n: usize,
-    room: usize,
-    clock: u64,
-    keys: &[u64],
-    deadlines: &mut [u64],
-    key: u64,
-    when: u64,
-) -> Taken
-    requires { Within n room keys.now deadlines.old }
-    ensures { TakeClaim n room clock keys.now deadlines.old (Entry.Reset key when) result keys.now deadlines.new }
-{
-    let i = place(keys, n, key);
-    if n <= i {
-        return Taken::Bad;
+    // Key is to come out at when, and no more when it was to.
+    fn reset(self, keys: &[u64], deadlines: &mut [u64], key: u64, when: u64) -> Option<Pending>
+        requires { Inside self keys.now deadlines.old }
+        ensures { Takes self keys.now deadlines.old (Entry.Reset key when) result keys.now deadlines.new }
+    {
+        let i = place(keys, self.count, key)?;
+        deadlines[i] = when.max(self.clock);
+        Some(self)
     }
-    deadlines[i] = later(when, clock);
-    Taken::On(n, clock)
-}
 
-fn remove(
-    n: usize,
-    room: usize,
-    clock: u64,
-    keys: &mut [u64],
-    deadlines: &mut [u64],
-    key: u64,
-) -> Taken
-    requires { Within n room keys.old deadlines.old }
-    ensures { TakeClaim n room clock keys.old deadlines.old (Entry.Remove key) result keys.new deadlines.new }
-{
-    let at = place(keys, n, key);
-    if n <= at {
-        return Taken::Bad;
+    // Key is not to come out.
+    fn remove(self, keys: &mut [u64], deadlines: &mut [u64], key: u64) -> Option<Pending>
+        requires { Inside self keys.old deadlines.old }
+        ensures { Takes self keys.old deadlines.old (Entry.Remove key) result keys.new deadlines.new }
+    {
+        let at = place(keys, self.count, key)?;
+        close(keys, at, self.count);
+        close(deadlines, at, self.count);
+        Some(Pending {
+            count: self.count - 1,
+            ..self
+        })
     }
-    close(keys, at, n);
-    close(deadlines, at, n);
-    Taken::On(n - 1, clock)
-}
 
-// A poll that handed out key: none of the others is due before it.
-fn hand_out(
-    n: usize,
-    room: usize,
-    clock: u64,
-    keys: &mut [u64],
-    deadlines: &mut [u64],
-    time: u64,
-    key: u64,
-) -> Taken
-    requires { Within n room keys.old deadlines.old }
-    ensures { TakeClaim n room clock keys.old deadlines.old (Entry.Out time key) result keys.new deadlines.new }
-{
-    let i = place(keys, n, key);
-    if n <= i {
-        return Taken::Bad;
+    // A poll that handed out key: none of the others is due before it.
+    fn hand_out(
+        self,
+        keys: &mut [u64],
+        deadlines: &mut [u64],
+        time: u64,
+        key: u64,
+    ) -> Option<Pending>
+        requires { Inside self keys.old deadlines.old }
+        ensures { Takes self keys.old deadlines.old (Entry.Out time key) result keys.new deadlines.new }
+    {
+        let i = place(keys, self.count, key)?;
+        let d = deadlines[i];
+        if time < d {
+            return None;
+        }
+        if !none_before(deadlines, self.count, d) {
+            return None;
+        }
+        close(keys, i, self.count);
+        close(deadlines, i, self.count);
+        Some(Pending {
+            count: self.count - 1,
+            ..self
+        })
     }
-    let d = deadlines[i];
-    if time < d {
-        return Taken::Bad;
-    }
-    if !none_before(deadlines, n, d) {
-        return Taken::Bad;
-    }
-    close(keys, i, n);
-    close(deadlines, i, n);
-    Taken::On(n - 1, clock)
-}
 
-// A poll that handed out nothing.
-fn hand_none(n: usize, room: usize, clock: u64, keys: &[u64], deadlines: &[u64], time: u64) -> Taken
-    requires { Within n room keys.now deadlines.now }
-    ensures { TakeClaim n room clock keys.now deadlines.now (Entry.Nothing time) result keys.now deadlines.now }
-{
-    if !none_due(deadlines, n, time) {
-        return Taken::Bad;
+    // A poll that handed out nothing.
+    fn hand_none(self, keys: &[u64], deadlines: &[u64], time: u64) -> Option<Pending>
+        requires { Inside self keys.now deadlines.now }
+        ensures { Takes self keys.now deadlines.now (Entry.Nothing time) result keys.now deadlines.now }
+    {
+        if !none_due(deadlines, self.count, time) {
+            return None;
+        }
+        Some(Pending {
+            clock: self.clock.max(time),
+            ..self
+        })
     }
-    Taken::On(n, later(clock, time))
-}
 
-// One entry more.
-fn take(
-    n: usize,
-    room: usize,
-    clock: u64,
-    keys: &mut [u64],
-    deadlines: &mut [u64],
-    entry: Entry,
-) -> Taken
-    requires { Within n room keys.old deadlines.old }
-    ensures { TakeClaim n room clock keys.old deadlines.old entry result keys.new deadlines.new }
-{
-    match entry {
-        Entry::Insert(key, when) => insert(n, room, clock, keys, deadlines, key, when),
-        Entry::Reset(key, when) => reset(n, room, clock, keys, deadlines, key, when),
-        Entry::Remove(key) => remove(n, room, clock, keys, deadlines, key),
-        Entry::Out(time, key) => hand_out(n, room, clock, keys, deadlines, time, key),
-        Entry::Nothing(time) => hand_none(n, room, clock, keys, deadlines, time),
+    // One entry more.
+    fn take(self, keys: &mut [u64], deadlines: &mut [u64], entry: Entry) -> Option<Pending>
+        requires { Inside self keys.old deadlines.old }
+        ensures { Takes self keys.old deadlines.old entry result keys.new deadlines.new }
+    {
+        match entry {
+            Entry::Insert(key, when) => self.insert(keys, deadlines, key, when),
+            Entry::Reset(key, when) => self.reset(keys, deadlines, key, when),
+            Entry::Remove(key) => self.remove(keys, deadlines, key),
+            Entry::Out(time, key) => self.hand_out(keys, deadlines, time, key),
+            Entry::Nothing(time) => self.hand_none(keys, deadlines, time),
+        }
     }
 }
 
@@ -355,15 +257,19 @@ pub fn inspect_line(state: State, keys: &mut [u64], deadlines: &mut [u64], line:
     let State::Good(count, clock, lines) = state else {
         return state;
     };
-    let number = one_more(lines);
-    let said = read_line(line);
-    let Line::Says(entry) = said else {
+    // no log has so many lines that a u64 does not count them
+    let number = lines.saturating_add(1);
+    let Some(entry) = read_line(line) else {
         return State::Bad(number);
     };
-    let room = least(1024, least(keys.len(), deadlines.len()));
-    let taken = take(least(count, room), room, clock, keys, deadlines, entry);
-    match taken {
-        Taken::On(n, c) => State::Good(n, c, number),
-        Taken::Bad => State::Bad(number),
+    let room = keys.len().min(deadlines.len()).min(1024);
+    let pending = Pending {
+        count: count.min(room),
+        room,
+        clock,
+    };
+    match pending.take(keys, deadlines, entry) {
+        Some(p) => State::Good(p.count, p.clock, number),
+        None => State::Bad(number),
     }
 }

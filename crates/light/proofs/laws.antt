@@ -1,4 +1,3 @@
-pub mod Steps
 pub mod Writing
 pub mod Text
 pub mod Once

@@ -4,15 +4,14 @@
 
 ghost use Rattle.std.specs.Prelude.{◌≡◌, cond, [], ◌++◌, ◌+◌, ◌≤◌, ◌<◌, length};
 ghost use Rattle.decimals.specs.Text.{bytes};
-ghost use Rattle.lines.specs.Running.{Chunk, Closes, ProgramRan};
+ghost use Rattle.lines.specs.Running.{ProgramRan};
 ghost use Rattle.light.specs.Light.{word_of, digit_of, hex_of, line_of};
 ghost use Rattle.light.specs.Steps.{AmountOf, Stepped};
 ghost use Rattle.writing.specs.Writing.{Wrote};
 ghost use Rattle.light.specs.Writing.{TextClaim};
 
-use decimals::Num;
-use gauge::{Gauge, Light, Reading};
-use input::Got;
+use gauge::{Gauge, Light};
+use hearing::{Heard, Hears};
 use std::io::Stdin;
 
 // Standard output and standard error.
@@ -31,33 +30,18 @@ enum State {
     Bad,
 }
 
-// How many bytes of an unfinished line are kept, and what the lines have said.
-#[derive(Clone, Copy)]
-struct Found {
-    kept: usize,
-    state: State,
-}
-
 // A decimal as on the bench, at most 4,294,967,295.
-fn amount(line: &[u8]) -> Num
+fn amount(line: &[u8]) -> Option<u64>
     ensures { AmountOf line.now result }
 {
-    let x = decimals::number(line);
-    let Num::Is(n) = x else {
-        return Num::Bad;
-    };
-    if 4294967295 < n {
-        return Num::Bad;
-    }
-    Num::Is(n)
+    decimals::number(line).filter(|n| *n <= gauge::MOST)
 }
 
 // One line more.
 fn step(line: &[u8], state: State) -> State
     ensures { Stepped line.now state result }
 {
-    let x = amount(line);
-    let Num::Is(n) = x else {
+    let Some(n) = amount(line) else {
         return State::Bad;
     };
     match state {
@@ -68,23 +52,12 @@ fn step(line: &[u8], state: State) -> State
     }
 }
 
-// Takes each line that ends in what was read, and keeps what is left.
-fn take_chunk(got: &[u8], line: &mut [u8], n: usize, state: State) -> Found
-    ensures { Chunk Stepped got.now 0 line.old n state line.new result.kept result.state }
-{
-    let mut i: usize = 0;
-    let mut k = n;
-    let mut s = state;
-    while i < got.len() {
-        let t = lines::take_line(got, i, line, k);
-        i = t.next;
-        k = t.kept;
-        if t.ended {
-            s = step(&line[..k], s);
-            k = 0;
-        }
+impl Hears for State {
+    ghost Step = { Stepped };
+
+    fn hear(&mut self, line: &[u8]) {
+        *self = step(line, *self);
     }
-    Found { kept: k, state: s }
 }
 
 // A hex digit, lower-case.
@@ -103,16 +76,12 @@ fn push_hex(out: &mut [u8], at: usize, n: u64) -> usize
     requires { at + 16 ≤ length out.old }
     ensures { Wrote out.old at (hex_of 16 n) result out.new }
 {
-    let mut a = at;
-    let mut i: usize = 16;
-    let mut p: u64 = 1152921504606846976;
-    while 0 < i {
-        out[a] = digit(n / p % 16);
-        a += 1;
-        i -= 1;
+    let mut p: u64 = 1 << 60;
+    for k in 0..16 {
+        out[at + k] = digit(n / p % 16);
         p = p / 16;
     }
-    a
+    at + 16
 }
 
 // The same for the light's word, at the front.
@@ -147,8 +116,7 @@ fn text(out: &mut [u8], state: State) -> usize
     let State::Both(slow, late, g) = state else {
         return answering::write_bad(out, 0);
     };
-    let r = gauge::read(g, gauge::float_of(slow), gauge::float_of(late));
-    let Reading::Shows(light) = r else {
+    let Ok(light) = gauge::read(g, gauge::float_of(slow), gauge::float_of(late)) else {
         return answering::write_bad(out, 0);
     };
     if out.len() < 39 {
@@ -162,84 +130,31 @@ fn text(out: &mut [u8], state: State) -> usize
     )
 }
 
-// The contract gives the length alone, so that no proof meets the zeros.
-fn line_space() -> [u8; 81]
-    ensures { length result ≡ 81 }
+// Reads the input, and of each line its first 81 bytes.
+fn read_all(from: &mut Stdin) -> (State, Heard)
+    ensures { ProgramRan Stepped 81 [] State.Nothing result.1.bytes result.1.last.ended result.0 }
 {
-    [0; 81]
-}
-
-// The end: the last line, which may have no newline, if the input has ended and anything is kept of it.
-fn finish(got: Got, line: &[u8], state: State) -> State
-    ensures { Closes Stepped line.now state got.ended result }
-{
-    if !input::at_end(got) {
-        return state;
-    }
-    if line.len() == 0 {
-        return state;
-    }
-    step(line, state)
-}
-
-// How many bytes were read, what the last read gave, and what the lines have said then.
-#[derive(Clone, Copy)]
-struct Outcome {
-    bytes: usize,
-    last: Got,
-    state: State,
-}
-
-// Reads until the input ends, or cannot be read any more. A proved loop has to end, so this one ends at 2^63 bytes; no run
-// comes there.
-fn read_all(from: &mut Stdin, line: &mut [u8]) -> Outcome
-    requires { length line.old ≡ 81 }
-    ensures { ProgramRan Stepped 81 [] State.Nothing result.bytes result.last.ended result.state }
-{
-    let mut buf = io::buffer();
-    let mut n: usize = 0;
     let mut state = State::Nothing;
-    let mut bytes: usize = 0;
-    while bytes < 9223372036854775808 {
-        let got = input::more(from, &mut buf);
-        let k = input::count(got);
-        if k == 0 {
-            let end = finish(got, &line[..n], state);
-            return Outcome {
-                bytes,
-                last: got,
-                state: end,
-            };
-        }
-        let r = take_chunk(&buf[..k], line, n, state);
-        n = r.kept;
-        state = r.state;
-        bytes += k;
-    }
-    Outcome {
-        bytes,
-        last: input::nothing(),
-        state,
-    }
+    let mut line = [0; 81];
+    let heard = hearing::read_all(&mut state, from, &mut line);
+    (state, heard)
 }
 
 // What is to be written: where the input could not be read to its end, lines are missing.
-fn said(outcome: Outcome) -> State
-    ensures { result ≡ cond outcome.last.ended outcome.state State.Bad }
+fn said(state: State, heard: Heard) -> State
+    ensures { result ≡ cond heard.last.ended state State.Bad }
 {
-    let last = outcome.last;
-    if input::at_end(last) {
-        return outcome.state;
+    if input::at_end(heard.last) {
+        return state;
     }
     io::write_all(STDERR_FILENO, b"light: cannot read\n");
     State::Bad
 }
 
 fn main(rt: HostRuntime) {
-    let mut line = line_space();
-    let outcome = read_all(&mut rt.stdin(), &mut line);
-    let mut out = line_space();
-    let n = text(&mut out, said(outcome));
+    let (state, heard) = read_all(&mut rt.stdin());
+    let mut out = [0; 81];
+    let n = text(&mut out, said(state, heard));
     if !io::write_all(STDOUT_FILENO, &out[..n]) {
         io::write_all(STDERR_FILENO, b"light: cannot write\n");
     }

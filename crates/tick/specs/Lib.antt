@@ -1,4 +1,5 @@
 pub mod Boards
 pub mod Claims
 pub mod Promises
+pub mod Reads
 pub mod Shown

@@ -2,25 +2,37 @@
 // must be read again before 2^32 ms are over, that is within 49 days and 17 hours: a longer gap cannot be seen.
 #![tactic(auto)]
 
+ghost use Rattle.queue.specs.declared.Answer.TheVariants.{No};
 ghost use Rattle.records.specs.Words.{words};
 ghost use Rattle.std.specs.Prelude.{◌≡◌};
 ghost use Rattle.tick.specs.Claims.{difference_of, StartClaim, ReadClaim, TickPollClaim, now_of, TickSomeClaim};
+ghost use Rattle.tick.specs.Reads.{answered, time_after};
 
 use delay_queue::{Reply, unchanged};
 use queue::Answer;
+use refusals::Refusal;
 use wheel::Wheel;
 
+// The ticks after which a board's count starts again at 0.
+const ROUND: u64 = 1 << 32;
+
 // The time. A board keeps the last one only.
-#[derive(Clone, Copy)]
+#[derive(Clone, Copy, Debug, PartialEq, Eq)]
 pub struct Front {
     pub time: u64,
 }
 
-// What a reading answers, `ok` or number 10, and the front part after it.
-#[derive(Clone, Copy)]
-pub struct Seen {
-    pub answer: Answer,
-    pub front: Front,
+// Why a reading is refused: the time would pass 2^64-1.
+#[derive(Clone, Copy, Debug, PartialEq, Eq)]
+pub struct TimeOver;
+
+// As an answer it is number 10.
+impl From<TimeOver> for Answer {
+    ghost from_gives = { λ _ a. a ≡ No 10 };
+
+    fn from(_over: TimeOver) -> Answer {
+        Answer::No(Refusal::TimeOver as u64)
+    }
 }
 
 // What a poll through the front part hands back.
@@ -40,26 +52,17 @@ pub fn start() -> Front
 fn difference(time: u64, tick: u32) -> u64
     ensures { result ≡ difference_of time tick }
 {
-    let low = (time % 4294967296) as u32;
-    std::num::wrapping_sub_u32(tick, low) as u64
+    let low = (time % ROUND) as u32;
+    u64::from(tick.wrapping_sub(low))
 }
 
-// The time moves on to the tick, or number 10.
-pub fn read(front: Front, tick: u32) -> Seen
-    ensures { ReadClaim front.time tick result.answer result.front.time }
+// The time moves on to the tick, or the reading is refused.
+pub fn read(front: Front, tick: u32) -> Result<Front, TimeOver>
+    ensures { ReadClaim front.time tick (answered result) (time_after front.time result) }
 {
-    let time = front.time;
-    let step = difference(time, tick);
-    if u64::MAX - time < step {
-        let answer = Answer::No(refusals::TIME_OVER);
-        return Seen { answer, front };
-    }
-    let answer = Answer::Done;
-    let later = Front { time: time + step };
-    Seen {
-        answer,
-        front: later,
-    }
+    let step = difference(front.time, tick);
+    let time = front.time.checked_add(step).ok_or(TimeOver)?;
+    Ok(Front { time })
 }
 
 // A poll at the time that the tick tells. A reading that is refused asks nothing of the store; one that is taken stays
@@ -80,11 +83,8 @@ pub fn poll(
         tick result.reply.answer result.front.time
         (words result.reply.state result.reply.heads.heads values.now deadlines.new nexts.new prevs.new turns.new marks.new) }
 {
-    let seen = read(front, tick);
-    let answer = seen.answer;
-    let moved = seen.front;
-    match answer {
-        Answer::Done => {
+    match read(front, tick) {
+        Ok(moved) => {
             let reply = delay_queue::poll(
                 state, heads, values, deadlines, nexts, prevs, turns, marks, moved.time,
             );
@@ -93,8 +93,8 @@ pub fn poll(
                 front: moved,
             }
         }
-        _ => {
-            let reply = unchanged(answer, state, heads);
+        Err(over) => {
+            let reply = unchanged(Answer::from(over), state, heads);
             TickReply { reply, front }
         }
     }
@@ -109,6 +109,8 @@ pub fn now_of(time: u64, hand: u16, until: u64) -> u64
     }
     until
 }
+
+// `poll` and `poll_some` stay two: a closure that polls would hold the lent slices, and how it leaves them its caller could not know.
 
 // A poll with a limit at the time that the tick tells, or, while a poll is in hand, at its now: the clock may have moved on
 // since it paused. A reading is refused and taken as by `poll`.
@@ -129,11 +131,8 @@ pub fn poll_some(
         tick limit result.reply.answer result.front.time
         (words result.reply.state result.reply.heads.heads values.now deadlines.new nexts.new prevs.new turns.new marks.new) }
 {
-    let seen = read(front, tick);
-    let answer = seen.answer;
-    let later = seen.front;
-    match answer {
-        Answer::Done => {
+    match read(front, tick) {
+        Ok(later) => {
             let now = now_of(later.time, state.hand, state.until);
             let reply = delay_queue::poll_some(
                 state, heads, values, deadlines, nexts, prevs, turns, marks, now, limit,
@@ -143,8 +142,8 @@ pub fn poll_some(
                 front: later,
             }
         }
-        _ => {
-            let same = unchanged(answer, state, heads);
+        Err(over) => {
+            let same = unchanged(Answer::from(over), state, heads);
             TickReply { reply: same, front }
         }
     }

@@ -8,8 +8,8 @@ use lib.IntN.{pos}
 use lib.Ieee.{Float, nan, inf, fin, add, sub, div, neg, round, of_int, to_bits, lt, le, eq, is_nan}
 use Rattle.gauge.specs.declared.Gauge.{Gauge}
 use Rattle.gauge.specs.declared.Light.TheVariants as L
-use Rattle.gauge.specs.declared.Reading.TheVariants as R
 use Rattle.gauge.specs.Gauge.{nought, zeros, float_of, smoother, noted}
+use Rattle.std.specs.Prelude.{Ok}
 use Rattle.gauge.specs.Light.{bad_limit, reading_of}
 use Rattle.gauge.specs.Bits.{bits_of}
 use Rattle.gauge.specs.Many.{noted_all, floats}
@@ -88,13 +88,13 @@ at_itself n = ap (λ (b : Bool). lt (float_of n) (float_of n) || b) (same (eq (f
     same true e = e
     same false e = let h = float_number n in let k = is_nan_lem (float_of n) e in let z : ◌≡◌ {A = ℕ} 0 1 = cc in absurd (omega arith)
 
-pub at_the_limit : (g : Gauge) (n m : ℕ) → g.any ≡ true → g.worst ≡ float_of n → R.Shows (L.Late g.worst) ≡ reading_of g (float_of m) (float_of n)
+pub at_the_limit : (g : Gauge) (n m : ℕ) → g.any ≡ true → g.worst ≡ float_of n → Ok (L.Late g.worst) ≡ reading_of g (float_of m) (float_of n)
 at_the_limit g n m a e =
     limits_read g (float_of m) (float_of n) (float_limit m) (float_limit n)
     (late_first g (float_of m) (float_of n) a (ap (λ (x : Float). le (float_of n) x) e ∙ at_itself n))
 
 pub slow_at_the_limit : (g : Gauge) (n m : ℕ) → g.any ≡ true → g.smoothed ≡ float_of n → le (float_of m) g.worst ≡ false
-    → R.Shows (L.Slow g.smoothed) ≡ reading_of g (float_of n) (float_of m)
+    → Ok (L.Slow g.smoothed) ≡ reading_of g (float_of n) (float_of m)
 slow_at_the_limit g n m a e h =
     limits_read g (float_of n) (float_of m) (float_limit n) (float_limit m)
     (slow_then g (float_of n) (float_of m) a h (ap (λ (x : Float). le (float_of n) x) e ∙ at_itself n))

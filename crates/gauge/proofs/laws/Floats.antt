@@ -1,5 +1,5 @@
 -- Floats: what is not a number, the literals 0.0 and 8.0 as MIR has them, whole numbers, and the step at an equal lateness.
-use mathlib.Core.Path.{◌≡◌, refl, sym, ap, ap₂, ◌∙◌, subst}
+use mathlib.Core.Path.{◌≡◌, refl, sym, ap, ap₂, ◌∙◌}
 use mathlib.Core.Bool.{Bool, true, false, cond, not, ◌&&◌, ◌||◌}
 use Prim.Native.Nat.{ℕ, ◌+◌, ◌-◌, ◌*◌, ◌≤◌, ◌<◌, min}
 use native.Mathlib.Omega.{arith}
@@ -7,7 +7,7 @@ use native.Mathlib.Nat.{mul-pos, sub_self, zero-lt-suc, mul-le-mul_right, mul_as
 use native.Mathlib.Decide.{dec_lt, ℕ_discrete}
 use mathlib.Core.Logic.{by_cases}
 use lib.IntN.{ℤ}
-use lib.Dec.{ltb, eqb, T}
+use lib.Dec.{ltb, eqb}
 use lib.Ieee.{Float, nan, inf, fin, binary64, add, sub, div, neg, sum, round, of_int, up, down, lt, le, eq, is_nan, of_bits}
 use lib.Ieee.Exact.{HasValue}
 use lib.Ieee.Fits.{down_pos}
@@ -36,10 +36,6 @@ is_nan_lem (fin false m e) h =
 is_nan_lem (fin true m e) h =
     let q : ◌≡◌ {A = Bool} true false = sym (ap (λ (b : Bool). b && true) (eq-eqb (m * up e * down e) (m * up e * down e) refl)) ∙ h in
     let z : ◌≡◌ {A = ℕ} 0 1 = cc in absurd (omega arith)
-
--- `f64::to_bits` asks this
-pub has_bits : (x : Float) → eq x x ≡ true → T (not (is_nan x))
-has_bits x h = subst (λ (b : Bool). T (not b)) (sym (not_nan x h)) tt
 
 -- ---- the literals, as MIR has them
 

@@ -1,4 +1,4 @@
--- One lateness more: the ways of `note` and of `note_answer`, and that the claim on an answer leaves one gauge.
+-- One lateness more: what `noted` is, the ways of `note_answer`, and that the claim on an answer leaves one gauge.
 use mathlib.Core.Path.{◌≡◌, refl, sym, ap, ◌∙◌}
 use mathlib.Core.Bool.{Bool, true, false, cond, false≢true}
 use Prim.Native.Nat.{ℕ}
@@ -6,9 +6,6 @@ use lib.Ieee.{Float, lt}
 use Rattle.queue.specs.Told.{Told, Handed, timer, no_timer, handing, Hands}
 use Rattle.gauge.specs.declared.Gauge.{Gauge}
 use Rattle.gauge.specs.Gauge.{lateness, smoother, worse, noted, AnswerClaim}
-
-pub gauge_eq : {g h : Gauge} → g.smoothed ≡ h.smoothed → g.worst ≡ h.worst → g.any ≡ h.any → g ≡ h
-gauge_eq p q r = λ i. record { smoothed = p i; worst = q i; any = r i }
 
 -- ---- what `noted` is
 
@@ -32,15 +29,6 @@ module _ (g : Gauge) (l : Float) where
   pub some : (noted g l).any ≡ true
   unfolding noted
   some = refl
-
-  -- ---- the ways of `note`
-
-  pub noted_first : g.any ≡ false → record { smoothed = l; worst = l; any = true } ≡ noted g l
-  noted_first a = gauge_eq (sym (first_smoothed a)) (sym (first_worst a)) (sym some)
-
-  pub noted_next : (s : Float) (t : Bool) → g.any ≡ true → s ≡ smoother g.smoothed l → lt g.worst l ≡ t
-      → record { smoothed = s; worst = cond t l g.worst; any = true } ≡ noted g l
-  noted_next s t a e h = gauge_eq (e ∙ sym (next_smoothed a)) (sym (next_worst t a h)) (sym some)
 
 -- ---- answers
 

@@ -8,10 +8,9 @@ use lib.Ieee.{Float, lt, le, is_nan}
 use Rattle.gauge.specs.declared.Gauge.{Gauge}
 use Rattle.gauge.specs.declared.Light.{Light}
 use Rattle.gauge.specs.declared.Light.TheVariants as L
-use Rattle.gauge.specs.declared.Reading.{Reading}
-use Rattle.gauge.specs.declared.Reading.TheVariants as R
 use Rattle.gauge.specs.Gauge.{nought}
-use Rattle.gauge.specs.Light.{bad_limit, light_of, reading_of}
+use Rattle.std.specs.Prelude.{Ok, Err}
+use Rattle.gauge.specs.Light.{bad_limit, light_of, Reading, reading_of}
 use Rattle.gauge.specs.Exactly.{BadLimit, Limits, LightExactly}
 
 -- ---- the ways of `light` and `read`
@@ -33,19 +32,19 @@ module _ (g : Gauge) (s l : Float) where
   unfolding light_of
   calm_else a h k = simp (a, h, k)
 
-  pub slow_refused : bad_limit s ≡ true → R.No 9 ≡ reading_of g s l
+  pub slow_refused : bad_limit s ≡ true → Err 9 ≡ reading_of g s l
   unfolding reading_of
-  slow_refused h = sym (ap (λ (b : Bool). cond (b || bad_limit l) (R.No 9) (R.Shows (light_of g s l))) h)
+  slow_refused h = sym (ap (λ (b : Bool). cond (b || bad_limit l) (Err 9) (Ok (light_of g s l))) h)
 
-  pub late_refused : bad_limit l ≡ true → R.No 9 ≡ reading_of g s l
+  pub late_refused : bad_limit l ≡ true → Err 9 ≡ reading_of g s l
   unfolding reading_of
-  late_refused h = sym (ap (λ (b : Bool). cond b (R.No 9) (R.Shows (light_of g s l))) (ap (λ (b : Bool). bad_limit s || b) h ∙ or-true (bad_limit s)))
+  late_refused h = sym (ap (λ (b : Bool). cond b (Err 9) (Ok (light_of g s l))) (ap (λ (b : Bool). bad_limit s || b) h ∙ or-true (bad_limit s)))
 
-  pub limits_read : {x : Light} → bad_limit s ≡ false → bad_limit l ≡ false → x ≡ light_of g s l → R.Shows x ≡ reading_of g s l
+  pub limits_read : {x : Light} → bad_limit s ≡ false → bad_limit l ≡ false → x ≡ light_of g s l → Ok x ≡ reading_of g s l
   unfolding reading_of
   limits_read p q e =
-      ap (λ (x : Light). R.Shows x) e
-      ∙ sym (ap₂ (λ (a b : Bool). cond (a || b) (R.No 9) (R.Shows (light_of g s l))) p q)
+      ap (λ (x : Light). Ok x) e
+      ∙ sym (ap₂ (λ (a b : Bool). cond (a || b) (Err 9) (Ok (light_of g s l))) p q)
 
 -- ---- bad limits
 
@@ -80,34 +79,34 @@ module _ (s l : Float) where
 -- ---- a reading by its four tests: b, a bad limit; a, a timer was handed out; p, worst is at or over; q, smoothed is
 
 abbrev by_tests : Bool → Bool → Bool → Bool → Float → Float → Reading
-by_tests b a p q w x = cond b (R.No 9) (R.Shows (cond (not a) L.Calm (cond p (L.Late w) (cond q (L.Slow x) L.Calm))))
+by_tests b a p q w x = cond b (Err 9) (Ok (cond (not a) L.Calm (cond p (L.Late w) (cond q (L.Slow x) L.Calm))))
 
 apart : {A : Type 0} → ◌≡◌ {A = ℕ} 0 1 → A
 apart z = absurd (omega arith)
 
 module _ (w x : Float) where
-  nine_tests : (b a p q : Bool) → by_tests b a p q w x ≡ R.No 9 → b ≡ true
+  nine_tests : (b a p q : Bool) → by_tests b a p q w x ≡ Err 9 → b ≡ true
   nine_tests true a p q e = refl
   nine_tests false false p q e = apart cc
   nine_tests false true true q e = apart cc
   nine_tests false true false true e = apart cc
   nine_tests false true false false e = apart cc
 
-  number_tests : {n : ℕ} (b a p q : Bool) → by_tests b a p q w x ≡ R.No n → n ≡ 9
+  number_tests : {n : ℕ} (b a p q : Bool) → by_tests b a p q w x ≡ Err n → n ≡ 9
   number_tests true a p q e = cc
   number_tests false false p q e = apart cc
   number_tests false true true q e = apart cc
   number_tests false true false true e = apart cc
   number_tests false true false false e = apart cc
 
-  late_tests : {y : Float} (b a p q : Bool) → by_tests b a p q w x ≡ R.Shows (L.Late y) → (b ≡ false) × (a ≡ true) × (p ≡ true) × (y ≡ w)
+  late_tests : {y : Float} (b a p q : Bool) → by_tests b a p q w x ≡ Ok (L.Late y) → (b ≡ false) × (a ≡ true) × (p ≡ true) × (y ≡ w)
   late_tests true a p q e = apart cc
   late_tests false false p q e = apart cc
   late_tests false true true q e = (refl, refl, refl, cc)
   late_tests false true false true e = apart cc
   late_tests false true false false e = apart cc
 
-  slow_tests : {y : Float} (b a p q : Bool) → by_tests b a p q w x ≡ R.Shows (L.Slow y)
+  slow_tests : {y : Float} (b a p q : Bool) → by_tests b a p q w x ≡ Ok (L.Slow y)
       → (b ≡ false) × (a ≡ true) × (p ≡ false) × (q ≡ true) × (y ≡ x)
   slow_tests true a p q e = apart cc
   slow_tests false false p q e = apart cc
@@ -115,7 +114,7 @@ module _ (w x : Float) where
   slow_tests false true false true e = (refl, refl, refl, refl, cc)
   slow_tests false true false false e = apart cc
 
-  calm_tests : (b a p q : Bool) → by_tests b a p q w x ≡ R.Shows L.Calm
+  calm_tests : (b a p q : Bool) → by_tests b a p q w x ≡ Ok L.Calm
       → (b ≡ false) × ((a ≡ false) ⊎ ((a ≡ true) × (p ≡ false) × (q ≡ false)))
   calm_tests true a p q e = apart cc
   calm_tests false false p q e = (refl, inl refl)
@@ -132,19 +131,19 @@ module _ (g : Gauge) (s l : Float) where
   is_tested = refl
 
   -- "A limit below zero or not a number is refused with 9": 9 is given then, before any timer too, and never else
-  pub nine_exactly : (reading_of g s l ≡ R.No 9) ↔ (BadLimit s ⊎ BadLimit l)
+  pub nine_exactly : (reading_of g s l ≡ Err 9) ↔ (BadLimit s ⊎ BadLimit l)
   nine_exactly = (
     λ e. (is_bad s l).0 (nine_tests g.worst g.smoothed (bad s l) g.any (le l g.worst) (le s g.smoothed) (sym is_tested ∙ e)),
     λ h. ⊎_elim (λ p. sym (slow_refused g s l ((bad_limit_lem s).1 p))) (λ p. sym (late_refused g s l ((bad_limit_lem l).1 p))) h,
   )
 
   -- and no other number is
-  pub no_other_number : {n : ℕ} → reading_of g s l ≡ R.No n → n ≡ 9
+  pub no_other_number : {n : ℕ} → reading_of g s l ≡ Err n → n ≡ 9
   no_other_number e = number_tests g.worst g.smoothed (bad s l) g.any (le l g.worst) (le s g.smoothed) (sym is_tested ∙ e)
 
-  at_limits : {x : Light} → Limits s l → x ≡ light_of g s l → reading_of g s l ≡ R.Shows x
+  at_limits : {x : Light} → Limits s l → x ≡ light_of g s l → reading_of g s l ≡ Ok x
   unfolding reading_of
-  at_limits k e = ap (λ (b : Bool). cond b (R.No 9) (R.Shows (light_of g s l))) ((none_bad s l).1 k) ∙ ap (λ (y : Light). R.Shows y) (sym e)
+  at_limits k e = ap (λ (b : Bool). cond b (Err 9) (Ok (light_of g s l))) ((none_bad s l).1 k) ∙ ap (λ (y : Light). Ok y) (sym e)
 
   -- late is tested before slow, and both "at or over"
   pub light_exactly : LightExactly g s l (reading_of g s l)

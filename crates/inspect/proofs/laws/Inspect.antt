@@ -7,9 +7,9 @@ use native.Mathlib.Omega.{arith}
 use lib.ListN.{length, take}
 use lib.Seq.{take_all}
 use Rattle.lines.specs.Lines.{lines_of, firsts, joined}
-use Rattle.lines.specs.Running.{none, more, Reads, ProgramRan}
+use Rattle.lines.specs.Running.{none, more, ProgramRan}
 use Rattle.lines.proofs.laws.Lines.{whole_line}
-use Rattle.lines.proofs.laws.Running.{reads_none, ran_all}
+use Rattle.lines.proofs.laws.Running.{ran_all}
 use Rattle.inspector.specs.declared.State.{State}
 use Rattle.inspector.specs.declared.State.TheVariants as S
 use Rattle.inspector.specs.Log.{Store}
@@ -46,8 +46,3 @@ all_read {ks} {ds} {w = w} h k R =
     let x = ran_all (omega arith) R in
     let ls = lines_of (joined x.0) in
     (x.0, x.1, accepts_exactly ls ks ds w h k (all_81 ls x.2))
-
--- before the first line nothing is read
-pub fresh_reads : {t : State} {ks ds : List ℕ} → t ≡ S.Good 0 0 0 → Reads Inspected 81 [] (words (S.Good 0 0 0) ks ds) 0 [] (words t ks ds)
-fresh_reads {ks = ks} {ds = ds} e =
-    subst (λ (x : State). Reads Inspected 81 [] (words (S.Good 0 0 0) ks ds) 0 [] (words x ks ds)) (sym e) reads_none

@@ -1,6 +1,6 @@
 -- What `text` writes: the digits that `io::decimal` leaves are the decimal, and with a word and a newline they are the line.
-use mathlib.Core.Path.{◌≡◌, refl, sym, ap, ◌∙◌, subst}
-use mathlib.Core.Bool.{Bool, true, false, cond, true≢false, false≢true}
+use mathlib.Core.Path.{◌≡◌, refl, sym, ap, subst}
+use mathlib.Core.Bool.{Bool, cond}
 use mathlib.Core.List.{List, [], ◌∷◌, ◌++◌, append-nil, append_assoc}
 use Prim.Native.Nat.{ℕ, zero, suc, ◌+◌, ◌-◌, ◌*◌, ◌/◌, ◌%◌, ◌^◌, ◌≤◌, ◌<◌}
 use native.Mathlib.Omega.{arith}
@@ -13,8 +13,8 @@ use Rattle.decimals.proofs.laws.Decimals.{Tail, tail_none, tail_more, tail_end}
 use Rattle.inspector.specs.declared.State.{State}
 use Rattle.inspector.specs.declared.State.TheVariants as S
 use Rattle.writing.specs.Writing.{Wrote}
-use Rattle.writing.proofs.laws.Writing.{wrote_more, wrote_front, no_room, front_within}
-use Rattle.inspect.specs.Text.{TextClaim, SaidClaim}
+use Rattle.writing.proofs.laws.Writing.{wrote_more, wrote_front, no_room}
+use Rattle.inspect.specs.Text.{TextClaim}
 
 -- ---- the digits that `io::decimal` leaves are the decimal
 
@@ -60,29 +60,9 @@ module _ {t : State} {o : List ℕ} where
   line_is : (u : State) → t ≡ u → {r : ℕ} {o' : List ℕ} → TextClaim u o r o' → TextClaim t o r o'
   line_is u e {r} {o'} c = subst (λ (x : State). TextClaim x o r o') (sym e) c
 
-  pub text_bad : (n : ℕ) → t ≡ S.Bad n → {r : ℕ} {o' : List ℕ} → TextClaim (S.Bad n) o r o' → TextClaim t o r o'
-  text_bad n e c = line_is (S.Bad n) e c
-
   module _ (n clock m : ℕ) (e : t ≡ S.Good n clock m) where
     pub ok_full : length o < 3 → TextClaim t o 0 o
     ok_full h = line_is (S.Good n clock m) e (bytes "ok" ++ 10 ∷ [], refl, no_room (omega arith))
 
     pub ok_room : 3 ≤ length o → {r : ℕ} {o' : List ℕ} → Wrote o 0 (bytes "ok" ++ 10 ∷ []) r o' → TextClaim t o r o'
     ok_room h w = line_is (S.Good n clock m) e (bytes "ok" ++ 10 ∷ [], refl, wrote_front w (omega arith))
-
--- ---- `said`
-
-module _ {ended : Bool} {t : State} {o : List ℕ} where
-  pub said_whole : ended ≡ true → {r : ℕ} {o' : List ℕ} → TextClaim t o r o' → SaidClaim ended t o r o'
-  said_whole e c = record { whole = λ _. c; broken = λ f. absurd (true≢false (sym e ∙ f)) }
-
-  pub said_nothing : ended ≡ false → SaidClaim ended t o 0 o
-  said_nothing e = record { whole = λ f. absurd (false≢true (sym e ∙ f)); broken = λ _. (refl, refl) }
-
-  -- what is written lies within what was lent
-  pub said_within : {r : ℕ} {o' : List ℕ} → SaidClaim ended t o r o' → r ≤ length o
-  said_within {r} c = by ended refl
-    where
-      by : (b : Bool) → ended ≡ b → r ≤ length o
-      by true e = front_within (c.whole e).2
-      by false e = omega (arith, (c.broken e).0)

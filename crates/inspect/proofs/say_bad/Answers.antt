@@ -6,18 +6,12 @@ use native.Mathlib.Omega.{arith}
 use lib.ListN.{take}
 use Rattle.io.specs.Digits.{last_digits, IsDigitCount}
 use Rattle.decimals.specs.Text.{Decimal}
-use Rattle.decimals.proofs.laws.Decimals.{at_most_20}
 use Rattle.inspect.proofs.laws.Writing.{digits_decimal, bad_full, bad_room}
 use Rattle.inspect.proofs.say_bad.Goals as goal
 
 -- the digits
 decimal_text : {n k : ℕ} (out : List ℕ) → n < 2 ^ 64 → IsDigitCount 10 1 n k → take k out ≡ last_digits 10 k n → Decimal (take k out) n
 decimal_text {n} {k} out f h e = subst (λ (l : List ℕ). Decimal l n) (sym e) (digits_decimal n k f h)
-
-pub overflow_add-k : goal.overflow_add-k
-overflow_add-k c =
-    let e = c.decimal-k.ensures in
-    omega (arith, e.in_bounds.1, at_most_20 _ (decimal_text _ c.ranges.n.fits e.len e.digits))
 
 pub returns-then-out-k : goal.returns-then-out-k
 returns-then-out-k c =

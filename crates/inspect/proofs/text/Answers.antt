@@ -1,6 +1,6 @@
--- `text` writes `ok` where there is room (`ok_room`, `ok_full`), or what `say_bad` writes.
+-- `text` writes `ok` where there is room (`ok_room`, `ok_full`).
 use native.Mathlib.Omega.{arith}
-use Rattle.inspect.proofs.laws.Writing.{text_bad, ok_full, ok_room}
+use Rattle.inspect.proofs.laws.Writing.{ok_full, ok_room}
 use Rattle.inspect.proofs.text.Goals as goal
 
 pub returns-then-out-lt3 : goal.returns-then-out-lt3
@@ -10,7 +10,3 @@ returns-then-out-lt3 c =
 pub returns-in_default : goal.returns-in_default
 returns-in_default c =
     ok_room _ _ _ c.in_default.is (omega (arith, c.if-out-lt3.false)) c.push.ensures
-
-pub returns : goal.returns
-returns c =
-    text_bad _ c.in-Bad.is c.say_bad.ensures

@@ -8,11 +8,12 @@ use lib.ListN.{length, take, drop, get_or, set, length-append, length-take, leng
 use lib.Seq.{split_at, set_split, set-append_left, get_or-take, take-take, length-take-le, paste, take-nil}
 use Rattle.inspector.specs.declared.Entry.{Entry}
 use Rattle.inspector.specs.declared.Entry.TheVariants as E
-use Rattle.inspector.specs.declared.Taken.{Taken}
-use Rattle.inspector.specs.declared.Taken.TheVariants as T
+use Rattle.std.specs.Prelude.{Option, Some, None, is_some}
+use mathlib.Core.Bool.{true, false, false≢true}
+use Rattle.inspector.specs.declared.Pending.{Pending}
 use Rattle.inspector.specs.Log.{Timer, timer, Store, store, Every, Free, Pends, Step}
 use Rattle.inspector.specs.Words.{timers, held, keys_of, deadlines_of, over}
-use Rattle.inspector.specs.Parts.{PlaceOf, NoneDue, NoneBefore, Within, TakeClaim}
+use Rattle.inspector.specs.Parts.{PlaceOf, NoneDue, NoneBefore, Placed, Within, TakeClaim, pending}
 use Rattle.inspector.proofs.laws.Steps.{step_once, pends_once, free_pends}
 
 -- ---- timers of keys and deadlines
@@ -57,25 +58,35 @@ every_out P (x ∷ a) (y ∷ c) e f (suc i) h = every_out P a c (omega arith) f.
 
 module _ {n room clock : ℕ} {ks ds : List ℕ} {e : Entry} where
   -- there is no step
-  pub stayed : ((s : Store) → Step room (held n clock ks ds) e s → ⊥) → TakeClaim n room clock ks ds e T.Bad ks ds
+  pub stayed : ((s : Store) → Step room (held n clock ks ds) e s → ⊥) → TakeClaim n room clock ks ds e None ks ds
   stayed f = record { step = λ s p. absurd (f s p); none = λ _. (refl, refl, refl) }
 
   -- there is one, after which the keys a and the deadlines b are pending
   went : (a b : List ℕ) {k c : ℕ} {ks' ds' : List ℕ} → length a ≡ length b → k ≡ length a → Step room (held n clock ks ds) e (store (timers a b) c)
-      → ks' ≡ over a ks → ds' ≡ over b ds → TakeClaim n room clock ks ds e (T.On k c) ks' ds'
+      → ks' ≡ over a ks → ds' ≡ over b ds → TakeClaim n room clock ks ds e (Some (pending k room c)) ks' ds'
   went a b {k} {c} {ks'} {ds'} l z p q r =
       record {
         step = λ s x.
             let o : store (timers a b) c ≡ s = step_once room (held n clock ks ds) e p x in (
-              ap (λ (k : ℕ). T.On k c) (z ∙ sym (timers_length a b l)) ∙ ap (λ (s : Store). T.On (length s.pending) s.clock) o,
+              ap (λ (k : ℕ). Some (pending k room c)) (z ∙ sym (timers_length a b l)) ∙ ap (λ (s : Store). Some (pending (length s.pending) room s.clock)) o,
               q ∙ ap (λ (k : List ℕ). over k ks) (sym (timers_keys a b l)) ∙ ap (λ (s : Store). over (keys_of s.pending) ks) o,
               r ∙ ap (λ (k : List ℕ). over k ds) (sym (timers_deadlines a b l)) ∙ ap (λ (s : Store). over (deadlines_of s.pending) ds) o,
             );
         none = λ f. absurd (f (store (timers a b) c) p);
       }
 
+-- ---- the place of a key, as `is_some` tells of it
+
+pub is_placed : {ks : List ℕ} {n key : ℕ} (o : Option ℕ) → Placed ks n key o → true ≡ is_some o → (r : ℕ) × (r < n) × PlaceOf ks n key r
+is_placed (Some r) p e = (r, p.0, p.1)
+is_placed None p e = absurd (false≢true (sym e))
+
+pub is_free : {ks : List ℕ} {n key : ℕ} (o : Option ℕ) → Placed ks n key o → false ≡ is_some o → PlaceOf ks n key n
+is_free (Some r) p e = absurd (false≢true e)
+is_free None p e = p
+
 -- the entry is this one
-pub entry_is : {n room clock : ℕ} {ks ds : List ℕ} {e f : Entry} {r : Taken} {ks' ds' : List ℕ} → e ≡ f
+pub entry_is : {n room clock : ℕ} {ks ds : List ℕ} {e f : Entry} {r : Option Pending} {ks' ds' : List ℕ} → e ≡ f
     → TakeClaim n room clock ks ds f r ks' ds' → TakeClaim n room clock ks ds e r ks' ds'
 entry_is {n} {room} {clock} {ks} {ds} {r = r} {ks' = ks'} {ds' = ds'} q c =
     subst (λ (e : Entry). TakeClaim n room clock ks ds e r ks' ds') (sym q) c
@@ -203,16 +214,16 @@ module _ (n room : ℕ) (ks ds : List ℕ) (W : Within n room ks ds) where
     -- ---- `i key when`
 
     module _ (clock when : ℕ) where
-      pub insert_pending : r < n → TakeClaim n room clock ks ds (E.Insert key when) T.Bad ks ds
+      pub insert_pending : r < n → TakeClaim n room clock ks ds (E.Insert key when) None ks ds
       unfolding Step
       insert_pending h = stayed (λ s x. free_pends x.0 (place_pends h))
 
-      pub insert_full : n ≤ r → room ≤ n → TakeClaim n room clock ks ds (E.Insert key when) T.Bad ks ds
+      pub insert_full : n ≤ r → room ≤ n → TakeClaim n room clock ks ds (E.Insert key when) None ks ds
       unfolding Step
       insert_full h f = stayed (λ s x. omega (arith, x.1, timers_length K D even, long_keys))
 
       pub insert_done : n ≤ r → n < room → (v : ℕ) → v ≡ max when clock
-          → TakeClaim n room clock ks ds (E.Insert key when) (T.On (n + 1) clock) (set ks n key) (set ds n v)
+          → TakeClaim n room clock ks ds (E.Insert key when) (Some (pending (n + 1) room clock)) (set ks n key) (set ds n v)
       unfolding Step
       insert_done h f v e =
           went (K ++ key ∷ []) (D ++ v ∷ []) (omega (arith, length-append K (key ∷ []), length-append D (v ∷ []), even))
@@ -227,11 +238,11 @@ module _ (n room : ℕ) (ks ds : List ℕ) (W : Within n room ks ds) where
 
       -- ---- `s key when`
 
-      pub reset_free : n ≤ r → TakeClaim n room clock ks ds (E.Reset key when) T.Bad ks ds
+      pub reset_free : n ≤ r → TakeClaim n room clock ks ds (E.Reset key when) None ks ds
       unfolding Step
       reset_free h = stayed (λ s x. free_pends (place_free h) x.0)
 
-      pub reset_done : r < n → (v : ℕ) → v ≡ max when clock → TakeClaim n room clock ks ds (E.Reset key when) (T.On n clock) ks (set ds r v)
+      pub reset_done : r < n → (v : ℕ) → v ≡ max when clock → TakeClaim n room clock ks ds (E.Reset key when) (Some (pending n room clock)) ks (set ds r v)
       unfolding Step place_pends
       reset_done h v e =
           let b : List ℕ = before_deadlines h ++ v ∷ behind_deadlines h in
@@ -255,7 +266,7 @@ module _ (n room : ℕ) (ks ds : List ℕ) (W : Within n room ks ds) where
       -- the others stay
       gone : (clock : ℕ) (e : Entry)
           → Step room (held n clock ks ds) e (store ((place_pends h).front ++ (place_pends h).behind) clock)
-          → TakeClaim n room clock ks ds e (T.On (n - 1) clock) ks' ds'
+          → TakeClaim n room clock ks ds e (Some (pending (n - 1) room clock)) ks' ds'
       unfolding place_pends
       gone clock e x =
           let a : List ℕ = before_keys h ++ behind_keys h in
@@ -271,12 +282,12 @@ module _ (n room : ℕ) (ks ds : List ℕ) (W : Within n room ks ds) where
           (u ∙ put_out ks n r h (omega (arith, W.few, W.keys)))
           (v ∙ put_out ds n r h (omega (arith, W.few, W.deadlines)))
 
-      pub remove_done : {clock : ℕ} → TakeClaim n room clock ks ds (E.Remove key) (T.On (n - 1) clock) ks' ds'
+      pub remove_done : {clock : ℕ} → TakeClaim n room clock ks ds (E.Remove key) (Some (pending (n - 1) room clock)) ks' ds'
       unfolding Step
       remove_done {clock} = gone clock (E.Remove key) (place_pends h, refl)
 
       pub out_done : {clock : ℕ} (time : ℕ) → get_or ds r 0 ≤ time → NoneBefore ds n (get_or ds r 0)
-          → TakeClaim n room clock ks ds (E.Out time key) (T.On (n - 1) clock) ks' ds'
+          → TakeClaim n room clock ks ds (E.Out time key) (Some (pending (n - 1) room clock)) ks' ds'
       unfolding Step place_pends
       out_done {clock} time l f =
           gone clock (E.Out time key) (
@@ -289,23 +300,23 @@ module _ (n room : ℕ) (ks ds : List ℕ) (W : Within n room ks ds) where
             refl,
           )
 
-    pub remove_free : {clock : ℕ} → n ≤ r → TakeClaim n room clock ks ds (E.Remove key) T.Bad ks ds
+    pub remove_free : {clock : ℕ} → n ≤ r → TakeClaim n room clock ks ds (E.Remove key) None ks ds
     unfolding Step
     remove_free h = stayed (λ s x. free_pends (place_free h) x.0)
 
     -- ---- `p now key`
 
     module _ {clock : ℕ} (time : ℕ) where
-      pub out_free : n ≤ r → TakeClaim n room clock ks ds (E.Out time key) T.Bad ks ds
+      pub out_free : n ≤ r → TakeClaim n room clock ks ds (E.Out time key) None ks ds
       unfolding Step
       out_free h = stayed (λ s x. free_pends (place_free h) x.0)
 
-      pub out_early : r < n → time < get_or ds r 0 → TakeClaim n room clock ks ds (E.Out time key) T.Bad ks ds
+      pub out_early : r < n → time < get_or ds r 0 → TakeClaim n room clock ks ds (E.Out time key) None ks ds
       unfolding Step
       out_early h f = stayed (λ s x. omega (arith, x.1, place_deadline h x.0))
 
       -- another deadline is less
-      pub out_other : r < n → (NoneBefore ds n (get_or ds r 0) → ⊥) → TakeClaim n room clock ks ds (E.Out time key) T.Bad ks ds
+      pub out_other : r < n → (NoneBefore ds n (get_or ds r 0) → ⊥) → TakeClaim n room clock ks ds (E.Out time key) None ks ds
       unfolding Step
       out_other h f =
           stayed
@@ -318,7 +329,7 @@ module _ (n room : ℕ) (ks ds : List ℕ) (W : Within n room ks ds) where
   -- ---- `p now -`
 
   module _ (clock time : ℕ) where
-    pub none_due : (NoneDue ds n time → ⊥) → TakeClaim n room clock ks ds (E.Nothing time) T.Bad ks ds
+    pub none_due : (NoneDue ds n time → ⊥) → TakeClaim n room clock ks ds (E.Nothing time) None ks ds
     unfolding Step
     none_due f =
         stayed
@@ -328,7 +339,7 @@ module _ (n room : ℕ) (ks ds : List ℕ) (W : Within n room ks ds) where
         let v = every_out (λ t. time < t.deadline) K D even x.0 i (omega (arith, long_keys)) in
         omega (arith, v, get_or-take n ds i 0 l)))
 
-    pub none_done : NoneDue ds n time → (v : ℕ) → v ≡ max clock time → TakeClaim n room clock ks ds (E.Nothing time) (T.On n v) ks ds
+    pub none_done : NoneDue ds n time → (v : ℕ) → v ≡ max clock time → TakeClaim n room clock ks ds (E.Nothing time) (Some (pending n room v)) ks ds
     unfolding Step
     none_done f v e =
         went K D even (sym long_keys) (

@@ -1,16 +1,18 @@
--- `read_line` keeps the claim on reading: nothing is said by an empty or a long line, and `whole_line` has the letter and the fields of any other.
+-- `read_line` keeps the claim on reading: `whole_line` has the letter and the fields of a line that is neither empty nor long.
+use mathlib.Core.Path.{refl}
 use native.Mathlib.Omega.{arith}
-use Rattle.inspector.proofs.laws.Reading.{empty_line, long_line, whole_line}
+use Rattle.std.specs.Prelude.{Some, None}
+use Rattle.inspector.specs.Parts.{entry_of}
+use Rattle.inspector.proofs.laws.Reading.{whole_line}
 use Rattle.inspector.proofs.read_line.Goals as goal
 
-pub returns-then-line-eq0 : goal.returns-then-line-eq0
-returns-then-line-eq0 c =
-    empty_line _ c.if-line-eq0.true
-
-pub returns-then-line-gt80 : goal.returns-then-line-gt80
-returns-then-line-gt80 c =
-    long_line _ (omega arith)
+pub returns-in_err-fields_in : goal.returns-in_err-fields_in
+unfolding entry_of
+returns-in_err-fields_in c =
+    rw c.from_residual.ensures
+    (whole_line _ None None (omega (arith, c.in-len1-up.len_at_least)) (omega (arith, c.if-line-gt80.false)) c.in_err-fields_in.ensures refl)
 
 pub returns : goal.returns
 returns c =
-    whole_line _ c.fields_in-f.result _ (omega (arith, c.if-line-eq0.false)) (omega (arith, c.if-line-gt80.false)) c.fields_in-f.ensures c.entry_of.ensures
+    whole_line _ (Some c.in_ok-fields_in.field-0) _ (omega (arith, c.in-len1-up.len_at_least)) (omega (arith, c.if-line-gt80.false))
+    c.in_ok-fields_in.ensures c.entry_of.ensures

@@ -13,8 +13,7 @@ use Rattle.lines.proofs.laws.Lines.{whole_line}
 use Rattle.lines.proofs.laws.Running.{ran_all}
 use Rattle.decimals.specs.Text.{Decimal}
 use Rattle.decimals.proofs.laws.Decimals.{at_most_20}
-use Rattle.decimals.specs.declared.Num.{Num}
-use Rattle.decimals.specs.declared.Num.TheVariants as N
+use Rattle.std.specs.Prelude.{Option, Some, None}
 use Rattle.gauge.specs.declared.Gauge.{Gauge}
 use Rattle.gauge.specs.Gauge.{zeros, most, float_of, noted}
 use Rattle.gauge.specs.Many.{noted_all, floats}
@@ -28,17 +27,17 @@ use Rattle.light.proofs.laws.Once.{amount_once}
 -- ---- line by line
 
 -- what a line says that is a number, and what one says that is none
-says_number : {l : List ℕ} {t t' u : State} {n : ℕ} → Stepped l t t' → Decimal l n → n ≤ most → t ≡ u → t' ≡ next (N.Is n) u
+says_number : {l : List ℕ} {t t' u : State} {n : ℕ} → Stepped l t t' → Decimal l n → n ≤ most → t ≡ u → t' ≡ next (Some n) u
 says_number {l} {t} {n = n} s d h e =
-    s.then ∙ ap (λ (r : Num). next r t) (amount_once l s.says (N.Is n) s.is (d, h)) ∙ ap (λ (u : State). next (N.Is n) u) e
+    s.then ∙ ap (λ (r : Option ℕ). next r t) (amount_once l s.says (Some n) s.is (d, h)) ∙ ap (λ (u : State). next (Some n) u) e
 
 bad_stays : {ls : List (List ℕ)} {t t' : State} → t ≡ S.Bad → Along Stepped ls t t' → text_of t' ≡ bad
 bad_stays e none = ap (λ (u : State). text_of u) e
 bad_stays {t = t} e (more s r) = bad_stays (s.then ∙ ap (λ (u : State). next s.says u) e ∙ still s.says) r
   where
-    still : (r : Num) → next r S.Bad ≡ S.Bad
-    still (N.Is n) = refl
-    still N.Bad = refl
+    still : (r : Option ℕ) → next r S.Bad ≡ S.Bad
+    still (Some n) = refl
+    still None = refl
 
 -- ---- both limits are there
 
@@ -51,12 +50,12 @@ both_right s l g e (more x r) (n ∷ ns) a = both_right s l (noted g (float_of n
 
 -- a line is a number, or it is none
 step_way : {l : List ℕ} {t t' u : State} → Stepped l t t' → t ≡ u
-    → ((n : ℕ) × Decimal l n × (n ≤ most) × (t' ≡ next (N.Is n) u)) ⊎ (t' ≡ S.Bad)
+    → ((n : ℕ) × Decimal l n × (n ≤ most) × (t' ≡ next (Some n) u)) ⊎ (t' ≡ S.Bad)
 step_way {l} {t} {t'} {u} s e = by s.says s.is s.then
   where
-    by : (r : Num) → AmountOf l r → t' ≡ next r t → ((n : ℕ) × Decimal l n × (n ≤ most) × (t' ≡ next (N.Is n) u)) ⊎ (t' ≡ S.Bad)
-    by (N.Is n) a q = inl (n, a.0, a.1, q ∙ ap (λ (v : State). next (N.Is n) v) e)
-    by N.Bad a q = inr q
+    by : (r : Option ℕ) → AmountOf l r → t' ≡ next r t → ((n : ℕ) × Decimal l n × (n ≤ most) × (t' ≡ next (Some n) u)) ⊎ (t' ≡ S.Bad)
+    by (Some n) a q = inl (n, a.0, a.1, q ∙ ap (λ (v : State). next (Some n) v) e)
+    by None a q = inr q
 
 both_bad : {ls : List (List ℕ)} {t t' : State} (s l : ℕ) (g : Gauge) → t ≡ S.Both s l g → Along Stepped ls t t' → ((ns : List ℕ) → Amounts ls ns → ⊥)
     → text_of t' ≡ bad

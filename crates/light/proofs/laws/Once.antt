@@ -6,21 +6,20 @@ use Prim.Native.Nat.{ℕ}
 use native.Mathlib.Decide.{ℕ_discrete}
 use Rattle.lines.specs.Running.{Chunk}
 use Rattle.lines.proofs.laws.Running.{chunk_once as once-a-chunk}
-use Rattle.decimals.specs.declared.Num.{Num}
-use Rattle.decimals.specs.declared.Num.TheVariants as N
+use Rattle.std.specs.Prelude.{Option, Some, None}
 use Rattle.decimals.proofs.laws.Decimals.{one_number}
 use Rattle.light.specs.declared.State.{State}
 use Rattle.light.specs.Light.{Amounts, Writes}
 use Rattle.light.specs.Steps.{AmountOf, next, Stepped}
 
-pub amount_once : (l : List ℕ) (r s : Num) → AmountOf l r → AmountOf l s → r ≡ s
-amount_once l (N.Is n) (N.Is m) p q = ap (λ (x : ℕ). N.Is x) (one_number p.0 q.0)
-amount_once l (N.Is n) N.Bad p q = absurd (q n p.0 p.1)
-amount_once l N.Bad (N.Is m) p q = absurd (p m q.0 q.1)
-amount_once l N.Bad N.Bad p q = refl
+pub amount_once : (l : List ℕ) (r s : Option ℕ) → AmountOf l r → AmountOf l s → r ≡ s
+amount_once l (Some n) (Some m) p q = ap (λ (x : ℕ). Some x) (one_number p.0 q.0)
+amount_once l (Some n) None p q = absurd (q n p.0 p.1)
+amount_once l None (Some m) p q = absurd (p m q.0 q.1)
+amount_once l None None p q = refl
 
 pub step_once : {l : List ℕ} {t a b : State} → Stepped l t a → Stepped l t b → a ≡ b
-step_once {l} {t} p q = p.then ∙ ap (λ (r : Num). next r t) (amount_once l p.says q.says p.is q.is) ∙ sym q.then
+step_once {l} {t} p q = p.then ∙ ap (λ (r : Option ℕ). next r t) (amount_once l p.says q.says p.is q.is) ∙ sym q.then
 
 -- `take_chunk`
 pub chunk_once : {got : List ℕ} {i k x y : ℕ} {line l m : List ℕ} {t a b : State} → Chunk Stepped got i line k t l x a

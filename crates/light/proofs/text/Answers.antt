@@ -18,15 +18,15 @@ other S.Bad x = refl
 pub returns-in_default : goal.returns-in_default
 returns-in_default c = text_bad c.args.state (other c.args.state c.in_default.not-Both) c.write_bad.ensures
 
-pub returns-in_default-r : goal.returns-in_default-r
-returns-in_default-r c =
-    no_number _ _ _ c.in-Both.is c.float_of.ensures c.float_of-2.ensures c.read-r.ensures c.in_default-r.is
+pub returns-in_default-read : goal.returns-in_default-read
+returns-in_default-read c =
+    no_number _ _ _ c.in-Both.is c.float_of.ensures c.float_of-2.ensures c.read.ensures c.in_default-read.is
 
 pub returns-then-out-lt39 : goal.returns-then-out-lt39
-returns-then-out-lt39 c = text_full _ _ _ c.in-Both.is c.float_of.ensures c.float_of-2.ensures c.read-r.ensures c.if-out-lt39.true
+returns-then-out-lt39 c = text_full _ _ _ c.in-Both.is c.float_of.ensures c.float_of-2.ensures c.read.ensures c.if-out-lt39.true
 
 pub returns : goal.returns
 returns c =
-    text_room _ _ _ c.in-Both.is c.float_of.ensures c.float_of-2.ensures c.read-r.ensures _ c.in-Shows.is c.bits_of.ensures c.bits_of-2.ensures
+    text_room _ _ _ c.in-Both.is c.float_of.ensures c.float_of-2.ensures c.read.ensures _ c.in-Ok.is c.bits_of.ensures c.bits_of-2.ensures
     c.push_light.ensures
     (omega arith)
