@@ -1,589 +1,424 @@
-// Every word of a store in one row, so that a damage is one number changed, and one comparison tells what a call changed.
-ghost use Rattle.std.specs.Prelude.{◌≡◌, ◌+◌, ◌-◌, ◌≤◌, ◌<◌, length};
-ghost use Rattle.places.specs.Places.{slots};
+// A store with every word of it, so that a damage is one word changed, and one comparison tells what a call changed.
+ghost use Rattle.std.specs.Prelude.{◌≤◌};
 
-use delay_queue::Call;
+use delay_queue::{Call, heads_in};
 use places::Tops;
 use queue::Answer;
+use std::fmt;
 use wheel::Wheel;
 
 const STDOUT_FILENO: i32 = 1;
 
-// Where each part begins in the row. Each slice lends the words of 1,025 records, and the row has those of the first 12; the store
-// has 9. Of values a record has two words, its value and its period, and of each other slice one.
-pub const VALUES: usize = 0;
+// Each slice lends the words of so many records; a store here has nine at most.
+const LENT: usize = 1025;
 
-pub const DEADLINES: usize = 24;
+// Of values a record has two words, its value and its period, and of each other slice one.
+const PAIRS: usize = 2050;
 
-pub const NEXTS: usize = 36;
+// The key of record 0 at the last turn; those of the others follow.
+const LAST_KEY: u64 = records::LAST_TURN << 16;
 
-pub const PREVS: usize = 48;
+// The eight calls but format. None is refused by the store of nine, and all but next wake and length change words there.
+const CALLS: &[Call] = &[
+    Call::Insert(17, 300, 0),
+    Call::Reset(LAST_KEY + 2, 400),
+    Call::Remove(LAST_KEY + 3),
+    Call::Poll(100),
+    Call::PollSome(100, 0),
+    Call::Wake,
+    Call::Length,
+    Call::Clear,
+];
 
-pub const TURNS: usize = 60;
+// A word of a store: of a slice, of the state, a level's occupied bits, the head of a level's slot.
+#[derive(Clone, Copy)]
+pub enum Word {
+    Values(usize),
+    Deadlines(usize),
+    Nexts(usize),
+    Prevs(usize),
+    Turns(usize),
+    Marks(usize),
+    N,
+    Expired,
+    Free,
+    Parking,
+    Hand,
+    Elapsed,
+    Until,
+    Occupied(usize),
+    Heads(usize, usize),
+}
 
-pub const MARKS: usize = 72;
+impl fmt::Display for Word {
+    fn fmt<W: fmt::Write>(&self, f: &mut fmt::Formatter<W>) -> fmt::Result {
+        match self {
+            Word::Values(i) => write!(f, "values[{i}]"),
+            Word::Deadlines(i) => write!(f, "deadlines[{i}]"),
+            Word::Nexts(i) => write!(f, "nexts[{i}]"),
+            Word::Prevs(i) => write!(f, "prevs[{i}]"),
+            Word::Turns(i) => write!(f, "turns[{i}]"),
+            Word::Marks(i) => write!(f, "marks[{i}]"),
+            Word::N => write!(f, "n"),
+            Word::Expired => write!(f, "expired"),
+            Word::Free => write!(f, "free"),
+            Word::Parking => write!(f, "parking"),
+            Word::Hand => write!(f, "hand"),
+            Word::Elapsed => write!(f, "elapsed"),
+            Word::Until => write!(f, "until"),
+            Word::Occupied(level) => write!(f, "occupied[{level}]"),
+            Word::Heads(level, slot) => write!(f, "heads[{level}][{slot}]"),
+        }
+    }
+}
 
-pub const N: usize = 84;
+// A slice of a store.
+#[derive(Clone, Copy, PartialEq, Eq)]
+pub enum Slice {
+    Values,
+    Deadlines,
+    Nexts,
+    Prevs,
+    Turns,
+    Marks,
+}
 
-pub const EXPIRED: usize = 85;
+impl fmt::Display for Slice {
+    fn fmt<W: fmt::Write>(&self, f: &mut fmt::Formatter<W>) -> fmt::Result {
+        match self {
+            Slice::Values => write!(f, "values"),
+            Slice::Deadlines => write!(f, "deadlines"),
+            Slice::Nexts => write!(f, "nexts"),
+            Slice::Prevs => write!(f, "prevs"),
+            Slice::Turns => write!(f, "turns"),
+            Slice::Marks => write!(f, "marks"),
+        }
+    }
+}
 
-pub const FREE: usize = 86;
+// The slice that is lent in part, if one is, and how many of its words.
+type Part = Option<(Slice, usize)>;
 
-pub const PARKING: usize = 87;
-
-pub const HAND: usize = 88;
-
-pub const ELAPSED: usize = 89;
-
-pub const UNTIL: usize = 90;
-
-pub const OCCUPIED: usize = 91;
-
-pub const HEADS: usize = 97;
-
-pub const SLOTS: usize = places::SLOTS as usize;
-
-// One number for the words of the slices that the row does not have: 0 while they are as they were made.
-const REST: usize = 481;
-
-pub type Image = [u64; 482];
+// How many words of a slice are lent, which has so many.
+fn lent(slice: Slice, part: Part, all: usize) -> usize
+    ensures { result ≤ all }
+{
+    match part {
+        Some((short, size)) if short == slice => size.min(all),
+        _ => all,
+    }
+}
 
 // How many calls answered no 2, and how many left every word as it was.
-#[derive(Clone, Copy)]
+#[derive(Clone, Copy, Default)]
 struct Seen {
     refused: u64,
     kept: u64,
 }
 
-// Words that no call has written yet.
-fn blank(x: u64) -> Image
-    ensures { length result ≡ 482 }
-{
-    [x; 482]
-}
-
-// The contracts give the lengths alone, so that no proof meets the words. A record of such words is a retired one: its turn is the
-// last, its links are nobody, and its mark says so.
-fn words() -> [u64; 2050]
-    ensures { length result ≡ 2050 }
-{
-    [records::LAST_TURN; 2050]
-}
-
-fn numbers(rest: u16) -> [u16; 1025]
-    ensures { length result ≡ 1025 }
-{
-    [rest; 1025]
-}
-
-// 0 where all words but the first are as they were made.
-fn words_rest(words: &[u64; 2050], first: usize) -> u64
-    ensures { result ≤ 1 }
-{
-    let mut i = first;
-    while i < 2050 {
-        if words[i] != records::LAST_TURN {
-            return 1;
+impl Seen {
+    // Both counts.
+    fn plus(self, more: Seen) -> Self {
+        Seen {
+            refused: self.refused.saturating_add(more.refused),
+            kept: self.kept.saturating_add(more.kept),
         }
-        i += 1;
     }
-    0
 }
 
-fn numbers_rest(numbers: &[u16; 1025], rest: u16) -> u64
-    ensures { result ≤ 1 }
-{
-    let mut i: usize = 12;
-    while i < 1025 {
-        if numbers[i] != rest {
-            return 1;
-        }
-        i += 1;
+impl fmt::Display for Seen {
+    fn fmt<W: fmt::Write>(&self, f: &mut fmt::Formatter<W>) -> fmt::Result {
+        let refused = self.refused;
+        let kept = self.kept;
+        write!(f, "{refused} calls answered no 2, {kept} changed no word")
     }
-    0
 }
 
-fn wide(x: u16) -> u64 {
-    x as u64
-}
-
+// The low bits of a number, for a word of 16.
 fn narrow(x: u64) -> u16 {
     (x % 65536) as u16
 }
 
-// The first `count` words of a slice, out of the row.
-fn take_words(words: &mut [u64], image: &Image, from: usize, count: usize)
-    requires { (count ≤ length words.old) × (from + count ≤ 481) }
-{
-    let mut i: usize = 0;
-    while i < count {
-        words[i] = image[from + i];
-        i += 1;
+// A word of a slice; 0 past its end.
+fn word_at<T: Copy + Into<u64>>(words: &[T], i: usize) -> u64 {
+    if i < words.len() { words[i].into() } else { 0 }
+}
+
+// Nothing is written past its end.
+fn put_at<T: Copy>(words: &mut [T], i: usize, x: T) {
+    if i < words.len() {
+        words[i] = x;
     }
 }
 
-fn take_numbers(numbers: &mut [u16], image: &Image, from: usize, count: usize)
-    requires { (count ≤ length numbers.old) × (from + count ≤ 481) }
-{
-    let mut i: usize = 0;
-    while i < count {
-        numbers[i] = narrow(image[from + i]);
-        i += 1;
+// A store. Its state lies in parts, since a Wheel has no ==.
+#[derive(Clone, Copy, PartialEq, Eq)]
+pub struct Image {
+    n: u16,
+    expired: u16,
+    free: u16,
+    parking: u16,
+    hand: u16,
+    elapsed: u64,
+    until: u64,
+    occupied: [u64; 6],
+    heads: [[u16; 64]; 6],
+    values: [u64; PAIRS],
+    deadlines: [u64; LENT],
+    nexts: [u16; LENT],
+    prevs: [u16; LENT],
+    turns: [u64; LENT],
+    marks: [u16; LENT],
+}
+
+impl Image {
+    // No store yet. The words of the first 12 records are x, and behind them those of retired ones: the turn is the last, the links
+    // are nobody, and the mark says so.
+    fn blank(x: u64) -> Self {
+        let mut image = Image {
+            n: 0,
+            expired: links::NOBODY,
+            free: links::NOBODY,
+            parking: links::NOBODY,
+            hand: links::NOBODY,
+            elapsed: 0,
+            until: 0,
+            occupied: [0; 6],
+            heads: [[links::NOBODY; 64]; 6],
+            values: [records::LAST_TURN; PAIRS],
+            deadlines: [records::LAST_TURN; LENT],
+            nexts: [links::NOBODY; LENT],
+            prevs: [links::NOBODY; LENT],
+            turns: [records::LAST_TURN; LENT],
+            marks: [places::RETIRED; LENT],
+        };
+        image.values[..24].fill(x);
+        image.deadlines[..12].fill(x);
+        image.nexts[..12].fill(narrow(x));
+        image.prevs[..12].fill(narrow(x));
+        image.turns[..12].fill(x);
+        image.marks[..12].fill(narrow(x));
+        image
+    }
+
+    // A store of n free records. The words behind them are x.
+    pub fn formatted(n: u64, turn: u64, x: u64) -> Self {
+        Image::blank(x).after(&[Call::Format(n, turn)])
+    }
+
+    // The state, put together again.
+    fn state(&self) -> Wheel {
+        Wheel {
+            elapsed: self.elapsed,
+            occupied: self.occupied,
+            tops: Tops {
+                n: self.n,
+                expired: self.expired,
+                free: self.free,
+                parking: self.parking,
+            },
+            hand: self.hand,
+            until: self.until,
+        }
+    }
+
+    // The store after the call, and whether that answered no 2.
+    fn asked(self, part: Part, call: Call) -> (Self, bool) {
+        let state = self.state();
+        let Image {
+            heads,
+            mut values,
+            mut deadlines,
+            mut nexts,
+            mut prevs,
+            mut turns,
+            mut marks,
+            ..
+        } = self;
+        let reply = any_call::ask(
+            state,
+            heads,
+            &mut values[..lent(Slice::Values, part, PAIRS)],
+            &mut deadlines[..lent(Slice::Deadlines, part, LENT)],
+            &mut nexts[..lent(Slice::Nexts, part, LENT)],
+            &mut prevs[..lent(Slice::Prevs, part, LENT)],
+            &mut turns[..lent(Slice::Turns, part, LENT)],
+            &mut marks[..lent(Slice::Marks, part, LENT)],
+            call,
+        );
+        let heads = heads_in(reply.heads);
+        let Wheel {
+            elapsed,
+            occupied,
+            tops,
+            hand,
+            until,
+        } = reply.state;
+        let Tops {
+            n,
+            expired,
+            free,
+            parking,
+        } = tops;
+        let after = Image {
+            n,
+            expired,
+            free,
+            parking,
+            hand,
+            elapsed,
+            until,
+            occupied,
+            heads,
+            values,
+            deadlines,
+            nexts,
+            prevs,
+            turns,
+            marks,
+        };
+        (after, matches!(reply.answer, Answer::No(2)))
+    }
+
+    // The store after the calls.
+    pub fn after(mut self, calls: &[Call]) -> Self {
+        for &call in calls {
+            self = self.asked(None, call).0;
+        }
+        self
+    }
+
+    // A word as it is.
+    fn word(&self, word: Word) -> u64 {
+        match word {
+            Word::Values(i) => word_at(&self.values, i),
+            Word::Deadlines(i) => word_at(&self.deadlines, i),
+            Word::Nexts(i) => word_at(&self.nexts, i),
+            Word::Prevs(i) => word_at(&self.prevs, i),
+            Word::Turns(i) => word_at(&self.turns, i),
+            Word::Marks(i) => word_at(&self.marks, i),
+            Word::N => self.n.into(),
+            Word::Expired => self.expired.into(),
+            Word::Free => self.free.into(),
+            Word::Parking => self.parking.into(),
+            Word::Hand => self.hand.into(),
+            Word::Elapsed => self.elapsed,
+            Word::Until => self.until,
+            Word::Occupied(level) => word_at(&self.occupied, level),
+            Word::Heads(level, slot) if level < 6 => word_at(&self.heads[level], slot),
+            Word::Heads(_, _) => 0,
+        }
+    }
+
+    // A word changed.
+    fn put(&mut self, word: Word, x: u64) {
+        match word {
+            Word::Values(i) => put_at(&mut self.values, i, x),
+            Word::Deadlines(i) => put_at(&mut self.deadlines, i, x),
+            Word::Nexts(i) => put_at(&mut self.nexts, i, narrow(x)),
+            Word::Prevs(i) => put_at(&mut self.prevs, i, narrow(x)),
+            Word::Turns(i) => put_at(&mut self.turns, i, x),
+            Word::Marks(i) => put_at(&mut self.marks, i, narrow(x)),
+            Word::N => self.n = narrow(x),
+            Word::Expired => self.expired = narrow(x),
+            Word::Free => self.free = narrow(x),
+            Word::Parking => self.parking = narrow(x),
+            Word::Hand => self.hand = narrow(x),
+            Word::Elapsed => self.elapsed = x,
+            Word::Until => self.until = x,
+            Word::Occupied(level) => put_at(&mut self.occupied, level, x),
+            Word::Heads(level, slot) if level < 6 => {
+                put_at(&mut self.heads[level], slot, narrow(x));
+            }
+            Word::Heads(_, _) => {}
+        }
+    }
+
+    // The store with the words of the table changed, each to what stands beside it.
+    pub fn altered(mut self, table: &[(Word, u64)]) -> Self {
+        for &(word, x) in table {
+            self.put(word, x);
+        }
+        self
+    }
+
+    // Asks the call of the store as it is.
+    fn ask_once(&self, part: Part, call: Call) -> Seen {
+        let (after, refused) = self.asked(part, call);
+        let kept = after == *self;
+        Seen {
+            refused: refused.into(),
+            kept: kept.into(),
+        }
+    }
+
+    // Asks the eight calls, each of the store as it is.
+    fn ask_all(&self, part: Part) -> Seen {
+        let mut seen = Seen::default();
+        for &call in CALLS {
+            seen = seen.plus(self.ask_once(part, call));
+        }
+        seen
+    }
+
+    // Asks them of the store with one word changed.
+    fn ask_changed(&self, word: Word, x: u64) -> Seen {
+        let mut changed = *self;
+        changed.put(word, x);
+        changed.ask_all(None)
+    }
+
+    // The store as it is.
+    pub fn show_whole(&self) {
+        let seen = self.ask_all(None);
+        say(format_args!("nothing changed: {seen}"));
+    }
+
+    // The store with one word changed: for each row of the table in turn, the word and what it becomes.
+    pub fn show_all(&self, table: &[(Word, u64)]) {
+        for &(word, x) in table {
+            let seen = self.ask_changed(word, x);
+            say(format_args!("{word} := {x}: {seen}"));
+        }
+    }
+
+    // The store with one slice lent in part: for each row of the table in turn, the slice and how many of its words.
+    pub fn show_lent(&self, table: &[(Slice, usize)]) {
+        for &(slice, size) in table {
+            let seen = self.ask_all(Some((slice, size)));
+            say(format_args!("{slice} of {size} words: {seen}"));
+        }
+    }
+
+    // The store with one word raised by one, each of them in turn; nobody is followed by 0.
+    pub fn show_each(&self, words: &[Word]) {
+        let mut seen = Seen::default();
+        for &word in words {
+            let x = self.word(word).wrapping_add(1);
+            seen = seen.plus(self.ask_changed(word, x));
+        }
+        if let Some(first) = words.first() {
+            let count = words.len();
+            say(format_args!("{first} and on, each of {count} one more: {seen}"));
+        }
     }
 }
 
-// A slice whose first words are those of the row.
-fn words_in(image: &Image, from: usize, count: usize) -> [u64; 2050]
-    requires { (count ≤ 24) × (from + count ≤ 481) }
-    ensures { length result ≡ 2050 }
-{
-    let mut words = words();
-    take_words(&mut words, image, from, count);
-    words
-}
-
-fn numbers_in(image: &Image, from: usize, rest: u16) -> [u16; 1025]
-    requires { from ≤ 469 }
-    ensures { length result ≡ 1025 }
-{
-    let mut numbers = numbers(rest);
-    take_numbers(&mut numbers, image, from, 12);
-    numbers
-}
-
-fn state_in(image: &Image) -> Wheel {
-    let mut occupied = [0u64; 6];
-    take_words(&mut occupied, image, OCCUPIED, 6);
-    let mut tops = [0u16; 5];
-    take_numbers(&mut tops, image, N, 5);
-    let top = Tops {
-        n: tops[0],
-        expired: tops[1],
-        free: tops[2],
-        parking: tops[3],
-    };
-    Wheel {
-        elapsed: image[ELAPSED],
-        occupied,
-        tops: top,
-        hand: tops[4],
-        until: image[UNTIL],
-    }
-}
-
-fn heads_in(image: &Image) -> [[u16; 64]; 6] {
-    let mut heads = [[0u16; 64]; 6];
-    let mut i: usize = 0;
-    while i < SLOTS {
-        put_head(&mut heads, i, narrow(image[HEADS + i]));
-        i += 1;
-    }
-    heads
-}
-
-fn put_head(heads: &mut [[u16; 64]; 6], i: usize, x: u16)
-    requires { i < slots }
-{
-    let k = i / 64;
-    let s = i % 64;
-    heads[k][s] = x;
-}
-
-// The first `count` words of a slice, into the row.
-fn note_words(image: &mut Image, from: usize, words: &[u64; 2050], count: usize)
-    requires { (count ≤ 24) × (from + count ≤ 481) }
-{
-    let mut i: usize = 0;
-    while i < count {
-        image[from + i] = words[i];
-        i += 1;
-    }
-    image[REST] = image[REST] | words_rest(words, count);
-}
-
-fn note_numbers(image: &mut Image, from: usize, numbers: &[u16; 1025], rest: u16)
-    requires { from ≤ 469 }
-{
-    let mut i: usize = 0;
-    while i < 12 {
-        image[from + i] = wide(numbers[i]);
-        i += 1;
-    }
-    image[REST] = image[REST] | numbers_rest(numbers, rest);
-}
-
-fn note_state(image: &mut Image, state: Wheel) {
-    let occupied = state.occupied;
-    image[OCCUPIED] = occupied[0];
-    image[OCCUPIED + 1] = occupied[1];
-    image[OCCUPIED + 2] = occupied[2];
-    image[OCCUPIED + 3] = occupied[3];
-    image[OCCUPIED + 4] = occupied[4];
-    image[OCCUPIED + 5] = occupied[5];
-    let top = state.tops;
-    image[N] = wide(top.n);
-    image[EXPIRED] = wide(top.expired);
-    image[FREE] = wide(top.free);
-    image[PARKING] = wide(top.parking);
-    image[HAND] = wide(state.hand);
-    image[ELAPSED] = state.elapsed;
-    image[UNTIL] = state.until;
-}
-
-fn note_heads(image: &mut Image, heads: &[[u16; 64]; 6]) {
-    let mut i: usize = 0;
-    while i < SLOTS {
-        let k = i / 64;
-        let s = i % 64;
-        image[HEADS + i] = wide(heads[k][s]);
-        i += 1;
-    }
-}
-
-// A slice that is lent in part: where it begins in the row, and how many of its words are lent.
+// Standard output, by the kit's `io`: std's println! would make this program assume one C function more, os::c::rattle_errno.
 #[derive(Clone, Copy)]
-struct Part {
-    slice: usize,
-    size: usize,
-}
+struct Out;
 
-// All of every slice: none of the six begins there.
-fn whole() -> Part {
-    Part {
-        slice: REST,
-        size: 0,
-    }
-}
-
-// How many words of a slice are lent, which has so many.
-fn lent(slice: usize, part: Part, all: usize) -> usize
-    ensures { result ≤ all }
-{
-    if slice != part.slice {
-        return all;
-    }
-    if all < part.size {
-        return all;
-    }
-    part.size
-}
-
-fn is_no_2(answer: Answer) -> bool {
-    match answer {
-        Answer::No(number) => number == 2,
-        _ => false,
-    }
-}
-
-// Asks the call of the store in the row, which becomes the store after the call, and says whether it answered no 2.
-fn ask(image: &mut Image, part: Part, call: Call) -> bool {
-    let mut values = words_in(image, VALUES, 24);
-    let mut deadlines = words_in(image, DEADLINES, 12);
-    let mut nexts = numbers_in(image, NEXTS, links::NOBODY);
-    let mut prevs = numbers_in(image, PREVS, links::NOBODY);
-    let mut turns = words_in(image, TURNS, 12);
-    let mut marks = numbers_in(image, MARKS, places::RETIRED);
-    let reply = any_call::ask(
-        state_in(image),
-        heads_in(image),
-        &mut values[0..lent(VALUES, part, 2050)],
-        &mut deadlines[0..lent(DEADLINES, part, 1025)],
-        &mut nexts[0..lent(NEXTS, part, 1025)],
-        &mut prevs[0..lent(PREVS, part, 1025)],
-        &mut turns[0..lent(TURNS, part, 1025)],
-        &mut marks[0..lent(MARKS, part, 1025)],
-        call,
-    );
-    note_words(image, VALUES, &values, 24);
-    note_words(image, DEADLINES, &deadlines, 12);
-    note_numbers(image, NEXTS, &nexts, links::NOBODY);
-    note_numbers(image, PREVS, &prevs, links::NOBODY);
-    note_words(image, TURNS, &turns, 12);
-    note_numbers(image, MARKS, &marks, places::RETIRED);
-    let state = reply.state;
-    note_state(image, state);
-    let heads = reply.heads;
-    let grid = delay_queue::heads_in(heads);
-    note_heads(image, &grid);
-    let answer = reply.answer;
-    is_no_2(answer)
-}
-
-fn same(a: &Image, b: &Image) -> bool {
-    let mut i: usize = 0;
-    while i < 482 {
-        if a[i] != b[i] {
-            return false;
+impl fmt::Write for Out {
+    fn write_str(&mut self, s: &str) -> fmt::Result {
+        if io::write_all(STDOUT_FILENO, s.as_bytes()) {
+            Ok(())
+        } else {
+            Err(fmt::Error)
         }
-        i += 1;
-    }
-    true
-}
-
-// The key of a record at the last turn.
-fn key(item: u64) -> u64
-    requires { item < 65536 }
-{
-    records::LAST_TURN * 65536 + item
-}
-
-// A call that makes a store: its kind, as in a run, and its numbers.
-pub const INSERT: u64 = 2;
-
-pub const REMOVE: u64 = 4;
-
-pub const POLL: u64 = 5;
-
-pub const POLL_SOME: u64 = 11;
-
-fn made_by(row: [u64; 3]) -> Call {
-    match row[0] {
-        INSERT => Call::Insert(row[1], row[2], 0),
-        REMOVE => Call::Remove(row[1]),
-        POLL_SOME => Call::PollSome(row[1], row[2]),
-        _ => Call::Poll(row[1]),
     }
 }
 
-// The store after the calls of the table.
-pub fn after(store: Image, calls: &[[u64; 3]]) -> Image {
-    let mut image = store;
-    let mut i: usize = 0;
-    while i < calls.len() {
-        let row = calls[i];
-        ask(&mut image, whole(), made_by(row));
-        i += 1;
-    }
-    image
-}
-
-fn put(image: &mut Image, at: u64, x: u64) {
-    let at = at as usize;
-    if at < REST {
-        image[at] = x;
-    }
-}
-
-// The store with the words of the table changed, each a word and what it becomes.
-pub fn altered(store: Image, table: &[[u64; 2]]) -> Image {
-    let mut image = store;
-    let mut i: usize = 0;
-    while i < table.len() {
-        let row = table[i];
-        put(&mut image, row[0], row[1]);
-        i += 1;
-    }
-    image
-}
-
-// A store of n free records. The words behind them are x.
-pub fn formatted(n: u64, turn: u64, x: u64) -> Image {
-    let mut image = blank(x);
-    image[REST] = 0;
-    ask(&mut image, whole(), Call::Format(n, turn));
-    image
-}
-
-// The eight calls but format. None is refused by the store of nine, and all but next wake and length change words there.
-fn call_of(i: u64) -> Call {
-    match i {
-        0 => Call::Insert(17, 300, 0),
-        1 => Call::Reset(key(2), 400),
-        2 => Call::Remove(key(3)),
-        3 => Call::Poll(100),
-        4 => Call::PollSome(100, 0),
-        5 => Call::Wake,
-        6 => Call::Length,
-        _ => Call::Clear,
-    }
-}
-
-fn one_if(b: bool) -> u64
-    ensures { result ≤ 1 }
-{
-    if b {
-        return 1;
-    }
-    0
-}
-
-fn ask_once(image: &Image, part: Part, call: Call) -> Seen
-    ensures { (result.refused ≤ 1) × (result.kept ≤ 1) }
-{
-    let mut after = *image;
-    let refused = ask(&mut after, part, call);
-    let kept = same(image, &after);
-    Seen {
-        refused: one_if(refused),
-        kept: one_if(kept),
-    }
-}
-
-// Asks the eight calls, each of the store as it is in the image.
-fn ask_all(image: &Image, part: Part) -> Seen
-    ensures { (result.refused ≤ 8) × (result.kept ≤ 8) }
-{
-    let mut refused = 0u64;
-    let mut kept = 0u64;
-    let mut i = 0u64;
-    while i < 8 {
-        let seen = ask_once(image, part, call_of(i));
-        refused += seen.refused;
-        kept += seen.kept;
-        i += 1;
-    }
-    Seen { refused, kept }
-}
-
-pub fn say(text: &[u8]) {
-    io::write_all(STDOUT_FILENO, text);
-}
-
-fn say_number(n: u64) {
-    io::print_decimal(STDOUT_FILENO, n);
-}
-
-fn say_entry(name: &[u8], i: usize) {
-    say(name);
-    say(b"[");
-    say_number(i as u64);
-    say(b"]");
-}
-
-// The name of the slice that begins at `at`.
-fn say_slice(at: usize) {
-    match at {
-        VALUES => say(b"values"),
-        DEADLINES => say(b"deadlines"),
-        NEXTS => say(b"nexts"),
-        PREVS => say(b"prevs"),
-        TURNS => say(b"turns"),
-        _ => say(b"marks"),
-    }
-}
-
-// The name of the word at `at`.
-fn say_word(at: usize) {
-    if at < DEADLINES {
-        say_entry(b"values", at);
-        return;
-    }
-    if at < N {
-        say_slice(at / 12 * 12);
-        say_entry(b"", at % 12);
-        return;
-    }
-    if OCCUPIED <= at {
-        say_row(at);
-        return;
-    }
-    match at {
-        N => say(b"n"),
-        ELAPSED => say(b"elapsed"),
-        EXPIRED => say(b"expired"),
-        FREE => say(b"free"),
-        HAND => say(b"hand"),
-        UNTIL => say(b"until"),
-        _ => say(b"parking"),
-    }
-}
-
-fn say_row(at: usize)
-    requires { 91 ≤ at }
-{
-    if at < HEADS {
-        say_entry(b"occupied", at - OCCUPIED);
-        return;
-    }
-    let i = at - HEADS;
-    say_entry(b"heads", i / 64);
-    say_entry(b"", i % 64);
-}
-
-fn say_seen(seen: Seen) {
-    say(b": ");
-    say_number(seen.refused);
-    say(b" calls answered no 2, ");
-    say_number(seen.kept);
-    say(b" changed no word\n");
-}
-
-// The store as it is.
-pub fn show_whole(image: &Image) {
-    say(b"nothing changed");
-    say_seen(ask_all(image, whole()));
-}
-
-// The store with the word at `at` changed to x.
-fn show(image: &Image, at: usize, x: u64)
-    requires { at < 481 }
-{
-    let mut changed = *image;
-    changed[at] = x;
-    say_word(at);
-    say(b" := ");
-    say_number(x);
-    say_seen(ask_all(&changed, whole()));
-}
-
-// The store with one word changed: for each row of the table in turn, the word and what it becomes.
-pub fn show_all(image: &Image, table: &[[u64; 2]]) {
-    let mut i: usize = 0;
-    while i < table.len() {
-        let row = table[i];
-        let at = row[0] as usize;
-        if at < REST {
-            show(image, at, row[1]);
-        }
-        i += 1;
-    }
-}
-
-// The store with `size` words of the slice that begins at `slice`.
-pub fn show_lent(image: &Image, slice: usize, size: usize) {
-    say_slice(slice);
-    say(b" of ");
-    say_number(size as u64);
-    say(b" words");
-    say_seen(ask_all(image, Part { slice, size }));
-}
-
-// What comes after a word: nobody is followed by 0.
-fn one_more(x: u64) -> u64 {
-    if x == wide(links::NOBODY) {
-        return 0;
-    }
-    if x == u64::MAX {
-        return 0;
-    }
-    x + 1
-}
-
-fn ask_raised(image: &Image, at: usize) -> Seen
-    requires { at < 481 }
-    ensures { (result.refused ≤ 8) × (result.kept ≤ 8) }
-{
-    let mut changed = *image;
-    changed[at] = one_more(image[at]);
-    ask_all(&changed, whole())
-}
-
-// The store with one word raised by one: each of the `count` words from `from` on, one after the other.
-pub fn show_each(image: &Image, from: usize, count: usize)
-    requires { (from ≤ 481) × (count ≤ 481 - from) }
-{
-    let mut refused = 0u64;
-    let mut kept = 0u64;
-    let mut i: usize = 0;
-    while i < count {
-        let seen = ask_raised(image, from + i);
-        refused += seen.refused;
-        kept += seen.kept;
-        i += 1;
-    }
-    say_word(from);
-    say(b" and on, each of ");
-    say_number(count as u64);
-    say(b" one more");
-    say_seen(Seen { refused, kept });
+// A line. That nobody reads it is nothing to us.
+pub fn say<D: fmt::Display + Drop>(line: D) {
+    let _ = fmt::Write::writeln(&mut Out, line);
 }

@@ -5,41 +5,13 @@
 
 mod image;
 
-use image::{
-    INSERT, Image, POLL, POLL_SOME, REMOVE, after, altered, say, show_all, show_each, show_lent,
-    show_whole,
+use delay_queue::Call;
+use image::Word::{
+    Deadlines, Elapsed, Expired, Free, Hand, Heads, Marks, N, Nexts, Occupied, Parking, Prevs,
+    Turns, Until, Values,
 };
-
-// Where the words begin, as the tables name them: a row of a table is a word and what it becomes.
-const VALUES: u64 = image::VALUES as u64;
-
-const DEADLINES: u64 = image::DEADLINES as u64;
-
-const NEXTS: u64 = image::NEXTS as u64;
-
-const PREVS: u64 = image::PREVS as u64;
-
-const TURNS: u64 = image::TURNS as u64;
-
-const MARKS: u64 = image::MARKS as u64;
-
-const N: u64 = image::N as u64;
-
-const EXPIRED: u64 = image::EXPIRED as u64;
-
-const FREE: u64 = image::FREE as u64;
-
-const PARKING: u64 = image::PARKING as u64;
-
-const HAND: u64 = image::HAND as u64;
-
-const ELAPSED: u64 = image::ELAPSED as u64;
-
-const UNTIL: u64 = image::UNTIL as u64;
-
-const OCCUPIED: u64 = image::OCCUPIED as u64;
-
-const HEADS: u64 = image::HEADS as u64;
+use image::{Image, Slice, Word, say};
+use std::array;
 
 const NOBODY: u64 = links::NOBODY as u64;
 
@@ -50,562 +22,592 @@ const RETIRED: u64 = places::RETIRED as u64;
 // ---- stores, by the calls and the changes that make them
 
 // At elapsed 100 record 0 is retired.
-const BEGUN: [[u64; 3]; 3] = [
-    [INSERT, 10, 50],
-    [REMOVE, LAST_TURN << 16, 0],
-    [POLL, 100, 0],
+const BEGUN: &[Call] = &[
+    Call::Insert(10, 50, 0),
+    Call::Remove(LAST_TURN << 16),
+    Call::Poll(100),
 ];
 
 // A store of n records at elapsed 100. Record 0 is retired, the others are free. The words behind them are x.
 fn begun(n: u64, x: u64) -> Image {
-    after(image::formatted(n, LAST_TURN, x), &BEGUN)
+    Image::formatted(n, LAST_TURN, x).after(BEGUN)
 }
 
 // Nine records. 0 is retired; 1 is at level 0, 2 and then 3 in one slot of level 1, 4 at level 2, 5 at level 5; 6 is on the expired
 // stack; 7 and then 8 are free.
-const NINE: [[u64; 3]; 6] = [
-    [INSERT, 11, 105],
-    [INSERT, 12, 200],
-    [INSERT, 13, 210],
-    [INSERT, 14, 5000],
-    [INSERT, 15, 2000000000],
-    [INSERT, 16, 60],
+const NINE: &[Call] = &[
+    Call::Insert(11, 105, 0),
+    Call::Insert(12, 200, 0),
+    Call::Insert(13, 210, 0),
+    Call::Insert(14, 5000, 0),
+    Call::Insert(15, 2000000000, 0),
+    Call::Insert(16, 60, 0),
 ];
 
 fn nine(x: u64) -> Image {
-    after(begun(9, x), &NINE)
+    begun(9, x).after(NINE)
 }
 
 // The expired one is handed out.
-const OUT: [[u64; 3]; 1] = [[POLL, 100, 0]];
+const OUT: &[Call] = &[Call::Poll(100)];
 
 // Then a poll at 210 in hand, after the first of two moves out of slot 3 of level 1: 2 is at level 0, and 3 still there. 4 is at level 2,
 // 5 at level 5; 7 and then 8 are free, the others retired.
-const HELD: [[u64; 3]; 2] = [[POLL, 105, 0], [POLL_SOME, 210, 1]];
+const HELD: &[Call] = &[Call::Poll(105), Call::PollSome(210, 1)];
 
 // The same with 2 on the expired stack.
-const EXPIRED_TOO: [[u64; 2]; 5] = [
-    [HEADS + 8, NOBODY],
-    [OCCUPIED, 0],
-    [EXPIRED, 2],
-    [MARKS + 2, places::EXPIRED as u64],
-    [DEADLINES + 2, 100],
+const EXPIRED_TOO: &[(Word, u64)] = &[
+    (Heads(0, 8), NOBODY),
+    (Occupied(0), 0),
+    (Expired, 2),
+    (Marks(2), places::EXPIRED as u64),
+    (Deadlines(2), 100),
 ];
 
 // The same with no poll in hand: 2 lies too low.
-const LET_GO: [[u64; 2]; 1] = [[HAND, NOBODY]];
+const LET_GO: &[(Word, u64)] = &[(Hand, NOBODY)];
 
 // Of three records, a poll at 5000 in hand, after the first of two moves out of slot 1 of level 2: 1 is in slot 14 of level 1, and 2 still
 // there.
-const HIGH: [[u64; 3]; 3] = [[INSERT, 11, 5000], [INSERT, 12, 5001], [POLL_SOME, 5000, 1]];
+const HIGH: &[Call] = &[
+    Call::Insert(11, 5000, 0),
+    Call::Insert(12, 5001, 0),
+    Call::PollSome(5000, 1),
+];
 
 // The same with 1 moved on to level 0, which is filled too early.
-const TOO_LOW: [[u64; 2]; 5] = [
-    [HEADS + 78, NOBODY],
-    [OCCUPIED + 1, 0],
-    [HEADS + 8, 1],
-    [OCCUPIED, 1 << 8],
-    [MARKS + 1, 8],
+const TOO_LOW: &[(Word, u64)] = &[
+    (Heads(1, 14), NOBODY),
+    (Occupied(1), 0),
+    (Heads(0, 8), 1),
+    (Occupied(0), 1 << 8),
+    (Marks(1), 8),
 ];
 
 // Both drained, and the poll between two drains: it goes on in slot 14 of level 1, which starts after elapsed.
-const BETWEEN: [[u64; 3]; 1] = [[POLL_SOME, 5000, 1]];
+const BETWEEN: &[Call] = &[Call::PollSome(5000, 1)];
 
 // The store of nine with 2 and then 3 parked, at the next block's start and 50 later.
-const PARKED: [[u64; 3]; 6] = [
-    [INSERT, 11, 105],
-    [INSERT, 12, 1 << 36],
-    [INSERT, 13, (1 << 36) + 50],
-    [INSERT, 14, 5000],
-    [INSERT, 15, 2000000000],
-    [INSERT, 16, 60],
+const PARKED: &[Call] = &[
+    Call::Insert(11, 105, 0),
+    Call::Insert(12, 1 << 36, 0),
+    Call::Insert(13, (1 << 36) + 50, 0),
+    Call::Insert(14, 5000, 0),
+    Call::Insert(15, 2000000000, 0),
+    Call::Insert(16, 60, 0),
 ];
 
 // The same with 2 cut out of its list: its mark says that it is parked, and it is in no list.
-const UNPARKED: [[u64; 2]; 4] = [
-    [PARKING, 3],
-    [PREVS + 3, 3],
-    [NEXTS + 2, NOBODY],
-    [PREVS + 2, NOBODY],
+const UNPARKED: &[(Word, u64)] = &[
+    (Parking, 3),
+    (Prevs(3), 3),
+    (Nexts(2), NOBODY),
+    (Prevs(2), NOBODY),
 ];
 
 // The store with two parked, once the expired one is handed out, with a poll at the next block's start in hand: it drains the parking list
 // before the rest is out.
-const HASTY: [[u64; 2]; 2] = [[HAND, places::PARKING as u64], [UNTIL, 1 << 36]];
+const HASTY: &[(Word, u64)] = &[(Hand, places::PARKING as u64), (Until, 1 << 36)];
 
 // Of four records, a poll 50 after the next block's start in hand, after the first of two moves out of the parking list: 1 is in slot 0 of
 // level 5, and 2 still there. 3 is free.
-const DRAINED: [[u64; 3]; 3] = [
-    [INSERT, 11, 1 << 36],
-    [INSERT, 12, (1 << 36) + 50],
-    [POLL_SOME, (1 << 36) + 50, 1],
+const DRAINED: &[Call] = &[
+    Call::Insert(11, 1 << 36, 0),
+    Call::Insert(12, (1 << 36) + 50, 0),
+    Call::PollSome((1 << 36) + 50, 1),
 ];
 
 // Both moved, and the poll between two drains: it goes on in slot 0 of level 5, which starts at elapsed, the block's start.
-const CROSSED: [[u64; 3]; 1] = [[POLL_SOME, (1 << 36) + 50, 1]];
+const CROSSED: &[Call] = &[Call::PollSome((1 << 36) + 50, 1)];
 
 // The same with 3 parked, in the block after: no poll would have drained the parking list and left one there.
-const PARKED_TOO: [[u64; 2]; 6] = [
-    [FREE, NOBODY],
-    [PARKING, 3],
-    [DEADLINES + 3, 1 << 37],
-    [NEXTS + 3, NOBODY],
-    [PREVS + 3, 3],
-    [MARKS + 3, places::PARKING as u64],
+const PARKED_TOO: &[(Word, u64)] = &[
+    (Free, NOBODY),
+    (Parking, 3),
+    (Deadlines(3), 1 << 37),
+    (Nexts(3), NOBODY),
+    (Prevs(3), 3),
+    (Marks(3), places::PARKING as u64),
 ];
 
 // Three timers at 70 in one slot of level 1: 0, then 1, then 2.
-const THREE: [[u64; 3]; 3] = [[INSERT, 10, 70], [INSERT, 11, 70], [INSERT, 12, 70]];
+const THREE: &[Call] = &[
+    Call::Insert(10, 70, 0),
+    Call::Insert(11, 70, 0),
+    Call::Insert(12, 70, 0),
+];
 
 // The same with the middle one cut out of its list, as the first half of a reset leaves it: in no list, at turn 1.
-const CUT: [[u64; 2]; 5] = [
-    [NEXTS, 2],
-    [PREVS + 2, 0],
-    [NEXTS + 1, NOBODY],
-    [PREVS + 1, NOBODY],
-    [MARKS + 1, NOBODY],
+const CUT: &[(Word, u64)] = &[
+    (Nexts(0), 2),
+    (Prevs(2), 0),
+    (Nexts(1), NOBODY),
+    (Prevs(1), NOBODY),
+    (Marks(1), NOBODY),
 ];
 
 // One timer at 70, and the same cut out of its list by half a reset.
-const ONE: [[u64; 3]; 1] = [[INSERT, 7, 70]];
+const ONE: &[Call] = &[Call::Insert(7, 70, 0)];
 
-const HALF: [[u64; 2]; 5] = [
-    [NEXTS, NOBODY],
-    [PREVS, NOBODY],
-    [MARKS, NOBODY],
-    [HEADS + 65, NOBODY],
-    [OCCUPIED + 1, 0],
+const HALF: &[(Word, u64)] = &[
+    (Nexts(0), NOBODY),
+    (Prevs(0), NOBODY),
+    (Marks(0), NOBODY),
+    (Heads(1, 1), NOBODY),
+    (Occupied(1), 0),
 ];
 
 // The words of retired records behind the nine.
-const FILLED: [[u64; 2]; 3] = [
-    [MARKS + 9, RETIRED],
-    [MARKS + 10, RETIRED],
-    [MARKS + 11, RETIRED],
+const FILLED: &[(Word, u64)] = &[
+    (Marks(9), RETIRED),
+    (Marks(10), RETIRED),
+    (Marks(11), RETIRED),
 ];
 
 // ---- what is tried of each
 
 // Slices one word too short.
-fn short(image: &Image) {
-    show_lent(image, image::VALUES, 17);
-    show_lent(image, image::DEADLINES, 8);
-    show_lent(image, image::NEXTS, 8);
-    show_lent(image, image::PREVS, 8);
-    show_lent(image, image::TURNS, 8);
-    show_lent(image, image::MARKS, 8);
-}
+const SHORT: &[(Slice, usize)] = &[
+    (Slice::Values, 17),
+    (Slice::Deadlines, 8),
+    (Slice::Nexts, 8),
+    (Slice::Prevs, 8),
+    (Slice::Turns, 8),
+    (Slice::Marks, 8),
+];
 
-const WRONG_DEADLINES: [[u64; 2]; 7] = [
+// Slices of just as many words as the records need.
+const ENOUGH: &[(Slice, usize)] = &[
+    (Slice::Values, 18),
+    (Slice::Deadlines, 9),
+    (Slice::Nexts, 9),
+    (Slice::Prevs, 9),
+    (Slice::Turns, 9),
+    (Slice::Marks, 9),
+];
+
+// The words of the state.
+const STATE: &[Word] = &[
+    N,
+    Expired,
+    Free,
+    Parking,
+    Hand,
+    Elapsed,
+    Until,
+    Occupied(0),
+    Occupied(1),
+    Occupied(2),
+    Occupied(3),
+    Occupied(4),
+    Occupied(5),
+];
+
+const WRONG_DEADLINES: &[(Word, u64)] = &[
     // at level 0, one later; at level 1, just out of the slot on both sides, and before elapsed
-    [DEADLINES + 1, 106],
-    [DEADLINES + 2, 191],
-    [DEADLINES + 2, 256],
-    [DEADLINES + 2, 99],
+    (Deadlines(1), 106),
+    (Deadlines(2), 191),
+    (Deadlines(2), 256),
+    (Deadlines(2), 99),
     // its slot, 2^36 later
-    [DEADLINES + 5, 70719476736],
+    (Deadlines(5), 70719476736),
     // an expired one that is not elapsed
-    [DEADLINES + 6, 99],
-    [DEADLINES + 6, 101],
+    (Deadlines(6), 99),
+    (Deadlines(6), 101),
 ];
 
-const WRONG_NEXTS: [[u64; 2]; 7] = [
+const WRONG_NEXTS: &[(Word, u64)] = &[
     // a slot's list ends too early, goes round, goes on in another slot
-    [NEXTS + 2, NOBODY],
-    [NEXTS + 2, 2],
-    [NEXTS + 3, 2],
-    [NEXTS + 3, 1],
+    (Nexts(2), NOBODY),
+    (Nexts(2), 2),
+    (Nexts(3), 2),
+    (Nexts(3), 1),
     // the expired stack goes on in the free list, the free list past the last record
-    [NEXTS + 6, 7],
-    [NEXTS + 8, 9],
+    (Nexts(6), 7),
+    (Nexts(8), 9),
     // a retired one has a link
-    [NEXTS, 5],
+    (Nexts(0), 5),
 ];
 
-const WRONG_PREVS: [[u64; 2]; 10] = [
+const WRONG_PREVS: &[(Word, u64)] = &[
     // a link back that is missing, or leads to another slot, or round
-    [PREVS + 3, NOBODY],
-    [PREVS + 3, 4],
-    [PREVS + 3, 3],
+    (Prevs(3), NOBODY),
+    (Prevs(3), 4),
+    (Prevs(3), 3),
     // the tail that a head names: none, itself and not the last, another list's; of a list of one, and of the free list
-    [PREVS + 2, NOBODY],
-    [PREVS + 2, 2],
-    [PREVS + 2, 4],
-    [PREVS + 1, NOBODY],
-    [PREVS + 7, 7],
+    (Prevs(2), NOBODY),
+    (Prevs(2), 2),
+    (Prevs(2), 4),
+    (Prevs(1), NOBODY),
+    (Prevs(7), 7),
     // past the last record; of a retired one
-    [PREVS + 8, 9],
-    [PREVS, 5],
+    (Prevs(8), 9),
+    (Prevs(0), 5),
 ];
 
-const WRONG_TURNS: [[u64; 2]; 8] = [
+const WRONG_TURNS: &[(Word, u64)] = &[
     // of a pending one, a free one, a retired one
-    [TURNS + 3, 0],
-    [TURNS + 3, 1 << 48],
-    [TURNS + 7, 0],
-    [TURNS + 7, 1 << 48],
-    [TURNS, 0],
-    [TURNS, u64::MAX],
+    (Turns(3), 0),
+    (Turns(3), 1 << 48),
+    (Turns(7), 0),
+    (Turns(7), 1 << 48),
+    (Turns(0), 0),
+    (Turns(0), u64::MAX),
     // a retired one at a lower turn
-    [TURNS, 1],
-    [TURNS, LAST_TURN - 1],
+    (Turns(0), 1),
+    (Turns(0), LAST_TURN - 1),
 ];
 
-const WRONG_MARKS: [[u64; 2]; 13] = [
+const WRONG_MARKS: &[(Word, u64)] = &[
     // a pending one: another slot, the expired stack, the parking list, free, nobody
-    [MARKS + 1, 42],
-    [MARKS + 1, places::EXPIRED as u64],
-    [MARKS + 1, places::PARKING as u64],
-    [MARKS + 2, places::FREE as u64],
-    [MARKS + 4, NOBODY],
+    (Marks(1), 42),
+    (Marks(1), places::EXPIRED as u64),
+    (Marks(1), places::PARKING as u64),
+    (Marks(2), places::FREE as u64),
+    (Marks(4), NOBODY),
     // the slot of the same number at another level; an expired one as free
-    [MARKS + 5, 257],
-    [MARKS + 6, places::FREE as u64],
+    (Marks(5), 257),
+    (Marks(6), places::FREE as u64),
     // a free one: expired, nobody, retired
-    [MARKS + 8, places::EXPIRED as u64],
-    [MARKS + 8, NOBODY],
-    [MARKS + 8, RETIRED],
+    (Marks(8), places::EXPIRED as u64),
+    (Marks(8), NOBODY),
+    (Marks(8), RETIRED),
     // a retired one: free, no place at all, nobody
-    [MARKS, places::FREE as u64],
-    [MARKS, RETIRED + 1],
-    [MARKS, NOBODY],
+    (Marks(0), places::FREE as u64),
+    (Marks(0), RETIRED + 1),
+    (Marks(0), NOBODY),
 ];
 
-const WRONG_NUMBERS: [[u64; 2]; 21] = [
-    [N, 0],
-    [N, 8],
-    [N, 10],
-    [N, 13],
-    [N, 1025],
-    [ELAPSED, 0],
-    [ELAPSED, 99],
-    [ELAPSED, 101],
+const WRONG_NUMBERS: &[(Word, u64)] = &[
+    (N, 0),
+    (N, 8),
+    (N, 10),
+    (N, 13),
+    (N, 1025),
+    (Elapsed, 0),
+    (Elapsed, 99),
+    (Elapsed, 101),
     // emptied; the record of another list; the second of its own; past the last record
-    [EXPIRED, NOBODY],
-    [EXPIRED, 7],
-    [EXPIRED, 9],
-    [FREE, NOBODY],
-    [FREE, 6],
-    [FREE, 8],
-    [FREE, 9],
+    (Expired, NOBODY),
+    (Expired, 7),
+    (Expired, 9),
+    (Free, NOBODY),
+    (Free, 6),
+    (Free, 8),
+    (Free, 9),
     // a slot in hand, filled or not, with no now; a now with no slot
-    [HAND, 67],
-    [HAND, 0],
-    [UNTIL, 1],
-    [UNTIL, 100],
+    (Hand, 67),
+    (Hand, 0),
+    (Until, 1),
+    (Until, 100),
     // nobody is parked: a pending one, past the last record
-    [PARKING, 5],
-    [PARKING, 9],
+    (Parking, 5),
+    (Parking, 9),
 ];
 
-const WRONG_ROWS: [[u64; 2]; 15] = [
+const WRONG_ROWS: &[(Word, u64)] = &[
     // a flag cleared, and one set, in a row that has one; one set in a row that has none
-    [OCCUPIED, 0],
-    [OCCUPIED, (1 << 41) + (1 << 40)],
-    [OCCUPIED + 1, 0],
-    [OCCUPIED + 1, 12],
-    [OCCUPIED + 2, 0],
-    [OCCUPIED + 3, 1],
-    [OCCUPIED + 4, 1 << 63],
-    [OCCUPIED + 5, 0],
+    (Occupied(0), 0),
+    (Occupied(0), (1 << 41) + (1 << 40)),
+    (Occupied(1), 0),
+    (Occupied(1), 12),
+    (Occupied(2), 0),
+    (Occupied(3), 1),
+    (Occupied(4), 1 << 63),
+    (Occupied(5), 0),
     // cleared; the second of its list; past the last record; another slot's
-    [HEADS + 67, NOBODY],
-    [HEADS + 67, 3],
-    [HEADS + 67, 9],
-    [HEADS + 321, 4],
+    (Heads(1, 3), NOBODY),
+    (Heads(1, 3), 3),
+    (Heads(1, 3), 9),
+    (Heads(5, 1), 4),
     // an empty slot gets a pending one, a free one, a retired one
-    [HEADS + 42, 1],
-    [HEADS + 202, 7],
-    [HEADS + 383, 0],
+    (Heads(0, 42), 1),
+    (Heads(3, 10), 7),
+    (Heads(5, 63), 0),
 ];
 
 // Changes that leave the store sound.
-const STILL_SOUND: [[u64; 2]; 22] = [
+const STILL_SOUND: &[(Word, u64)] = &[
     // a value of a pending one, of a free one
-    [VALUES + 6, 99],
-    [VALUES + 16, u64::MAX],
+    (Values(6), 99),
+    (Values(16), u64::MAX),
     // a period of a pending one, of the expired one, which the poll sets again or for the last time, of a free one, of a retired one
-    [VALUES + 7, 1],
-    [VALUES + 13, 40],
-    [VALUES + 13, u64::MAX],
-    [VALUES + 17, 1 << 63],
-    [VALUES + 1, 5],
+    (Values(7), 1),
+    (Values(13), 40),
+    (Values(13), u64::MAX),
+    (Values(17), 1 << 63),
+    (Values(1), 5),
     // within its slot, its first and its last; of a free one, of a retired one
-    [DEADLINES + 2, 192],
-    [DEADLINES + 2, 255],
-    [DEADLINES + 4, 8191],
-    [DEADLINES + 5, 2147483647],
-    [DEADLINES + 7, u64::MAX],
-    [DEADLINES, 0],
+    (Deadlines(2), 192),
+    (Deadlines(2), 255),
+    (Deadlines(4), 8191),
+    (Deadlines(5), 2147483647),
+    (Deadlines(7), u64::MAX),
+    (Deadlines(0), 0),
     // of a pending one, a free one
-    [TURNS + 4, 1],
-    [TURNS + 7, 5],
+    (Turns(4), 1),
+    (Turns(7), 5),
     // past the last record
-    [VALUES + 18, 0],
-    [VALUES + 19, 0],
-    [DEADLINES + 9, 0],
-    [NEXTS + 9, 0],
-    [PREVS + 10, 0],
-    [TURNS + 10, 0],
-    [MARKS + 11, 0],
+    (Values(18), 0),
+    (Values(19), 0),
+    (Deadlines(9), 0),
+    (Nexts(9), 0),
+    (Prevs(10), 0),
+    (Turns(10), 0),
+    (Marks(11), 0),
 ];
+
+// The heads of all slots.
+fn heads() -> [Word; 384] {
+    array::from_fn(|i| Heads(i / 64, i % 64))
+}
 
 // One word changed: what each record has of it, and then every one in turn raised by one.
 fn of_records(image: &Image) {
-    show_all(image, &WRONG_DEADLINES);
-    show_all(image, &WRONG_NEXTS);
-    show_each(image, image::NEXTS, 9);
-    show_all(image, &WRONG_PREVS);
-    show_each(image, image::PREVS, 9);
-    show_all(image, &WRONG_TURNS);
-    show_each(image, image::TURNS, 9);
-    show_all(image, &WRONG_MARKS);
-    show_each(image, image::MARKS, 9);
+    image.show_all(WRONG_DEADLINES);
+    image.show_all(WRONG_NEXTS);
+    image.show_each(&array::from_fn::<_, 9, _>(Nexts));
+    image.show_all(WRONG_PREVS);
+    image.show_each(&array::from_fn::<_, 9, _>(Prevs));
+    image.show_all(WRONG_TURNS);
+    image.show_each(&array::from_fn::<_, 9, _>(Turns));
+    image.show_all(WRONG_MARKS);
+    image.show_each(&array::from_fn::<_, 9, _>(Marks));
 }
 
 // The same of the state and of the slot heads.
 fn of_state(image: &Image) {
-    show_all(image, &WRONG_NUMBERS);
-    show_each(image, image::N, 13);
-    show_all(image, &WRONG_ROWS);
-    show_each(image, image::HEADS, image::SLOTS);
+    image.show_all(WRONG_NUMBERS);
+    image.show_each(STATE);
+    image.show_all(WRONG_ROWS);
+    image.show_each(&heads());
 }
 
-// Slices of just as many words as the records need.
-fn enough(image: &Image) {
-    show_lent(image, image::VALUES, 18);
-    show_lent(image, image::DEADLINES, 9);
-    show_lent(image, image::NEXTS, 9);
-    show_lent(image, image::PREVS, 9);
-    show_lent(image, image::TURNS, 9);
-    show_lent(image, image::MARKS, 9);
-}
-
-const MORE_RETIRED: [[u64; 2]; 5] = [[N, 10], [N, 1024], [N, 1025], [N, 1026], [N, 65535]];
+const MORE_RETIRED: &[(Word, u64)] = &[(N, 10), (N, 1024), (N, 1025), (N, 1026), (N, 65535)];
 
 // Every record behind the nine would be a retired one. As many as the slices have words for are sound, and one more is not.
 fn retired(image: &Image) {
-    say(b"the words behind the nine records are those of retired ones:\n");
-    show_all(image, &MORE_RETIRED);
+    say("the words behind the nine records are those of retired ones:");
+    image.show_all(MORE_RETIRED);
 }
 
-const NO_RECORD: [[u64; 2]; 1] = [[N, 0]];
+const NO_RECORD: &[(Word, u64)] = &[(N, 0)];
 
 // No list has a member, so that nothing but n itself is against none.
 fn single(image: &Image) {
-    say(b"one record, and it is retired:\n");
-    show_whole(image);
-    show_all(image, &NO_RECORD);
+    say("one record, and it is retired:");
+    image.show_whole();
+    image.show_all(NO_RECORD);
 }
 
-const OTHER_CLOCKS: [[u64; 2]; 5] = [
-    [ELAPSED, 63],
-    [ELAPSED, 64],
-    [ELAPSED, 105],
-    [ELAPSED, 106],
-    [ELAPSED, (1 << 36) + 100],
+const OTHER_CLOCKS: &[(Word, u64)] = &[
+    (Elapsed, 63),
+    (Elapsed, 64),
+    (Elapsed, 105),
+    (Elapsed, 106),
+    (Elapsed, (1 << 36) + 100),
 ];
 
 // Elapsed may be anything in its row of 64 that is not past the first timer. The poll at 100 changes it, or is refused by number 7.
 fn quiet(image: &Image) {
-    say(b"nothing on the expired stack:\n");
-    show_whole(image);
-    show_all(image, &OTHER_CLOCKS);
+    say("nothing on the expired stack:");
+    image.show_whole();
+    image.show_all(OTHER_CLOCKS);
 }
 
-const LAST_TURNS: [[u64; 2]; 2] = [[TURNS + 1, LAST_TURN - 1], [TURNS + 1, LAST_TURN]];
+const LAST_TURNS: &[(Word, u64)] = &[(Turns(1), LAST_TURN - 1), (Turns(1), LAST_TURN)];
 
-const MARKED: [[u64; 2]; 1] = [[MARKS, RETIRED]];
+const MARKED: &[(Word, u64)] = &[(Marks(0), RETIRED)];
 
 // A timer that a reset has unlinked and not placed: it is in no list, and its mark is nobody, at whatever turn. Only one with the mark
 // of the retired is retired.
 fn lost() {
-    let three = after(image::formatted(3, 1, 77), &THREE);
-    let image = altered(three, &CUT);
-    say(b"three timers at 70, the middle one cut out of its list:\n");
-    show_whole(&image);
-    show_all(&image, &LAST_TURNS);
-    let one = after(image::formatted(1, LAST_TURN, 77), &ONE);
-    let half = altered(one, &HALF);
-    say(b"one timer at 70, at the last turn, cut out of its list:\n");
-    show_whole(&half);
-    show_all(&half, &MARKED);
+    let three = Image::formatted(3, 1, 77).after(THREE);
+    let image = three.altered(CUT);
+    say("three timers at 70, the middle one cut out of its list:");
+    image.show_whole();
+    image.show_all(LAST_TURNS);
+    let one = Image::formatted(1, LAST_TURN, 77).after(ONE);
+    let half = one.altered(HALF);
+    say("one timer at 70, at the last turn, cut out of its list:");
+    half.show_whole();
+    half.show_all(MARKED);
 }
 
-const WHILE_HELD: [[u64; 2]; 19] = [
+const WHILE_HELD: &[(Word, u64)] = &[
     // the slot's start, any later time; before the start, none
-    [UNTIL, 192],
-    [UNTIL, u64::MAX],
-    [UNTIL, 191],
-    [UNTIL, 0],
+    (Until, 192),
+    (Until, u64::MAX),
+    (Until, 191),
+    (Until, 0),
     // any clock before the start; the start itself, past it, another block
-    [ELAPSED, 0],
-    [ELAPSED, 191],
-    [ELAPSED, 192],
-    [ELAPSED, 193],
-    [ELAPSED, (1 << 36) + 100],
+    (Elapsed, 0),
+    (Elapsed, 191),
+    (Elapsed, 192),
+    (Elapsed, 193),
+    (Elapsed, (1 << 36) + 100),
     // a slot of level 0, an empty one, one that is not due, no slot at all, nobody
-    [HAND, 8],
-    [HAND, 68],
-    [HAND, 129],
-    [HAND, image::SLOTS as u64],
-    [HAND, places::FREE as u64],
-    [HAND, NOBODY - 1],
-    [HAND, NOBODY],
+    (Hand, 8),
+    (Hand, 68),
+    (Hand, 129),
+    (Hand, places::SLOTS as u64),
+    (Hand, places::FREE as u64),
+    (Hand, NOBODY - 1),
+    (Hand, NOBODY),
     // one of the slot in hand, and one moved out of it, that are another slot's
-    [DEADLINES + 3, 191],
-    [DEADLINES + 3, 256],
-    [DEADLINES + 2, 264],
+    (Deadlines(3), 191),
+    (Deadlines(3), 256),
+    (Deadlines(2), 264),
 ];
 
 // A poll in hand, whose next move is the head of slot 3 of level 1.
 fn in_hand(image: &Image) {
-    say(b"a poll at 210 in hand, inside its drain:\n");
-    show_whole(image);
-    show_all(image, &WHILE_HELD);
-    show_each(image, image::N, 13);
+    say("a poll at 210 in hand, inside its drain:");
+    image.show_whole();
+    image.show_all(WHILE_HELD);
+    image.show_each(STATE);
 }
 
-const WHILE_PARKED: [[u64; 2]; 23] = [
+const WHILE_PARKED: &[(Word, u64)] = &[
     // a deadline of the next block, its first and its last; of this block, of the one after
-    [DEADLINES + 2, 1 << 36],
-    [DEADLINES + 2, (1 << 37) - 1],
-    [DEADLINES + 2, (1 << 36) - 1],
-    [DEADLINES + 2, 1 << 37],
-    [DEADLINES + 3, 210],
+    (Deadlines(2), 1 << 36),
+    (Deadlines(2), (1 << 37) - 1),
+    (Deadlines(2), (1 << 36) - 1),
+    (Deadlines(2), 1 << 37),
+    (Deadlines(3), 210),
     // the clock in the block of the parked ones
-    [ELAPSED, 1 << 36],
+    (Elapsed, 1 << 36),
     // the head: none, the second, past the last record, a free one
-    [PARKING, NOBODY],
-    [PARKING, 3],
-    [PARKING, 9],
-    [PARKING, 7],
+    (Parking, NOBODY),
+    (Parking, 3),
+    (Parking, 9),
+    (Parking, 7),
     // links: ends too early, goes round, into a slot; the tail that the head names, and a link back
-    [NEXTS + 2, NOBODY],
-    [NEXTS + 3, 2],
-    [NEXTS + 3, 1],
-    [PREVS + 2, 2],
-    [PREVS + 2, NOBODY],
-    [PREVS + 3, NOBODY],
-    [PREVS + 3, 4],
+    (Nexts(2), NOBODY),
+    (Nexts(3), 2),
+    (Nexts(3), 1),
+    (Prevs(2), 2),
+    (Prevs(2), NOBODY),
+    (Prevs(3), NOBODY),
+    (Prevs(3), 4),
     // marks: a slot, the expired stack, free, nobody; one of a slot says that it is parked
-    [MARKS + 2, 320],
-    [MARKS + 2, places::EXPIRED as u64],
-    [MARKS + 3, places::FREE as u64],
-    [MARKS + 3, NOBODY],
-    [MARKS + 1, places::PARKING as u64],
+    (Marks(2), 320),
+    (Marks(2), places::EXPIRED as u64),
+    (Marks(3), places::FREE as u64),
+    (Marks(3), NOBODY),
+    (Marks(1), places::PARKING as u64),
     // in hand, with no now
-    [HAND, places::PARKING as u64],
+    (Hand, places::PARKING as u64),
 ];
 
 // Two timers parked, 2 and then 3.
 fn parked(image: Image) {
-    say(b"two timers parked:\n");
-    show_whole(&image);
-    show_all(&image, &WHILE_PARKED);
-    show_each(&image, image::N, 13);
-    say(b"one cut out of the parking list, its mark left:\n");
-    show_whole(&altered(image, &UNPARKED));
-    say(b"the parking list in hand at the next block's start, while slots are filled:\n");
-    show_whole(&altered(after(image, &OUT), &HASTY));
+    say("two timers parked:");
+    image.show_whole();
+    image.show_all(WHILE_PARKED);
+    image.show_each(STATE);
+    say("one cut out of the parking list, its mark left:");
+    image.altered(UNPARKED).show_whole();
+    say("the parking list in hand at the next block's start, while slots are filled:");
+    image.after(OUT).altered(HASTY).show_whole();
 }
 
-const WHILE_PARKING: [[u64; 2]; 15] = [
+const WHILE_PARKING: &[(Word, u64)] = &[
     // the block's start, any later time; before it, none
-    [UNTIL, 1 << 36],
-    [UNTIL, u64::MAX],
-    [UNTIL, (1 << 36) - 1],
-    [UNTIL, 0],
+    (Until, 1 << 36),
+    (Until, u64::MAX),
+    (Until, (1 << 36) - 1),
+    (Until, 0),
     // any clock of the block before; in the block itself, in the one after
-    [ELAPSED, 0],
-    [ELAPSED, (1 << 36) - 1],
-    [ELAPSED, 1 << 36],
-    [ELAPSED, 1 << 37],
+    (Elapsed, 0),
+    (Elapsed, (1 << 36) - 1),
+    (Elapsed, 1 << 36),
+    (Elapsed, 1 << 37),
     // the slot that is filled, the expired stack, nobody
-    [HAND, 320],
-    [HAND, places::EXPIRED as u64],
-    [HAND, NOBODY],
+    (Hand, 320),
+    (Hand, places::EXPIRED as u64),
+    (Hand, NOBODY),
     // one still parked, and one moved, of another block
-    [DEADLINES + 2, (1 << 36) - 1],
-    [DEADLINES + 2, 1 << 37],
-    [DEADLINES + 1, (1 << 36) - 1],
-    [DEADLINES + 1, 1 << 37],
+    (Deadlines(2), (1 << 36) - 1),
+    (Deadlines(2), 1 << 37),
+    (Deadlines(1), (1 << 36) - 1),
+    (Deadlines(1), 1 << 37),
 ];
 
 // A poll in hand, whose next move is the head of the parking list: elapsed lies in the block before.
 fn draining(image: &Image) {
-    say(b"a poll in hand, inside the drain of the parking list:\n");
-    show_whole(image);
-    show_all(image, &WHILE_PARKING);
-    show_each(image, image::N, 13);
+    say("a poll in hand, inside the drain of the parking list:");
+    image.show_whole();
+    image.show_all(WHILE_PARKING);
+    image.show_each(STATE);
 }
 
-const WHILE_CROSSED: [[u64; 2]; 5] = [
-    [UNTIL, 1 << 36],
-    [UNTIL, (1 << 36) - 1],
+const WHILE_CROSSED: &[(Word, u64)] = &[
+    (Until, 1 << 36),
+    (Until, (1 << 36) - 1),
     // 0 is no such start, nor is a time past it
-    [ELAPSED, 0],
-    [ELAPSED, (1 << 36) + 1],
-    [HAND, NOBODY],
+    (Elapsed, 0),
+    (Elapsed, (1 << 36) + 1),
+    (Hand, NOBODY),
 ];
 
 // The poll between two drains at the block's start: it goes on in elapsed's own slot.
 fn crossed(image: Image) {
-    say(b"the parking list drained, the poll in hand at the block's start:\n");
-    show_whole(&image);
-    show_all(&image, &WHILE_CROSSED);
-    show_each(&image, image::N, 13);
-    say(b"the same with one parked:\n");
-    show_whole(&altered(image, &PARKED_TOO));
+    say("the parking list drained, the poll in hand at the block's start:");
+    image.show_whole();
+    image.show_all(WHILE_CROSSED);
+    image.show_each(STATE);
+    say("the same with one parked:");
+    image.altered(PARKED_TOO).show_whole();
 }
 
-const NO_NOW: [[u64; 2]; 1] = [[UNTIL, 0]];
+const NO_NOW: &[(Word, u64)] = &[(Until, 0)];
 
-const WHILE_BETWEEN: [[u64; 2]; 2] = [
+const WHILE_BETWEEN: &[(Word, u64)] = &[
     // any clock of its lap before the slot's start; the lap before
-    [ELAPSED, 4991],
-    [ELAPSED, 4095],
+    (Elapsed, 4991),
+    (Elapsed, 4095),
 ];
 
 // Damages of more than one word.
 fn midway(held: Image) {
-    say(b"the poll let go, and then its now:\n");
-    let gone = altered(held, &LET_GO);
-    show_whole(&gone);
-    show_all(&gone, &NO_NOW);
-    say(b"a timer on the expired stack while a poll is in hand:\n");
-    show_whole(&altered(held, &EXPIRED_TOO));
-    say(b"a poll at 5000 in hand, inside a drain of level 2:\n");
-    let high = after(begun(3, 77), &HIGH);
-    show_whole(&high);
-    say(b"the same with a timer moved on to level 0:\n");
-    show_whole(&altered(high, &TOO_LOW));
-    say(b"a poll at 5000 in hand, between two drains:\n");
-    let between = after(high, &BETWEEN);
-    show_whole(&between);
-    show_all(&between, &WHILE_BETWEEN);
+    say("the poll let go, and then its now:");
+    let gone = held.altered(LET_GO);
+    gone.show_whole();
+    gone.show_all(NO_NOW);
+    say("a timer on the expired stack while a poll is in hand:");
+    held.altered(EXPIRED_TOO).show_whole();
+    say("a poll at 5000 in hand, inside a drain of level 2:");
+    let high = begun(3, 77).after(HIGH);
+    high.show_whole();
+    say("the same with a timer moved on to level 0:");
+    high.altered(TOO_LOW).show_whole();
+    say("a poll at 5000 in hand, between two drains:");
+    let between = high.after(BETWEEN);
+    between.show_whole();
+    between.show_all(WHILE_BETWEEN);
 }
 
 fn main() {
     let image = nine(77);
-    say(b"not sound:\n");
-    short(&image);
+    say("not sound:");
+    image.show_lent(SHORT);
     of_records(&image);
     of_state(&image);
-    say(b"sound:\n");
-    show_whole(&image);
-    show_all(&image, &STILL_SOUND);
-    enough(&image);
-    let polled = after(image, &OUT);
+    say("sound:");
+    image.show_whole();
+    image.show_all(STILL_SOUND);
+    image.show_lent(ENOUGH);
+    let polled = image.after(OUT);
     quiet(&polled);
-    retired(&altered(nine(LAST_TURN), &FILLED));
+    retired(&nine(LAST_TURN).altered(FILLED));
     single(&begun(1, 77));
     lost();
-    let held = after(polled, &HELD);
+    let held = polled.after(HELD);
     in_hand(&held);
     midway(held);
-    parked(after(begun(9, 77), &PARKED));
-    let parking = after(begun(4, 77), &DRAINED);
+    parked(begun(9, 77).after(PARKED));
+    let parking = begun(4, 77).after(DRAINED);
     draining(&parking);
-    crossed(after(parking, &CROSSED));
+    crossed(parking.after(CROSSED));
 }

@@ -1,19 +1,19 @@
 // The rinse pump, which runs every 40 minutes: a timer that repeats. It is set once. Each poll that hands it out sets it
 // again under the same key, so that this key cancels it whenever that is. How a store is lent is shown by `morning`;
-// here one function lends it, for any call.
+// here one method lends it, for any call. To be copied too, so it stands alone.
 #![tactic(auto)]
 
-use delay_queue::{Call, Reply, format, no_store};
+use delay_queue::{Call, heads_in, no_store};
 use queue::Answer;
+use wheel::Wheel;
 
 const STDOUT_FILENO: i32 = 1;
 
-// Room for four records: an array for the values and periods, and one for each other field.
-type Pairs = [u64; 8];
+// Room for so many records.
+const N: usize = 4;
 
-type Words = [u64; 4];
-
-type Numbers = [u16; 4];
+// A value and a period for each record.
+const PAIRS: usize = 8;
 
 // The value of a timer says what to do when it comes out: here, to rinse.
 const RINSE: u64 = 9;
@@ -21,10 +21,58 @@ const RINSE: u64 = 9;
 // 40 minutes, in milliseconds.
 const EVERY: u64 = 2_400_000;
 
+// What we keep between calls: the last state and heads, and the arrays.
+#[derive(Drop)]
+struct Store {
+    state: Wheel,
+    heads: [[u16; 64]; 6],
+    values: [u64; PAIRS],
+    deadlines: [u64; N],
+    nexts: [u16; N],
+    prevs: [u16; N],
+    turns: [u64; N],
+    marks: [u16; N],
+}
+
+impl Store {
+    // Room alone: until a format it is no store.
+    fn new() -> Self {
+        Store {
+            state: no_store(),
+            heads: [[links::NOBODY; 64]; 6],
+            values: [0; PAIRS],
+            deadlines: [0; N],
+            nexts: [0; N],
+            prevs: [0; N],
+            turns: [0; N],
+            marks: [0; N],
+        }
+    }
+
+    // Makes a call. What it hands back goes into the next.
+    fn ask(&mut self, call: Call) -> Answer {
+        let reply = any_call::ask(
+            self.state,
+            self.heads,
+            &mut self.values,
+            &mut self.deadlines,
+            &mut self.nexts,
+            &mut self.prevs,
+            &mut self.turns,
+            &mut self.marks,
+            call,
+        );
+        self.state = reply.state;
+        self.heads = heads_in(reply.heads);
+        reply.answer
+    }
+}
+
 fn say(words: &[u8]) {
     io::write_all(STDOUT_FILENO, words);
 }
 
+// By the kit's `io`, as in `morning`.
 fn say_number(words: &[u8], n: u64) {
     say(words);
     io::print_decimal(STDOUT_FILENO, n);
@@ -34,103 +82,45 @@ fn say_number(words: &[u8], n: u64) {
 fn act(answer: Answer) {
     match answer {
         Answer::Key(key) => say_number(b"set, its key is ", key),
-        Answer::Out(key, value, deadline, moves, drains) => {
+        Answer::Out(key, _, deadline, _, _) => {
             say_number(b"rinse at ", deadline);
             say_number(b", its key is ", key);
         }
-        Answer::Last(key, value, deadline, moves, drains) => {
+        Answer::Last(key, _, deadline, _, _) => {
             say_number(b"rinse for the last time at ", deadline);
             say_number(b", its key was ", key);
         }
-        Answer::Gone(value, deadline) => say_number(b"cancelled, it was due at ", deadline),
-        Answer::Nothing(moves, drains) => say(b"nothing to do"),
+        Answer::Gone(_, deadline) => say_number(b"cancelled, it was due at ", deadline),
+        Answer::Nothing(_, _) => say(b"nothing to do"),
         Answer::No(number) => say_number(b"refused, number ", number),
         _ => {}
     }
     say(b"\n");
 }
 
-// The slot heads that a call handed back, for the next.
-fn heads_in(reply: Reply) -> [[u16; 64]; 6] {
-    let heads = reply.heads;
-    delay_queue::heads_in(heads)
-}
-
-// The key that an insert answered. A refused one has none: 0 is nobody's key, since turns begin at 1.
-fn key_in(reply: Reply) -> u64 {
-    let answer = reply.answer;
+// The key that an insert answered; one that was refused has none.
+fn key_in(answer: Answer) -> Option<u64> {
     match answer {
-        Answer::Key(key) => key,
-        _ => 0,
+        Answer::Key(key) => Some(key),
+        _ => None,
     }
-}
-
-// Makes a call and acts on its answer.
-fn ask(
-    store: Reply,
-    values: &mut Pairs,
-    deadlines: &mut Words,
-    nexts: &mut Numbers,
-    prevs: &mut Numbers,
-    turns: &mut Words,
-    marks: &mut Numbers,
-    call: Call,
-) -> Reply {
-    let s = store.state;
-    let h = heads_in(store);
-    let reply = any_call::ask(s, h, values, deadlines, nexts, prevs, turns, marks, call);
-    let answer = reply.answer;
-    act(answer);
-    reply
 }
 
 // Two hours of rinsing, in milliseconds since the pump was switched on.
-fn rinse(
-    values: &mut Pairs,
-    deadlines: &mut Words,
-    nexts: &mut Numbers,
-    prevs: &mut Numbers,
-    turns: &mut Words,
-    marks: &mut Numbers,
-) {
-    let s = no_store();
-    let h = [[links::NOBODY; 64]; 6];
-    let made = format(s, h, values, deadlines, nexts, prevs, turns, marks, 4, 1);
-    let call = Call::Insert(RINSE, EVERY, EVERY);
-    let set = ask(made, values, deadlines, nexts, prevs, turns, marks, call);
-    let key = key_in(set);
-    if key == 0 {
+fn main() {
+    let mut store = Store::new();
+    store.ask(Call::Format(N as u64, 1));
+    let set = store.ask(Call::Insert(RINSE, EVERY, EVERY));
+    act(set);
+    let Some(key) = key_in(set) else {
         // it was refused, and said so: there is nothing to wait for
         return;
+    };
+    for now in [EVERY, EVERY, 2 * EVERY, 3 * EVERY] {
+        act(store.ask(Call::Poll(now)));
     }
-    let call = Call::Poll(EVERY);
-    let one = ask(set, values, deadlines, nexts, prevs, turns, marks, call);
-    let early = ask(one, values, deadlines, nexts, prevs, turns, marks, call);
-    let call = Call::Poll(2 * EVERY);
-    let two = ask(early, values, deadlines, nexts, prevs, turns, marks, call);
-    let call = Call::Poll(3 * EVERY);
-    let three = ask(two, values, deadlines, nexts, prevs, turns, marks, call);
 
     // It waits for the fourth time, still under the key that the insert answered.
-    let call = Call::Remove(key);
-    let off = ask(three, values, deadlines, nexts, prevs, turns, marks, call);
-    let call = Call::Poll(4 * EVERY);
-    ask(off, values, deadlines, nexts, prevs, turns, marks, call);
-}
-
-fn main() {
-    let mut values = [0u64; 8];
-    let mut deadlines = [0u64; 4];
-    let mut nexts = [0u16; 4];
-    let mut prevs = [0u16; 4];
-    let mut turns = [0u64; 4];
-    let mut marks = [0u16; 4];
-    rinse(
-        &mut values,
-        &mut deadlines,
-        &mut nexts,
-        &mut prevs,
-        &mut turns,
-        &mut marks,
-    );
+    act(store.ask(Call::Remove(key)));
+    act(store.ask(Call::Poll(4 * EVERY)));
 }
