@@ -41,13 +41,19 @@ module _ (elapsed : ℕ) (occupied tops : List ℕ) (hand until : ℕ) (heads : 
 abbrev pub no_command : List ℕ
 no_command = 11 ∷ 0 ∷ 0 ∷ 0 ∷ 0 ∷ 0 ∷ []
 
+-- what `act` claims, with the bytes at the front of room for 36, of which the first `size` count
+pub record ActsInto (p : Bool) (s : QueueWords) (x : Step) (a : Answer) (p' : Bool) (s' : QueueWords) (size : ℕ) (bytes : List ℕ) : Type 0 where
+  pub text : List ℕ
+  pub acts : ActClaim p s x a p' s' text
+  pub stands : Wrote blank 0 text size bytes
+
 -- the four words g are a call, which acts and is noted as its claim says, whether a patch is open or not; or none, and then nothing changes
 pub data ActsOn (g : List ℕ) (s : QueueWords) (w : List ℕ) (s' : QueueWords) (size : ℕ) (bytes : List ℕ) : Type 0 where
-  asks : (c : Call) → g ≡ command_words c → Told (λ (a : Answer). (p : Bool) → ActClaim p s (S.Asks c) a p s' size bytes) w
+  asks : (c : Call) → g ≡ command_words c → Told (λ (a : Answer). (p : Bool) → ActsInto p s (S.Asks c) a p s' size bytes) w
       → ActsOn g s w s' size bytes
   none : ((c : Call) → g ≡ command_words c → ⊥) → w ≡ no_command → s' ≡ s → Wrote blank 0 [] size bytes → ActsOn g s w s' size bytes
 
 -- a patch is opened or closed, which reads no store; the word of its flag is kept while it says the same
 pub record Patches (x : Step) (n n' : ℕ) (w : List ℕ) (size : ℕ) (bytes : List ℕ) : Type 0 where
-  pub acts : Told (λ (a : Answer). (s : QueueWords) → ActClaim (is_set n) s x a (is_set n') s size bytes) w
+  pub acts : Told (λ (a : Answer). (s : QueueWords) → ActsInto (is_set n) s x a (is_set n') s size bytes) w
   pub word : FlagKept n n'

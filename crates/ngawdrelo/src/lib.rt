@@ -11,7 +11,8 @@ ghost use Rattle.delay_queue.specs.Claims.{WakeClaim, LengthClaim, ClearClaim, C
 ghost use Rattle.run.specs.Run.{RunClaim};
 ghost use Rattle.recover.specs.Replay.{no_heads, without_store, found, ReplayClaim};
 ghost use Rattle.gauge.specs.Light.{reading_of};
-ghost use Rattle.tick.specs.Claims.{ReadClaim, TickPollClaim, TickSomeClaim};
+ghost use Rattle.tick.specs.Claims.{ReadClaim, TickPollClaim, TickSomeClaim, now_of};
+ghost use Rattle.ngawdrelo.specs.Inner.{TickClaim, patch_step};
 ghost use Rattle.inspector.specs.Words.{InspectClaim};
 ghost use Rattle.words.specs.Words.{why_word, ending_words, FlagKept, gauge_of, NoteClaim};
 ghost use Rattle.words.specs.Words.{light_words, light_value, state_of, state_words};
@@ -21,7 +22,7 @@ use delay_queue::Call;
 use entries::Step;
 use gauge::Gauge;
 use queue::Answer;
-use run::Group;
+use refusals::Refusal;
 use tick::Front;
 
 // The version as one number: 14001 is 0.14.1.
@@ -33,6 +34,8 @@ pub extern "C" fn ngawdrelo_version() -> u64
 }
 
 // ---- the calls
+
+// The exports take a store as the words that C lends, a flag as a word and numbers of kinds: no type of Rattle crosses.
 
 // Whether the store is sound.
 fn judged(
@@ -115,10 +118,10 @@ fn wake_of(
     if !judged(
         elapsed, occupied, tops, hand, until, heads, values, deadlines, nexts, prevs, turns, marks,
     ) {
-        return Answer::No(refusals::NOT_SOUND);
+        return Answer::No(Refusal::NotSound as u64);
     }
     if hand != links::NOBODY {
-        return Answer::No(refusals::POLL_IN_HAND);
+        return Answer::No(Refusal::PollInHand as u64);
     }
     let expired = places::first_expired(tops);
     let parked = places::first_parked(tops);
@@ -146,7 +149,7 @@ fn length_of(
     if !judged(
         elapsed, occupied, tops, hand, until, heads, values, deadlines, nexts, prevs, turns, marks,
     ) {
-        return Answer::No(refusals::NOT_SOUND);
+        return Answer::No(Refusal::NotSound as u64);
     }
     let n = queue::length(places::count_of(tops), marks);
     Answer::Length(n)
@@ -454,8 +457,7 @@ pub extern "C" fn ngawdrelo_run(
     *hand = went.hand;
     *until = went.until;
     *done = went.done as u64;
-    let w = went.why;
-    *why = words::why_of(w);
+    *why = words::why_of(went.why);
 }
 
 // ---- the journal
@@ -490,12 +492,11 @@ pub extern "C" fn ngawdrelo_act(
         bytes.new }
 {
     let group = run::call_of(kind, a, b, c);
-    let Group::Asks(call) = group else {
+    let Some(call) = group else {
         let nothing = entries::no_bytes();
         *answer = [11, 0, 0, 0, 0, 0];
-        *size = nothing.size as u64;
-        let blank = nothing.bytes;
-        *bytes = blank;
+        *size = nothing.as_slice().len() as u64;
+        *bytes = nothing.padded();
         return;
     };
     ask(
@@ -503,9 +504,27 @@ pub extern "C" fn ngawdrelo_act(
         call, answer,
     );
     let noted = journal::note(Step::Asks(call), words::refusal_in(answer));
-    *size = noted.size as u64;
-    let wrote = noted.bytes;
-    *bytes = wrote;
+    *size = noted.as_slice().len() as u64;
+    *bytes = noted.padded();
+}
+
+// Opens or closes the patch of the journal: 13 where it is so already.
+fn turn_patch(
+    so: bool,
+    patch: &mut u64,
+    answer: &mut [u64; 6],
+    bytes: &mut [u8; 36],
+    size: &mut u64,
+)
+    ensures { Patches (patch_step so) patch.old patch.new answer.new size.new bytes.new }
+{
+    let step = if so { Step::Open } else { Step::Close };
+    let said = journal::patched((*patch != 0) == so);
+    let noted = journal::note(step, said);
+    *patch = words::flag_word(*patch, so);
+    *answer = words::words_of(said);
+    *size = noted.as_slice().len() as u64;
+    *bytes = noted.padded();
 }
 
 // Opens a patch of the journal, with the bytes to be written before its answer is given: 13 where one is open already. It asks nothing of a
@@ -519,14 +538,7 @@ pub extern "C" fn ngawdrelo_open(
 )
     ensures { Patches Step.Open patch.old patch.new answer.new size.new bytes.new }
 {
-    let open = *patch != 0;
-    let said = journal::patched(open);
-    let noted = journal::note(Step::Open, said);
-    *patch = words::flag_word(*patch, true);
-    *answer = words::words_of(said);
-    *size = noted.size as u64;
-    let wrote = noted.bytes;
-    *bytes = wrote;
+    turn_patch(true, patch, answer, bytes, size);
 }
 
 // Closes the patch of the journal, with the bytes to be written before its answer is given: 13 where none is open.
@@ -539,21 +551,7 @@ pub extern "C" fn ngawdrelo_close(
 )
     ensures { Patches Step.Close patch.old patch.new answer.new size.new bytes.new }
 {
-    let open = *patch != 0;
-    let said = journal::patched(!open);
-    let noted = journal::note(Step::Close, said);
-    *patch = words::flag_word(*patch, false);
-    *answer = words::words_of(said);
-    *size = noted.size as u64;
-    let wrote = noted.bytes;
-    *bytes = wrote;
-}
-
-// Nobody is the head of any slot.
-fn empty(heads: &mut [[u16; 64]; 6])
-    ensures { heads.new ≡ no_heads }
-{
-    *heads = [[links::NOBODY; 64]; 6];
+    turn_patch(false, patch, answer, bytes, size);
 }
 
 // The store after the steps of a journal that are kept, from no store: the length kept, where reading stopped, and why. What the store was
@@ -584,13 +582,11 @@ pub extern "C" fn ngawdrelo_recover(
 {
     let start = recover::unread();
     let seen = recover::scan(start, bytes, values, deadlines, nexts, prevs, turns, marks);
-    let k = seen.kept;
-    let e = seen.ending;
     *occupied = [0; 6];
     *tops = [0, links::NOBODY, links::NOBODY, links::NOBODY];
-    empty(heads);
+    *heads = [[links::NOBODY; 64]; 6];
     let went = recover::apply_parts(
-        &bytes[..k],
+        &bytes[..seen.kept],
         false,
         0,
         occupied,
@@ -608,12 +604,23 @@ pub extern "C" fn ngawdrelo_recover(
     *elapsed = went.elapsed;
     *hand = went.hand;
     *until = went.until;
-    *kept = k as u64;
+    *kept = seen.kept as u64;
     *at = seen.at as u64;
-    *ending = words::ending_of(e);
+    *ending = words::ending_of(seen.ending);
 }
 
 // ---- the gauge
+
+// The gauge that C keeps as two floats and a flag's word.
+fn gauge_in(smoothed: f64, worst: f64, any: u64) -> Gauge
+    ensures { result ≡ gauge_of smoothed worst any }
+{
+    Gauge {
+        smoothed,
+        worst,
+        any: any != 0,
+    }
+}
 
 // Notes in a gauge what a poll at `time` answered. A fresh gauge is all 0.
 #[unsafe(no_mangle)]
@@ -627,13 +634,7 @@ pub extern "C" fn ngawdrelo_gauge_note(
     ensures { NoteClaim (gauge_of smoothed.old worst.old any.old) time answer.now
         (gauge_of smoothed.new worst.new any.new) × FlagKept any.old any.new }
 {
-    let met = *any != 0;
-    let g = Gauge {
-        smoothed: *smoothed,
-        worst: *worst,
-        any: met,
-    };
-    let r = words::note_words(g, time, *answer);
+    let r = words::note_words(gauge_in(*smoothed, *worst, *any), time, *answer);
     *smoothed = r.smoothed;
     *worst = r.worst;
     *any = words::flag_word(*any, r.any);
@@ -653,13 +654,7 @@ pub extern "C" fn ngawdrelo_gauge_read(
     ensures { (light.new ≡ light_words (reading_of (gauge_of smoothed.now worst.now any.now) slow late))
         × (value.new ≡ light_value (reading_of (gauge_of smoothed.now worst.now any.now) slow late)) }
 {
-    let met = *any != 0;
-    let g = Gauge {
-        smoothed: *smoothed,
-        worst: *worst,
-        any: met,
-    };
-    let r = gauge::read(g, slow, late);
+    let r = gauge::read(gauge_in(*smoothed, *worst, *any), slow, late);
     *light = words::light_of(r);
     *value = words::value_of(r);
 }
@@ -671,12 +666,61 @@ pub extern "C" fn ngawdrelo_gauge_read(
 pub extern "C" fn ngawdrelo_tick_read(time: &mut u64, tick: u32, answer: &mut [u64; 6])
     ensures { Told (λ a. ReadClaim time.old tick a time.new) answer.new }
 {
-    let front = Front { time: *time };
-    let seen = tick::read(front, tick);
-    let later = seen.front;
-    let said = seen.answer;
-    *time = later.time;
-    *answer = words::words_of(said);
+    match tick::read(Front { time: *time }, tick) {
+        Ok(later) => {
+            *time = later.time;
+            *answer = words::words_of(Answer::Done);
+        }
+        Err(over) => *answer = words::words_of(Answer::from(over)),
+    }
+}
+
+// Any call, which is made of the time that moves on to the tick. Where that is refused nothing is asked of the store.
+fn ask_at<F: FnOnce(u64) -> Call>(
+    time: &mut u64,
+    elapsed: &mut u64,
+    occupied: &mut [u64; 6],
+    tops: &mut [u16; 4],
+    hand: &mut u16,
+    until: &mut u64,
+    heads: &mut [[u16; 64]; 6],
+    values: &mut [u64],
+    deadlines: &mut [u64],
+    nexts: &mut [u16],
+    prevs: &mut [u16],
+    turns: &mut [u64],
+    marks: &mut [u16],
+    tick: u32,
+    call: F,
+    answer: &mut [u64; 6],
+)
+    requires { F.IsAlwaysCallable call }
+    ensures { Faced (λ a s. TickClaim (F.post call) time.old
+        (store_of elapsed.old occupied.old tops.old hand.old until.old heads.old values.old deadlines.old nexts.old prevs.old turns.old marks.old) tick a time.new s)
+        answer.new (store_of elapsed.new occupied.new tops.new hand.new until.new heads.new values.new deadlines.new nexts.new prevs.new turns.new marks.new) }
+{
+    match tick::read(Front { time: *time }, tick) {
+        Ok(later) => {
+            *time = later.time;
+            ask(
+                elapsed,
+                occupied,
+                tops,
+                hand,
+                until,
+                heads,
+                values,
+                deadlines,
+                nexts,
+                prevs,
+                turns,
+                marks,
+                call(later.time),
+                answer,
+            );
+        }
+        Err(over) => *answer = words::words_of(Answer::from(over)),
+    }
 }
 
 // A poll at the 64-bit time that moves on to the 32-bit tick of a board. Where that is refused, with 10, nothing is asked of the store.
@@ -702,35 +746,24 @@ pub extern "C" fn ngawdrelo_tick_poll(
         (store_of elapsed.old occupied.old tops.old hand.old until.old heads.old values.old deadlines.old nexts.old prevs.old turns.old marks.old) tick a time.new s)
         answer.new (store_of elapsed.new occupied.new tops.new hand.new until.new heads.new values.new deadlines.new nexts.new prevs.new turns.new marks.new) }
 {
-    let front = Front { time: *time };
-    let seen = tick::read(front, tick);
-    let later = seen.front;
-    let said = seen.answer;
-    let moved = later.time;
-    match said {
-        Answer::Done => {
-            *time = moved;
-            ask(
-                elapsed,
-                occupied,
-                tops,
-                hand,
-                until,
-                heads,
-                values,
-                deadlines,
-                nexts,
-                prevs,
-                turns,
-                marks,
-                Call::Poll(moved),
-                answer,
-            );
-        }
-        _ => {
-            *answer = words::words_of(said);
-        }
-    }
+    ask_at(
+        time,
+        elapsed,
+        occupied,
+        tops,
+        hand,
+        until,
+        heads,
+        values,
+        deadlines,
+        nexts,
+        prevs,
+        turns,
+        marks,
+        tick,
+        |now| Call::Poll(now),
+        answer,
+    );
 }
 
 // A poll of at most `limit` moves at the time that moves on to the tick of a board or, while a poll is in hand, at that poll's own time.
@@ -758,36 +791,28 @@ pub extern "C" fn ngawdrelo_tick_poll_some(
         s)
         answer.new (store_of elapsed.new occupied.new tops.new hand.new until.new heads.new values.new deadlines.new nexts.new prevs.new turns.new marks.new) }
 {
-    let front = Front { time: *time };
-    let seen = tick::read(front, tick);
-    let later = seen.front;
-    let said = seen.answer;
-    let moved = later.time;
-    match said {
-        Answer::Done => {
-            *time = moved;
-            let now = tick::now_of(moved, *hand, *until);
-            ask(
-                elapsed,
-                occupied,
-                tops,
-                hand,
-                until,
-                heads,
-                values,
-                deadlines,
-                nexts,
-                prevs,
-                turns,
-                marks,
-                Call::PollSome(now, limit),
-                answer,
-            );
-        }
-        _ => {
-            *answer = words::words_of(said);
-        }
-    }
+    let h = *hand;
+    let u = *until;
+    ask_at(
+        time,
+        elapsed,
+        occupied,
+        tops,
+        hand,
+        until,
+        heads,
+        values,
+        deadlines,
+        nexts,
+        prevs,
+        turns,
+        marks,
+        tick,
+        |now| -> Call
+            ensures { result ≡ Call.PollSome (now_of now h u) limit }
+        { Call::PollSome(tick::now_of(now, h, u), limit) },
+        answer,
+    );
 }
 
 // ---- the inspector

@@ -1,4 +1,3 @@
 pub mod Answers
 pub mod Flags
 pub mod Gauge
-pub mod Journal

@@ -1,5 +1,5 @@
 -- What crosses to C as words: of a run, of the journal, of a flag, of a gauge and its light, and of what an inspector keeps from line to line.
-use Rattle.std.specs.Prelude.{◌≡◌, Bool, cond, not, List, [], ◌∷◌, ℕ, eqb, Float}
+use Rattle.std.specs.Prelude.{◌≡◌, Bool, cond, not, List, [], ◌∷◌, ℕ, eqb, Float, Result, Ok, Err}
 use Rattle.links.specs.Links.{at}
 use Rattle.queue.specs.declared.Answer.{Answer}
 use Rattle.queue.specs.Told.{told}
@@ -11,9 +11,8 @@ use Rattle.entries.specs.declared.Ending.{Ending}
 use Rattle.entries.specs.declared.Ending.TheVariants as E
 use Rattle.journal.specs.Journal.{unwritten}
 use Rattle.gauge.specs.declared.Gauge.{Gauge}
+use Rattle.gauge.specs.declared.Light.{Light}
 use Rattle.gauge.specs.declared.Light.TheVariants as L
-use Rattle.gauge.specs.declared.Reading.{Reading}
-use Rattle.gauge.specs.declared.Reading.TheVariants as R
 use Rattle.gauge.specs.Gauge.{nought, AnswerClaim}
 use Rattle.inspector.specs.declared.State.{State}
 use Rattle.inspector.specs.declared.State.TheVariants as S
@@ -65,18 +64,18 @@ pub record NoteClaim (g : Gauge) (now : ℕ) (w : List ℕ) (g' : Gauge) : Type 
   pub otherwise : ((x : T.Told) → w ≡ answer_words x → ⊥) → g' ≡ g
 
 -- calm, slow, late, or refused and its number
-abbrev pub light_words : Reading → List ℕ
-light_words (R.Shows L.Calm) = 0 ∷ 0 ∷ []
-light_words (R.Shows (L.Slow x)) = 1 ∷ 0 ∷ []
-light_words (R.Shows (L.Late x)) = 2 ∷ 0 ∷ []
-light_words (R.No n) = 3 ∷ n ∷ []
+abbrev pub light_words : Result Light ℕ → List ℕ
+light_words (Ok L.Calm) = 0 ∷ 0 ∷ []
+light_words (Ok (L.Slow x)) = 1 ∷ 0 ∷ []
+light_words (Ok (L.Late x)) = 2 ∷ 0 ∷ []
+light_words (Err n) = 3 ∷ n ∷ []
 
 -- what the light carries, and else 0
-abbrev pub light_value : Reading → Float
-light_value (R.Shows L.Calm) = nought
-light_value (R.Shows (L.Slow x)) = x
-light_value (R.Shows (L.Late x)) = x
-light_value (R.No n) = nought
+abbrev pub light_value : Result Light ℕ → Float
+light_value (Ok L.Calm) = nought
+light_value (Ok (L.Slow x)) = x
+light_value (Ok (L.Late x)) = x
+light_value (Err n) = nought
 
 -- ---- the inspector
 

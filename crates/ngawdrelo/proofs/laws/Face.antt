@@ -1,7 +1,8 @@
 -- What the proofs of the calls, the journal, the gauge and the tick cite; and that memory that is all 0 holds no store (`no_records`).
 use mathlib.Core.Path.{◌≡◌, refl, sym, ap, ◌∙◌, subst}
-use mathlib.Core.Bool.{Bool, true, false, cond, not}
+use mathlib.Core.Bool.{Bool, true, false, cond, beq}
 use mathlib.Core.List.{List, [], ◌++◌, append-nil}
+use Rattle.std.specs.Prelude.{Option, Some, None}
 use Prim.Native.Nat.{ℕ}
 use native.Mathlib.Omega.{arith}
 use lib.ListN.{length, drop}
@@ -12,21 +13,21 @@ use Rattle.queue.specs.Told as T
 use Rattle.queue.specs.Calls.{Refused}
 use Rattle.records.specs.Words.{QueueWords, Sound, count}
 use Rattle.delay_queue.specs.declared.Call.{Call}
+use Rattle.delay_queue.specs.declared.Call.TheVariants as C
 use Rattle.delay_queue.specs.Claims.{Judging, CallClaim}
-use Rattle.run.specs.declared.Group.{Group}
-use Rattle.run.specs.declared.Group.TheVariants as G
 use Rattle.run.specs.declared.Why.{Why}
 use Rattle.run.specs.Groups.{command_words, answer_words, GroupIs}
 use Rattle.run.specs.Run.{RunClaim}
 use Rattle.run.proofs.laws.Once.{one_run}
 use Rattle.writing.specs.Writing.{Wrote}
-use Rattle.entries.specs.declared.Step.{Step}
 use Rattle.entries.specs.declared.Step.TheVariants as S
 use Rattle.entries.specs.Entries.{step_bytes}
 use Rattle.entries.specs.Writing.{blank}
+use Rattle.entries.proofs.laws.Writing.{wrote_as}
 use Rattle.journal.specs.Journal as J
 use Rattle.journal.specs.Journal.{Acts, opened, open_twice, closed, not_open, written}
-use Rattle.tick.specs.Claims.{ReadClaim, TickPollClaim, TickSomeClaim}
+use Rattle.tick.specs.Claims.{TickSomeClaim, now_of}
+use Rattle.ngawdrelo.specs.Inner.{TickClaim, patch_step}
 use Rattle.gauge.specs.declared.Gauge.{Gauge}
 use Rattle.words.specs.Words.{WrittenAs, is_set, flag_word, FlagKept, gauge_of, NoteClaim}
 use Rattle.words.proofs.laws.Flags.{flag_says, flag_kept}
@@ -54,41 +55,43 @@ run_faced {s} {s'} {cs} {out} {w} {n} {why} c q z A =
 
 -- ---- the journal
 
-module _ {g : List ℕ} {r : Group} {s s' : QueueWords} {w : List ℕ} {size : ℕ} {bytes : List ℕ} (I : GroupIs g r) where
-  pub acts_asked : (c : Call) → r ≡ G.Asks c → Faced (CallClaim c s) w s' → (b : Answer) → WrittenAs w b
-      → Wrote blank 0 (written (S.Asks c) (told b)) size bytes → ActsOn g s w s' size bytes
+-- the room of a list of bytes, of which the first `size` count
+room_of : {l text : List ℕ} {size : ℕ} {bytes : List ℕ} → Wrote blank 0 l (length l) bytes → l ≡ text → size ≡ length l → Wrote blank 0 text size bytes
+room_of {text = text} {bytes = bytes} W e n =
+    subst (λ (k : ℕ). Wrote blank 0 text k bytes) (sym n) (wrote_as refl e W)
+
+module _ {g : List ℕ} {r : Option Call} {s s' : QueueWords} {w : List ℕ} {size : ℕ} {l bytes : List ℕ} (I : GroupIs g r) where
+  pub acts_asked : (c : Call) → r ≡ Some c → Faced (CallClaim c s) w s' → (b : Answer) → WrittenAs w b → l ≡ written (S.Asks c) (told b)
+      → Wrote blank 0 l (length l) bytes → size ≡ length l → ActsOn g s w s' size bytes
   unfolding written
-  acts_asked c e F b f W =
-      let noted = subst (λ (z : Bool). Wrote blank 0 (cond z [] (step_bytes (S.Asks c))) size bytes) (f (told F.what) F.is) W in
-      asks c (I.asks c e) (said F.what F.is (λ p. record { acts = J.asks F.holds; writes = noted }))
+  acts_asked c e F b f q W n =
+      let h = q ∙ ap (λ (z : Bool). cond z [] (step_bytes (S.Asks c))) (f (told F.what) F.is) in
+      asks c (I.asks c e) (said F.what F.is (λ p. record { text = l; acts = record { acts = J.asks F.holds; writes = h }; stands = room_of W refl n }))
 
-  pub acts_none : r ≡ G.Not → w ≡ no_command → s' ≡ s → Wrote blank 0 [] size bytes → ActsOn g s w s' size bytes
-  acts_none e q z W = none (I.not e) q z W
+  pub acts_none : r ≡ None → w ≡ no_command → s' ≡ s → l ≡ [] → Wrote blank 0 l (length l) bytes → size ≡ length l → ActsOn g s w s' size bytes
+  acts_none e q z h W n = none (I.not e) q z (room_of W h n)
 
-acts_open : (p : Bool) {s : QueueWords} {a : Answer} → told a ≡ cond p (T.no 13) T.ok → Acts p s S.Open a true s
-acts_open true e = open_twice e
-acts_open false e = opened e
+-- it is refused where it is so already
+acts_patch : (b p : Bool) {s : QueueWords} {a : Answer} → told a ≡ cond (beq p b) (T.no 13) T.ok → Acts p s (patch_step b) a b s
+acts_patch true true e = open_twice e
+acts_patch true false e = opened e
+acts_patch false true e = closed e
+acts_patch false false e = not_open e
 
-acts_close : (p : Bool) {s : QueueWords} {a : Answer} → told a ≡ cond (not p) (T.no 13) T.ok → Acts p s S.Close a false s
-acts_close true e = closed e
-acts_close false e = not_open e
-
-module _ (n : ℕ) {m : ℕ} {w : List ℕ} {size : ℕ} {bytes : List ℕ} (a : Answer) (q : w ≡ answer_words (told a)) where
-  patched : {x : Step} (b : Bool) → ((s : QueueWords) → Acts (is_set n) s x a b s) → Wrote blank 0 (written x (told a)) size bytes → m ≡ flag_word n b
-      → Patches x n m w size bytes
-  patched {x} b A W f =
-      record {
-        acts = said a q (λ s. record { acts = subst (λ (p : Bool). Acts (is_set n) s x a p s) (sym (flag_says n b f)) (A s); writes = W });
-        word = flag_kept n b f;
-      }
-
-  pub patch_opened : told a ≡ cond (is_set n) (T.no 13) T.ok → Wrote blank 0 (written S.Open (told a)) size bytes → m ≡ flag_word n true
-      → Patches S.Open n m w size bytes
-  patch_opened e = patched true (λ s. acts_open (is_set n) e)
-
-  pub patch_closed : told a ≡ cond (not (is_set n)) (T.no 13) T.ok → Wrote blank 0 (written S.Close (told a)) size bytes → m ≡ flag_word n false
-      → Patches S.Close n m w size bytes
-  patch_closed e = patched false (λ s. acts_close (is_set n) e)
+pub patched : (n : ℕ) (b : Bool) {m size : ℕ} {w l bytes : List ℕ} (a : Answer) → w ≡ answer_words (told a)
+    → told a ≡ cond (beq (is_set n) b) (T.no 13) T.ok → l ≡ written (patch_step b) (told a) → Wrote blank 0 l (length l) bytes → size ≡ length l
+    → m ≡ flag_word n b
+    → Patches (patch_step b) n m w size bytes
+patched n b {l = l} a q e h W k f =
+    record {
+      acts = said a q (λ s.
+          record {
+            text = l;
+            acts = record { acts = subst (λ (p : Bool). Acts (is_set n) s (patch_step b) a p s) (sym (flag_says n b f)) (acts_patch b (is_set n) e); writes = h };
+            stands = room_of W refl k;
+          });
+      word = flag_kept n b f;
+    }
 
 -- ---- the gauge
 
@@ -100,11 +103,13 @@ note_kept {g} {now} {w} n r f N = (
   flag_kept n r.any f,
 )
 
--- ---- the tick: a reading that is refused asks nothing
+-- ---- the tick: the call that was asked is a poll with a limit, at the now that the board polls with
 
-module _ {time tick time' : ℕ} {s : QueueWords} (a : Answer) (R : ReadClaim time tick a time') (f : told a ≡ ok → ⊥) where
-  pub asks_nothing : TickPollClaim time s tick a time s
-  asks_nothing = record { past = λ g. (record { told = (R.past g).0; same = refl }, refl); taken = λ g. absurd (f (R.taken g).0) }
-
-  pub some_asks_nothing : {limit : ℕ} → TickSomeClaim time s tick limit a time s
-  some_asks_nothing = record { past = λ g. (record { told = (R.past g).0; same = refl }, refl); taken = λ g. absurd (f (R.taken g).0) }
+pub polled_some : {M : ℕ → Call → Type 0} {time tick limit time' : ℕ} {a : Answer} {s s' : QueueWords}
+    → ((n : ℕ) (c : Call) → M n c → c ≡ C.PollSome (now_of n s.hand s.until) limit) → TickClaim M time s tick a time' s'
+    → TickSomeClaim time s tick limit a time' s'
+polled_some {a = a} {s = s} {s' = s'} f T =
+    record {
+      past = T.past;
+      taken = λ h. let m = T.taken h in (subst (λ (c : Call). CallClaim c s a s') (f _ _ m.0.made) m.0.done, m.1);
+    }

@@ -1,7 +1,7 @@
 -- Each function of the face leaves one outcome: six words are those of one answer, and the claim of a call leaves one.
 use mathlib.Core.Path.{◌≡◌, sym, ap, ◌∙◌, subst}
 use mathlib.Core.List.{List, []}
-use mathlib.Core.Bool.{true}
+use mathlib.Core.Bool.{Bool, true}
 use Prim.Native.Nat.{ℕ}
 use lib.Ieee.{Float}
 use Rattle.queue.specs.declared.Answer.{Answer}
@@ -15,11 +15,12 @@ use Rattle.run.specs.Groups.{answer_words}
 use Rattle.run.specs.Run.{RunClaim}
 use Rattle.run.proofs.laws.Once.{run_once}
 use Rattle.run.proofs.laws.Groups.{words_is}
+use Rattle.writing.specs.Writing.{Wrote}
 use Rattle.writing.proofs.laws.Writing.{wrote_once}
+use Rattle.entries.specs.Writing.{blank}
 use Rattle.entries.specs.declared.Step.{Step}
 use Rattle.entries.specs.declared.Step.TheVariants as S
 use Rattle.entries.specs.declared.Ending.{Ending}
-use Rattle.journal.specs.Journal.{ActClaim}
 use Rattle.journal.proofs.laws.Once.{act_once}
 use Rattle.recover.specs.Replay.{Found, found, without_store, ReplayClaim}
 use Rattle.recover.proofs.laws.Once.{replay_once}
@@ -32,7 +33,7 @@ use Rattle.inspector.proofs.laws.Once.{inspect_once}
 use Rattle.words.specs.Words.{why_word, ending_words, FlagKept, gauge_of, NoteClaim, state_words}
 use Rattle.words.proofs.laws.Flags.{flag_one}
 use Rattle.words.proofs.laws.Gauge.{note_once}
-use Rattle.ngawdrelo.specs.Face.{Says, Told, Faced, ActsOn, asks, none, Patches}
+use Rattle.ngawdrelo.specs.Face.{Says, Told, Faced, ActsInto, ActsOn, asks, none, Patches}
 
 -- ---- one outcome
 
@@ -54,13 +55,21 @@ pub ran_once : {s t u : QueueWords} {cs out p q : List ℕ} {m n y z : ℕ} → 
     → Says why_word z (λ (w : Why). RunClaim s cs out n w u q) → (m ≡ n) × (y ≡ z) × (t ≡ u) × (p ≡ q)
 ran_once A B = let r = run_once A.holds B.holds in (r.0, A.is ∙ ap why_word r.1 ∙ sym B.is, r.2, r.3)
 
+-- the bytes stand at the front of one room
+into_once : {x : Step} {o p q : Bool} {s t u : QueueWords} {a b : Answer} {m n : ℕ} {k l : List ℕ} → ActsInto o s x a p t m k
+    → ActsInto o s x b q u n l → (a ≡ b) × (p ≡ q) × (t ≡ u) × (m ≡ n) × (k ≡ l)
+into_once {m = m} {k = k} A B =
+    let r = act_once A.acts B.acts in
+    let w = wrote_once (subst (λ (z : List ℕ). Wrote blank 0 z m k) r.3 A.stands) B.stands in
+    (r.0, r.1, r.2, w.0, w.1)
+
 -- a call through the journal, or words that are none: the words, the store and the bytes
 pub acts_once : {g : List ℕ} {s t u : QueueWords} {w v : List ℕ} {m n : ℕ} {k l : List ℕ} → ActsOn g s w t m k → ActsOn g s v u n l
     → (w ≡ v) × (t ≡ u) × (m ≡ n) × (k ≡ l)
 acts_once {s = s} {t} {u} {m = m} {n} {k} {l} (asks c e A) (asks d f B) =
     let q : c ≡ d = sym (words_is c e) ∙ words_is d f in
-    let A' : ActClaim true s (S.Asks d) A.what true t m k = subst (λ (x : Call). ActClaim true s (S.Asks x) A.what true t m k) q (A.holds true) in
-    let r = act_once A' (B.holds true) in
+    let A' : ActsInto true s (S.Asks d) A.what true t m k = subst (λ (x : Call). ActsInto true s (S.Asks x) A.what true t m k) q (A.holds true) in
+    let r = into_once A' (B.holds true) in
     (same_words A B r.0, r.2, r.3, r.4)
 acts_once (asks c e A) (none f q z W) = absurd (f c e)
 acts_once (none f q z W) (asks c e A) = absurd (f c e)
@@ -82,7 +91,7 @@ pub patches_once : {x : Step} (n : ℕ) {m k : ℕ} {w v : List ℕ} {i j : ℕ}
     → (w ≡ v) × (m ≡ k) × (i ≡ j) × (b ≡ c)
 patches_once n A B =
     let s = without_store [] [] [] [] [] [] in
-    let r = act_once (A.acts.holds s) (B.acts.holds s) in
+    let r = into_once (A.acts.holds s) (B.acts.holds s) in
     (same_words A.acts B.acts r.0, flag_one n A.word B.word r.1, r.3, r.4)
 
 -- the gauge: its numbers and its flag's word

@@ -1,16 +1,9 @@
--- `ngawdrelo_tick_poll_some` meets its claim: the reading decides whether the store is asked (`polled_some`, `some_asks_nothing`).
-use Rattle.queue.specs.declared.Answer.TheVariants as A
-use Rattle.promises.proofs.laws.Once.{told_one}
-use Rattle.tick.proofs.laws.Reading.{polled_some}
-use Rattle.ngawdrelo.proofs.laws.Face.{said, some_asks_nothing}
+-- `ngawdrelo_tick_poll_some` meets its claim: the call that is asked is a poll with a limit (`polled_some`).
+use borrow.Author.Rules.{rules}
+use Rattle.ngawdrelo.proofs.laws.Face.{said, polled_some}
 use Rattle.ngawdrelo.proofs.ngawdrelo_tick_poll_some.Goals as goal
 
-pub returns-in-Done : goal.returns-in-Done
-returns-in-Done c =
-    let F = c.ask.ensures in
-    said F.what F.is (polled_some c.read-seen.ensures c.in-Done.is c.now_of-now.ensures F.holds)
-
-pub returns-in_default : goal.returns-in_default
-returns-in_default c =
-    let r = c.read-seen in
-    said r.result.answer c.words_of.ensures (some_asks_nothing r.result.answer r.ensures (λ e. c.in_default.not-Done (told_one r.result.answer A.Done e)))
+pub returns : goal.returns
+returns c =
+    let F = c.ask_at.ensures in
+    said F.what F.is (polled_some (λ n k m. search rules) F.holds)

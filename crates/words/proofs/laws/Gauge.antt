@@ -1,7 +1,7 @@
--- What is noted of six words (`notes`, `notes_nothing`): the words of an answer that hands out a timer have the kind 3 or 4, and its deadline is the
+-- What is noted of six words (`notes`): the words of an answer that hands out a timer have the kind 3 or 4, and its deadline is the
 -- fourth. One gauge is left (`note_once`).
 use mathlib.Core.Path.{◌≡◌, refl, sym, ap, ◌∙◌, subst}
-use mathlib.Core.Logic.{◌≢◌, ◌⊎◌, inl, inr, by_cases}
+use mathlib.Core.Logic.{◌⊎◌, inl, inr, by_cases}
 use mathlib.Core.List.{List, [], ◌∷◌, List-discrete}
 use Prim.Native.Nat.{ℕ}
 use native.Mathlib.Decide.{ℕ_discrete}
@@ -13,7 +13,7 @@ use Rattle.queue.specs.Told as T
 use Rattle.run.specs.Groups.{answer_words}
 use Rattle.gauge.specs.declared.Gauge.{Gauge}
 use Rattle.gauge.specs.Gauge.{lateness, noted, AnswerClaim}
-use Rattle.gauge.proofs.laws.Noting.{noted_out, noted_none, answer_once}
+use Rattle.gauge.proofs.laws.Noting.{noted_out, answer_once}
 use Rattle.words.specs.Words.{NoteClaim}
 use Rattle.words.proofs.laws.Answers.{back, not_words}
 
@@ -56,19 +56,6 @@ module _ (g : Gauge) (now : ℕ) where
   words_noted (T.no n) (inl e) = absurd (omega arith)
   words_noted (T.no n) (inr e) = absurd (omega arith)
 
-  words_kept : (x : T.Told) → at (answer_words x) 0 ≢ 3 → at (answer_words x) 0 ≢ 4 → AnswerClaim g now x g
-  words_kept T.ok p q = noted_none refl
-  words_kept (T.key c) p q = noted_none refl
-  words_kept (T.gone a b) p q = noted_none refl
-  words_kept (T.out k v d m n) p q = absurd (p refl)
-  words_kept (T.last k v d m n) p q = absurd (q refl)
-  words_kept (T.none a b) p q = noted_none refl
-  words_kept (T.yet a b) p q = noted_none refl
-  words_kept (T.wake t) p q = noted_none refl
-  words_kept T.never p q = noted_none refl
-  words_kept (T.len a) p q = noted_none refl
-  words_kept (T.no a) p q = noted_none refl
-
   -- of any six words
   module _ (w : List ℕ) (z : length w ≡ 6) where
     is_answer : HandsKind (at w 0) → (x : T.Told) × (w ≡ answer_words x)
@@ -89,13 +76,6 @@ module _ (g : Gauge) (now : ℕ) where
               subst (λ (y : Gauge). AnswerClaim g now x y) (sym i)
               (subst (λ (v : List ℕ). HandsKind (at v 0) → AnswerClaim g now x (noted g (lateness now (at v 3)))) (sym e) (words_noted x) k);
           otherwise = λ f. let r = is_answer k in absurd (f r.0 r.1);
-        }
-
-    pub notes_nothing : at w 0 ≢ 3 → at w 0 ≢ 4 → NoteClaim g now w g
-    notes_nothing p q =
-        record {
-          answered = λ x e. subst (λ (v : List ℕ). at v 0 ≢ 3 → at v 0 ≢ 4 → AnswerClaim g now x g) (sym e) (words_kept x) p q;
-          otherwise = λ f. refl;
         }
 
 -- ---- one outcome
