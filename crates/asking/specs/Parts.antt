@@ -8,13 +8,13 @@ use Rattle.decimals.specs.Text.{Spaced}
 use Rattle.splitting.specs.Letters.{with_letter}
 use Rattle.asking.specs.Text.{letter}
 
--- what l holds as numbers with one space in front of each, of which no more than three are looked for
-abbrev pub Holds : List ℕ → Option Fields → Type 0
-Holds l (Some F.Empty) = Spaced l []
-Holds l (Some (F.One x)) = Spaced l (x ∷ [])
-Holds l (Some (F.Two x y)) = Spaced l (x ∷ y ∷ [])
-Holds l (Some (F.Three x y z)) = Spaced l (x ∷ y ∷ z ∷ [])
-Holds l None = (ns : List ℕ) → Spaced l ns → 3 < length ns
+-- what l holds as numbers with one space in front of each, of which no more than k are looked for
+abbrev pub Holds : ℕ → List ℕ → Option Fields → Type 0
+Holds k l (Some F.Empty) = Spaced l []
+Holds k l (Some (F.One x)) = Spaced l (x ∷ [])
+Holds k l (Some (F.Two x y)) = Spaced l (x ∷ y ∷ [])
+Holds k l (Some (F.Three x y z)) = Spaced l (x ∷ y ∷ z ∷ [])
+Holds k l None = (ns : List ℕ) → Spaced l ns → k < length ns
 
 -- a number more
 abbrev pub in_front : ℕ → Option Fields → Option Fields

@@ -1,7 +1,7 @@
 // Lines to calls.
 #![tactic(auto)]
 
-ghost use Rattle.std.specs.Prelude.{◌≡◌, ◌∷◌, Some};
+ghost use Rattle.std.specs.Prelude.{◌≡◌, ◌∷◌, ◌≤◌, Some};
 ghost use Rattle.asking.specs.Text.{ReadClaim};
 ghost use Rattle.asking.specs.Parts.{Holds, in_front, call_of};
 
@@ -29,23 +29,29 @@ fn in_front(a: u64, rest: Fields) -> Option<Fields>
     }
 }
 
-// The numbers that begin behind a space, if there are no more than three.
-fn numbers(s: &[u8]) -> Option<Fields>
-    ensures { Holds (32 ∷ s.now) result }
+// The numbers that begin behind a space, if there are no more than `most`: so it calls itself twice at most.
+fn numbers(s: &[u8], most: u8) -> Option<Fields>
+    requires { most ≤ 3 }
+    ensures { Holds most (32 ∷ s.now) result }
 {
     match splitting::first_of(s)? {
         First::Only(a) => Some(Fields::One(a)),
-        First::Then(a, f) => in_front(a, numbers(&s[f..])?),
+        First::Then(a, f) => {
+            if most < 2 {
+                return None;
+            }
+            in_front(a, numbers(&s[f..], most - 1)?)
+        }
     }
 }
 
-// The numbers that s is, each with one space in front.
+// The numbers that s is, each with one space in front, if there are no more than three.
 fn fields_in(s: &[u8]) -> Option<Fields>
-    ensures { Holds s.now result }
+    ensures { Holds 3 s.now result }
 {
     match s {
         [] => Some(Fields::Empty),
-        [b' ', rest @ ..] => numbers(rest),
+        [b' ', rest @ ..] => numbers(rest, 3),
         _ => None,
     }
 }

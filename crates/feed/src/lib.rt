@@ -175,6 +175,7 @@ fn answer_parts(
         until,
         sound,
     };
+    // no index is counted: how far a turn comes `next_line` says
     while goes(fed.next, got.len(), fed.at, out.len()) {
         fed = next_line(
             limits,

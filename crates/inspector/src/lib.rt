@@ -101,7 +101,7 @@ fn entry_of(letter: u8, fields: Fields) -> Option<Entry>
     })
 }
 
-// What a line says, which is handed over without its newline.
+// What a line says, which is handed over without its newline. The bench reads its lines by the same steps, as `asking` says.
 fn read_line(line: &[u8]) -> Option<Entry>
     ensures { ReadClaim line.now result }
 {

@@ -28,7 +28,7 @@ use wheel::Wheel;
 const STDERR_FILENO: i32 = 2;
 
 // How many bytes of an unfinished line are kept, whether a patch is open, the store, how far the journal is kept, and
-// whether all went well.
+// whether all went well: a flag, since the rest is handed back, and promised, where a write failed too.
 #[derive(Clone, Copy)]
 struct Progress<'a> {
     kept: usize,

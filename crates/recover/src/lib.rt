@@ -257,6 +257,7 @@ pub fn scan(
         return seen;
     }
     let mut now = seen;
+    // no `for`: it ends at the entry that is not admitted, which is handed back
     loop {
         let i = now.at - seen.at;
         match admitted(
@@ -358,6 +359,7 @@ pub fn apply_parts(
     let mut h = hand;
     let mut u = until;
     let mut fine = sound;
+    // no `for`: how long a step is only the step says
     while let Ok(step) = entries::read_step(bytes, used) {
         let r = one(
             step, fine, e, occupied, tops, heads, values, deadlines, nexts, prevs, turns, marks, h,

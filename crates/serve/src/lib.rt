@@ -1,5 +1,5 @@
 // The replay program: reads standard input to its end and answers each line with one. It can show the lists too, or know the
-// lines of a poll with a limit.
+// lines of a poll with a limit: three programs of one line each, since the gate and who runs them call each by its name.
 // What is read and written no contract can say: it reads a chunk, has `feed` answer its lines until it is used up, and
 // writes all that was answered after each call, so that nothing waits while it reads. That is a `Serving` of the crate
 // feed, whose law `all_answered` says what is written; of what the loop claims, its law `ran_answers`.

@@ -110,7 +110,8 @@ pub fn now_of(time: u64, hand: u16, until: u64) -> u64
     until
 }
 
-// `poll` and `poll_some` stay two: a closure that polls would hold the lent slices, and how it leaves them its caller could not know.
+// `poll` and `poll_some` stay two: a closure that polls would hold the lent slices, and how it leaves them its caller could not know;
+// one that gives now and limit would poll by `poll_some` alone, whose claim is another than that of a poll without a limit.
 
 // A poll with a limit at the time that the tick tells, or, while a poll is in hand, at its now: the clock may have moved on
 // since it paused. A reading is refused and taken as by `poll`.

@@ -1,7 +1,6 @@
--- `numbers` calls itself with what stands behind the first number and its space.
-use lib.ListN.{length}
+-- `numbers` calls itself for one number fewer.
 use Rattle.asking.proofs.+numbers.Given as goal
 
 abbrev pub decreases-numbers : goal.decreases-numbers
 decreases-numbers l =
-    length l.s.now
+    l.most

@@ -51,14 +51,14 @@ largest = says (C.Poll 18446744073709551615) (bytes "18446744073709551615" ∷ [
 abbrev is_other : ℕ → Bool
 is_other b = not (eqb b (code " "))
 
-unsaid : (b : ℕ) (l : List ℕ) → length (b ∷ l) ≤ 80 → Holds l None → (c : Call) → Says (b ∷ l) c → ⊥
+unsaid : (b : ℕ) (l : List ℕ) → length (b ∷ l) ≤ 80 → Holds 3 l None → (c : Call) → Says (b ∷ l) c → ⊥
 unfolding call_of
 unsaid b l k h = (line b l None None k h refl).bad.0 refl
 
 -- one field that is no decimal
-one_field : (s : List ℕ) → T (every is_other s) → ((n : ℕ) → Decimal s n → ⊥) → Holds (code " " ∷ s) None
+one_field : (s : List ℕ) → T (every is_other s) → ((n : ℕ) → Decimal s n → ⊥) → Holds 3 (code " " ∷ s) None
 one_field s t n =
-    none_at_all s
+    none_at_all 3 s
     (first_bad s (length s) (record { within = omega arith; inside = other; space = λ h. absurd (omega arith) }) (λ m d. n m (rw (take-length s) at d)))
   where
     other : (i : ℕ) → i < length s → get_or s i 0 ≡ code " " → ⊥
@@ -86,7 +86,7 @@ two_spaces : (c : Call) → Says (bytes "i 7  70 0") c → ⊥
 unfolding worth every
 two_spaces =
     unsaid (code "i") (bytes " 7  70 0") (omega arith)
-    (more 2 (others (bytes "7  70 0") 1 ends (omega arith) seven).1 None None (none_at_all (bytes " 70 0") no_first) refl)
+    (more 3 2 (omega arith) (omega arith) (others (bytes "7  70 0") 1 ends (omega arith) seven).1 None None (none_at_all 2 (bytes " 70 0") no_first) refl)
   where
     first : (k : ℕ) → k < 1 → get_or (bytes "7  70 0") k 0 ≡ code " " → ⊥
     first zero h e = omega arith

@@ -42,21 +42,21 @@ as_read l d f = by_cases d (λ p. p) (λ k. absurd (k (f None (nothing l (λ c s
 
 -- ---- a letter, and the numbers that were found behind it
 
-held : (l : List ℕ) (f : Option Fields) → Holds l f → All (λ c. Spaced l (numbers c)) (calls f)
+held : (l : List ℕ) (f : Option Fields) → Holds 3 l f → All (λ c. Spaced l (numbers c)) (calls f)
 held l (Some F.Empty) h = (h, (h, (h, tt)))
 held l (Some (F.One x)) h = (h, (h, tt))
 held l (Some (F.Two x y)) h = (h, (h, (h, tt)))
 held l (Some (F.Three x y z)) h = (h, tt)
 held l None h = tt
 
-told : (l ns : List ℕ) (f : Option Fields) → Holds l f → Spaced l ns → f ≡ fields_of ns
+told : (l ns : List ℕ) (f : Option Fields) → Holds 3 l f → Spaced l ns → f ≡ fields_of ns
 told l ns (Some F.Empty) h s = ap fields_of (one_list l [] ns h s)
 told l ns (Some (F.One x)) h s = ap fields_of (one_list l (x ∷ []) ns h s)
 told l ns (Some (F.Two x y)) h s = ap fields_of (one_list l (x ∷ y ∷ []) ns h s)
 told l ns (Some (F.Three x y z)) h s = ap fields_of (one_list l (x ∷ y ∷ z ∷ []) ns h s)
 told l ns None h s = many ns (h ns s)
 
-pub line : (b : ℕ) (l : List ℕ) (f : Option Fields) (r : Option Call) → length (b ∷ l) ≤ 80 → Holds l f → r ≡ call_of b f → ReadClaim (b ∷ l) r
+pub line : (b : ℕ) (l : List ℕ) (f : Option Fields) (r : Option Call) → length (b ∷ l) ≤ 80 → Holds 3 l f → r ≡ call_of b f → ReadClaim (b ∷ l) r
 unfolding call_of
 line b l f r k h e = claim (b ∷ l) r only all
   where
@@ -71,7 +71,7 @@ line b l f r k h e = claim (b ∷ l) r only all
         e ∙ ap₂ (λ (x : ℕ) (g : Option Fields). call_of x g) (head-eq_of_cons-eq s.line) (told l (numbers c) f h t) ∙ own c
 
 -- the same for `line[0]` and `&line[1..]`
-pub whole_line : (l : List ℕ) (f : Option Fields) (r : Option Call) → 0 < length l → length l ≤ 80 → Holds (take (length l - 1) (drop 1 l)) f
+pub whole_line : (l : List ℕ) (f : Option Fields) (r : Option Call) → 0 < length l → length l ≤ 80 → Holds 3 (take (length l - 1) (drop 1 l)) f
     → r ≡ call_of (get_or l 0 0) f → ReadClaim l r
 whole_line [] f r h k p e = absurd (omega arith)
 whole_line (b ∷ l) f r h k p e = line b l f r k (rw (from (b ∷ l) 1) at p) e
