@@ -2,7 +2,7 @@
 // can say, only how much.
 #![tactic(auto)]
 
-ghost use Rattle.std.specs.Prelude.{◌≡◌, [], List, ℕ, ◌<◌, length};
+ghost use Rattle.std.specs.Prelude.{[], List, ℕ};
 ghost use Rattle.lines.specs.Running.{Chunk, Closes, ProgramRan};
 
 use input::Got;
@@ -57,13 +57,13 @@ pub struct Heard {
     pub last: Got,
 }
 
-// Reads until the input ends, or cannot be read any more. Of a line it sees as many bytes as there is room for. A proved
-// loop has to end, so this one ends at 2^63 bytes; no run comes there.
-pub fn read_all<H: Hears>(hears: &mut H, from: &mut Stdin, line: &mut [u8]) -> Heard
-    requires { 0 < length line.old }
-    ensures { ProgramRan H.Step (length line.old) [] hears.old result.bytes result.last.ended hears.new }
+// Reads until the input ends, or cannot be read any more. Of a line it sees the first 81 bytes, since none that is known has
+// more than 80. A proved loop has to end, so this one ends at 2^63 bytes; no run comes there.
+pub fn read_all<H: Hears>(hears: &mut H, from: &mut Stdin) -> Heard
+    ensures { ProgramRan H.Step 81 [] hears.old result.bytes result.last.ended hears.new }
 {
     let mut buf = io::buffer();
+    let mut line = [0; 81];
     let mut n = 0;
     let mut bytes = 0;
     while bytes < 1 << 63 {
@@ -73,7 +73,7 @@ pub fn read_all<H: Hears>(hears: &mut H, from: &mut Stdin, line: &mut [u8]) -> H
             finish(hears, got, &line[..n]);
             return Heard { bytes, last: got };
         }
-        n = take_chunk(hears, &buf[..k], line, n);
+        n = take_chunk(hears, &buf[..k], &mut line, n);
         bytes += k;
     }
     Heard {

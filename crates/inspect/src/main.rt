@@ -44,8 +44,7 @@ fn read_all(log: &mut Log, from: &mut Stdin) -> Heard
     ensures { ProgramRan Inspected 81 [] (words (State.Good 0 0 0) log.old.keys log.old.deadlines) result.bytes result.last.ended log.new }
 {
     log.state = inspector::fresh();
-    let mut line = [0; 81];
-    hearing::read_all(log, from, &mut line)
+    hearing::read_all(log, from)
 }
 
 // Writes `bad`, the number and a newline to the front of out, and says where they end: at 0, with out unchanged, where

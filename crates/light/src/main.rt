@@ -135,8 +135,7 @@ fn read_all(from: &mut Stdin) -> (State, Heard)
     ensures { ProgramRan Stepped 81 [] State.Nothing result.1.bytes result.1.last.ended result.0 }
 {
     let mut state = State::Nothing;
-    let mut line = [0; 81];
-    let heard = hearing::read_all(&mut state, from, &mut line);
+    let heard = hearing::read_all(&mut state, from);
     (state, heard)
 }
 
