@@ -358,13 +358,14 @@ pub fn length(n: u16, marks: &[u16]) -> u64
     requires { n ≤ length marks.now }
     ensures { result ≡ pending_in (at marks.now) n }
 {
-    let mut count = 0;
+    // in 16 bits, as the marks have: in 64 a length takes longer
+    let mut count = 0u16;
     for i in 0..n {
         if places::is_pending(marks[i as usize]) {
             count += 1;
         }
     }
-    count
+    count as u64
 }
 
 // The record `item` leaves if it is pending.

@@ -11,6 +11,10 @@ pub loop-i-init : goal.loop-i-init
 loop-i-init c =
     (omega arith, sym (pending_zero _))
 
+pub overflow_add-count : goal.overflow_add-count
+overflow_add-count c =
+    omega (arith, c.loop-i.invariant.0)
+
 pub loop-i-preserved : goal.loop-i-preserved
 loop-i-preserved c =
     let e = sym c.is_pending.ensures in
