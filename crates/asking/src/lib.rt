@@ -1,9 +1,9 @@
 // Lines to calls.
 #![tactic(auto)]
 
-ghost use Rattle.std.specs.Prelude.{◌≡◌, ◌∷◌, ◌≤◌, Some};
+ghost use Rattle.std.specs.Prelude.{◌≡◌, ◌∷◌, Some};
 ghost use Rattle.asking.specs.Text.{ReadClaim};
-ghost use Rattle.asking.specs.Parts.{Holds, in_front, call_of};
+ghost use Rattle.asking.specs.Parts.{Holds, call_of};
 
 use delay_queue::Call;
 use splitting::First;
@@ -17,31 +17,21 @@ enum Fields {
     Three(u64, u64, u64),
 }
 
-// A number more, in front of one or two.
-fn in_front(a: u64, rest: Fields) -> Option<Fields>
-    ensures { result ≡ in_front a (Some rest) }
+// The one to three numbers that begin behind a space.
+fn numbers(s: &[u8]) -> Option<Fields>
+    ensures { Holds 3 (32 ∷ s.now) result }
 {
-    match rest {
-        Fields::One(b) => Some(Fields::Two(a, b)),
-        Fields::Two(b, c) => Some(Fields::Three(a, b, c)),
-        Fields::Three(_, _, _) => None,
-        Fields::Empty => None,
-    }
-}
-
-// The numbers that begin behind a space, if there are no more than `most`: so it calls itself twice at most.
-fn numbers(s: &[u8], most: u8) -> Option<Fields>
-    requires { most ≤ 3 }
-    ensures { Holds most (32 ∷ s.now) result }
-{
+    let (a, s) = match splitting::first_of(s)? {
+        First::Only(a) => return Some(Fields::One(a)),
+        First::Then(a, f) => (a, &s[f..]),
+    };
+    let (b, s) = match splitting::first_of(s)? {
+        First::Only(b) => return Some(Fields::Two(a, b)),
+        First::Then(b, f) => (b, &s[f..]),
+    };
     match splitting::first_of(s)? {
-        First::Only(a) => Some(Fields::One(a)),
-        First::Then(a, f) => {
-            if most < 2 {
-                return None;
-            }
-            in_front(a, numbers(&s[f..], most - 1)?)
-        }
+        First::Only(c) => Some(Fields::Three(a, b, c)),
+        First::Then(_, _) => None,
     }
 }
 
@@ -51,7 +41,7 @@ fn fields_in(s: &[u8]) -> Option<Fields>
 {
     match s {
         [] => Some(Fields::Empty),
-        [b' ', rest @ ..] => numbers(rest, 3),
+        [b' ', rest @ ..] => numbers(rest),
         _ => None,
     }
 }

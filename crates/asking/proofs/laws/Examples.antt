@@ -86,7 +86,7 @@ two_spaces : (c : Call) → Says (bytes "i 7  70 0") c → ⊥
 unfolding worth every
 two_spaces =
     unsaid (code "i") (bytes " 7  70 0") (omega arith)
-    (more 3 2 (omega arith) (omega arith) (others (bytes "7  70 0") 1 ends (omega arith) seven).1 None None (none_at_all 2 (bytes " 70 0") no_first) refl)
+    (more 2 2 (others (bytes "7  70 0") 1 ends (omega arith) seven).1 (omega arith) None None (none_at_all 2 (bytes " 70 0") no_first) refl)
   where
     first : (k : ℕ) → k < 1 → get_or (bytes "7  70 0") k 0 ≡ code " " → ⊥
     first zero h e = omega arith
