@@ -9,10 +9,15 @@ use wheel::Wheel;
 
 const STDOUT_FILENO: i32 = 1;
 
-// Each slice lends the words of so many records; a store here has nine at most.
+// A store here has nine records at most, and the words of so many are kept.
+const KEPT: usize = 12;
+
+// Each slice lends the words of so many records: behind those that are kept stand those of retired ones.
 const LENT: usize = 1025;
 
 // Of values a record has two words, its value and its period, and of each other slice one.
+const KEPT_PAIRS: usize = 24;
+
 const PAIRS: usize = 2050;
 
 // The key of record 0 at the last turn; those of the others follow.
@@ -151,7 +156,29 @@ fn put_at<T: Copy>(words: &mut [T], i: usize, x: T) {
     }
 }
 
-// A store. Its state lies in parts, since a Wheel has no ==.
+// Lends the words that are kept, in front of the others.
+fn lend<T: Copy>(words: &mut [T], kept: &[T]) {
+    for i in 0..kept.len() {
+        put_at(words, i, kept[i]);
+    }
+}
+
+// Keeps them as they are now. Says whether one of those behind them is no longer x.
+fn keep<T: Copy + PartialEq>(kept: &mut [T], words: &[T], x: T) -> bool {
+    let mut changed = false;
+    for i in 0..words.len() {
+        if i < kept.len() {
+            kept[i] = words[i];
+        } else {
+            changed |= words[i] != x;
+        }
+    }
+    changed
+}
+
+// A store. Its state lies in parts, since a Wheel has no ==. The words behind those that are kept are retired records', as long as no
+// call has changed one: the turn is the last, the links are nobody, and the mark says so. An image of them all would be ten times as
+// large on the stack.
 #[derive(Clone, Copy, PartialEq, Eq)]
 pub struct Image {
     n: u16,
@@ -163,19 +190,19 @@ pub struct Image {
     until: u64,
     occupied: [u64; 6],
     heads: [[u16; 64]; 6],
-    values: [u64; PAIRS],
-    deadlines: [u64; LENT],
-    nexts: [u16; LENT],
-    prevs: [u16; LENT],
-    turns: [u64; LENT],
-    marks: [u16; LENT],
+    values: [u64; KEPT_PAIRS],
+    deadlines: [u64; KEPT],
+    nexts: [u16; KEPT],
+    prevs: [u16; KEPT],
+    turns: [u64; KEPT],
+    marks: [u16; KEPT],
+    changed_behind: bool,
 }
 
 impl Image {
-    // No store yet. The words of the first 12 records are x, and behind them those of retired ones: the turn is the last, the links
-    // are nobody, and the mark says so.
+    // No store yet. The words that are kept are x.
     fn blank(x: u64) -> Self {
-        let mut image = Image {
+        Image {
             n: 0,
             expired: links::NOBODY,
             free: links::NOBODY,
@@ -185,20 +212,14 @@ impl Image {
             until: 0,
             occupied: [0; 6],
             heads: [[links::NOBODY; 64]; 6],
-            values: [records::LAST_TURN; PAIRS],
-            deadlines: [records::LAST_TURN; LENT],
-            nexts: [links::NOBODY; LENT],
-            prevs: [links::NOBODY; LENT],
-            turns: [records::LAST_TURN; LENT],
-            marks: [places::RETIRED; LENT],
-        };
-        image.values[..24].fill(x);
-        image.deadlines[..12].fill(x);
-        image.nexts[..12].fill(narrow(x));
-        image.prevs[..12].fill(narrow(x));
-        image.turns[..12].fill(x);
-        image.marks[..12].fill(narrow(x));
-        image
+            values: [x; KEPT_PAIRS],
+            deadlines: [x; KEPT],
+            nexts: [narrow(x); KEPT],
+            prevs: [narrow(x); KEPT],
+            turns: [x; KEPT],
+            marks: [narrow(x); KEPT],
+            changed_behind: false,
+        }
     }
 
     // A store of n free records. The words behind them are x.
@@ -222,22 +243,23 @@ impl Image {
         }
     }
 
-    // The store after the call, and whether that answered no 2.
-    fn asked(self, part: Part, call: Call) -> (Self, bool) {
-        let state = self.state();
-        let Image {
-            heads,
-            mut values,
-            mut deadlines,
-            mut nexts,
-            mut prevs,
-            mut turns,
-            mut marks,
-            ..
-        } = self;
+    // Asks the call, and says whether it answered no 2.
+    fn ask(&mut self, part: Part, call: Call) -> bool {
+        let mut values = [records::LAST_TURN; PAIRS];
+        let mut deadlines = [records::LAST_TURN; LENT];
+        let mut nexts = [links::NOBODY; LENT];
+        let mut prevs = [links::NOBODY; LENT];
+        let mut turns = [records::LAST_TURN; LENT];
+        let mut marks = [places::RETIRED; LENT];
+        lend(&mut values, &self.values);
+        lend(&mut deadlines, &self.deadlines);
+        lend(&mut nexts, &self.nexts);
+        lend(&mut prevs, &self.prevs);
+        lend(&mut turns, &self.turns);
+        lend(&mut marks, &self.marks);
         let reply = any_call::ask(
-            state,
-            heads,
+            self.state(),
+            self.heads,
             &mut values[..lent(Slice::Values, part, PAIRS)],
             &mut deadlines[..lent(Slice::Deadlines, part, LENT)],
             &mut nexts[..lent(Slice::Nexts, part, LENT)],
@@ -246,7 +268,12 @@ impl Image {
             &mut marks[..lent(Slice::Marks, part, LENT)],
             call,
         );
-        let heads = heads_in(reply.heads);
+        self.changed_behind |= keep(&mut self.values, &values, records::LAST_TURN);
+        self.changed_behind |= keep(&mut self.deadlines, &deadlines, records::LAST_TURN);
+        self.changed_behind |= keep(&mut self.nexts, &nexts, links::NOBODY);
+        self.changed_behind |= keep(&mut self.prevs, &prevs, links::NOBODY);
+        self.changed_behind |= keep(&mut self.turns, &turns, records::LAST_TURN);
+        self.changed_behind |= keep(&mut self.marks, &marks, places::RETIRED);
         let Wheel {
             elapsed,
             occupied,
@@ -254,36 +281,22 @@ impl Image {
             hand,
             until,
         } = reply.state;
-        let Tops {
-            n,
-            expired,
-            free,
-            parking,
-        } = tops;
-        let after = Image {
-            n,
-            expired,
-            free,
-            parking,
-            hand,
-            elapsed,
-            until,
-            occupied,
-            heads,
-            values,
-            deadlines,
-            nexts,
-            prevs,
-            turns,
-            marks,
-        };
-        (after, matches!(reply.answer, Answer::No(2)))
+        self.n = tops.n;
+        self.expired = tops.expired;
+        self.free = tops.free;
+        self.parking = tops.parking;
+        self.hand = hand;
+        self.elapsed = elapsed;
+        self.until = until;
+        self.occupied = occupied;
+        self.heads = heads_in(reply.heads);
+        matches!(reply.answer, Answer::No(2))
     }
 
     // The store after the calls.
     pub fn after(mut self, calls: &[Call]) -> Self {
         for &call in calls {
-            self = self.asked(None, call).0;
+            self.ask(None, call);
         }
         self
     }
@@ -344,7 +357,8 @@ impl Image {
 
     // Asks the call of the store as it is.
     fn ask_once(&self, part: Part, call: Call) -> Seen {
-        let (after, refused) = self.asked(part, call);
+        let mut after = *self;
+        let refused = after.ask(part, call);
         let kept = after == *self;
         Seen {
             refused: refused.into(),
