@@ -491,18 +491,17 @@ fn with_file(rt: &HostRuntime, file: &File, name: &str) -> Result<(), Trouble> {
     Ok(())
 }
 
-// Opens the file of that name, and answers over it.
-fn run(rt: &HostRuntime, path: &str) -> Result<(), Trouble> {
-    let file = opened(rt, path).map_err(|_| Trouble::CannotOpen)?;
-    with_file(rt, &file, path)
-}
-
-// A name that is no text in UTF-8 is that of no file.
+// A name that is no text in UTF-8 is that of no file. The file stays open until all is told.
 fn main(rt: HostRuntime) {
     let mut name = io::buffer();
     let n = rt.arg(1, &mut name).unwrap_or(0);
     let path = std::str::from_utf8(&name[..n]).unwrap_or("");
-    if let Err(trouble) = run(&rt, path) {
+    let file = opened(&rt, path);
+    let done = match &file {
+        Ok(file) => with_file(&rt, file, path),
+        Err(_) => Err(Trouble::CannotOpen),
+    };
+    if let Err(trouble) = done {
         let _ = eprintln!(rt; "journaled: {trouble}");
     }
 }
