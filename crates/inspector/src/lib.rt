@@ -114,7 +114,9 @@ fn read_line(line: &[u8]) -> Option<Entry>
     entry_of(*letter, fields_in(rest)?)
 }
 
-// The first place of key among the first n.
+// The first place of key among the first n. It is not inlined, since its loop may come to lie across two lines of code there, and
+// takes half as long again then.
+#[inline(never)]
 fn place(keys: &[u64], n: usize, key: u64) -> Option<usize>
     requires { n ≤ length keys.now }
     ensures { Placed keys.now n key result }
