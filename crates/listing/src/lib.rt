@@ -7,7 +7,7 @@ ghost use Rattle.std.specs.Iterator.{IsFinite};
 ghost use Rattle.pen.specs.Pen.{SameRoom};
 
 use contents::Members;
-use pen::Pen;
+use pen::Page;
 use places::Tops;
 use std::fmt::{self, Display, Write};
 use wheel::Wheel;
@@ -51,17 +51,17 @@ impl Display for Record {
 }
 
 // A name, and behind it the numbers in runs that rise by one.
-fn write_runs<I: Iterator<Item = u16>>(pen: &mut Pen<'_>, name: &str, numbers: I) -> fmt::Result
+fn write_runs<I: Iterator<Item = u16>>(page: &mut Page<'_>, name: &str, numbers: I) -> fmt::Result
     requires can { I.can_next numbers }
     requires ends { IsFinite (I.remaining numbers) }
 {
-    write!(pen, "{name}")?;
+    write!(page, "{name}")?;
     let mut open: Option<Run> = None;
     for i in numbers {
         let first = match open {
             Some(run) if run.last.checked_add(1) == Some(i) => run.first,
             Some(run) => {
-                write!(pen, " {run}")?;
+                write!(page, " {run}")?;
                 i
             }
             None => i,
@@ -69,14 +69,14 @@ fn write_runs<I: Iterator<Item = u16>>(pen: &mut Pen<'_>, name: &str, numbers: I
         open = Some(Run { first, last: i });
     }
     if let Some(run) = open {
-        write!(pen, " {run}")?;
+        write!(page, " {run}")?;
     }
-    writeln!(pen)
+    writeln!(page)
 }
 
 // A name, and behind it the records of a list one by one, head first. Nothing where the list is empty.
 fn write_list<N: Display + Drop>(
-    pen: &mut Pen<'_>,
+    page: &mut Page<'_>,
     name: N,
     nexts: &[u16],
     n: u16,
@@ -85,16 +85,16 @@ fn write_list<N: Display + Drop>(
     if head == links::NOBODY {
         return Ok(());
     }
-    write!(pen, "{name}")?;
+    write!(page, "{name}")?;
     for i in Members::of(nexts, n, head) {
-        write!(pen, " {i}")?;
+        write!(page, " {i}")?;
     }
-    writeln!(pen)
+    writeln!(page)
 }
 
 // Where each record is: free, retired, expired, in a slot, or parked.
 fn write_places(
-    pen: &mut Pen<'_>,
+    page: &mut Page<'_>,
     top: Tops,
     heads: &[[u16; 64]; 6],
     nexts: &[u16],
@@ -102,17 +102,17 @@ fn write_places(
 ) -> fmt::Result {
     let n = top.n;
     let tops = places::tops_in(top);
-    write_runs(pen, "free", Members::of(nexts, n, top.free))?;
+    write_runs(page, "free", Members::of(nexts, n, top.free))?;
     let retired = (0..n).filter(|i| marks.get(*i as usize) == Some(&places::RETIRED));
-    write_runs(pen, "retired", retired)?;
-    write_list(pen, "expired", nexts, n, top.expired)?;
+    write_runs(page, "retired", retired)?;
+    write_list(page, "expired", nexts, n, top.expired)?;
     for place in 0..places::SLOTS {
         let level = places::level_of(place);
         let slot = places::slot_of(place);
         let head = places::head_of(&tops, heads, place);
-        write_list(pen, format_args!("slot {level} {slot}"), nexts, n, head)?;
+        write_list(page, format_args!("slot {level} {slot}"), nexts, n, head)?;
     }
-    write_list(pen, "parked", nexts, n, top.parking)
+    write_list(page, "parked", nexts, n, top.parking)
 }
 
 // What stands at k, and 0 where k is no index.
@@ -131,45 +131,45 @@ fn record_at(values: &[u64], deadlines: &[u64], turns: &[u64], i: u16) -> Record
     }
 }
 
+// The line of the records of a run, which hold the same.
+fn write_run(page: &mut Page<'_>, run: Run, held: Record)
+    ensures { SameRoom page.old page.new }
+{
+    page.write_by(|p| writeln!(p, "rec {run} {held}"));
+}
+
 // Every record, one line a longest run of neighbours that hold the same.
-fn write_records(
-    pen: &mut Pen<'_>,
-    values: &[u64],
-    deadlines: &[u64],
-    turns: &[u64],
-    n: u16,
-) -> fmt::Result
+fn write_records(page: &mut Page<'_>, values: &[u64], deadlines: &[u64], turns: &[u64], n: u16)
     requires { 0 < n }
+    ensures { SameRoom page.old page.new }
 {
     let mut first = 0;
     let mut held = record_at(values, deadlines, turns, 0);
     for i in 1..n {
         let next = record_at(values, deadlines, turns, i);
         if next != held {
-            let run = Run { first, last: i - 1 };
-            writeln!(pen, "rec {run} {held}")?;
+            write_run(page, Run { first, last: i - 1 }, held);
             first = i;
             held = next;
         }
     }
-    let run = Run { first, last: n - 1 };
-    writeln!(pen, "rec {run} {held}")
+    write_run(page, Run { first, last: n - 1 }, held);
 }
 
 // The poll in hand, where there is one: its now, and level and slot of the list that its next move is taken from, 6 and 0
 // where that is the parking list.
-fn write_hand(pen: &mut Pen<'_>, place: u16, until: u64) -> fmt::Result {
+fn write_hand(page: &mut Page<'_>, place: u16, until: u64) -> fmt::Result {
     if place == links::NOBODY {
         return Ok(());
     }
     let level = places::level_of(place);
     let slot = places::slot_of(place);
-    writeln!(pen, "hand {until} {level} {slot}")
+    writeln!(page, "hand {until} {level} {slot}")
 }
 
 // N and elapsed, the poll in hand and all that the store holds, or that there is none.
 fn write_lines(
-    pen: &mut Pen<'_>,
+    page: &mut Page<'_>,
     state: Wheel,
     heads: &[[u16; 64]; 6],
     values: &[u64],
@@ -180,18 +180,19 @@ fn write_lines(
 ) -> fmt::Result {
     let n = state.tops.n;
     if n == 0 {
-        return writeln!(pen, "store none");
+        return writeln!(page, "store none");
     }
     let elapsed = state.elapsed;
-    writeln!(pen, "store {n} {elapsed}")?;
-    write_hand(pen, state.hand, state.until)?;
-    write_places(pen, state.tops, heads, nexts, marks)?;
-    write_records(pen, values, deadlines, turns, n)
+    writeln!(page, "store {n} {elapsed}")?;
+    write_hand(page, state.hand, state.until)?;
+    write_places(page, state.tops, heads, nexts, marks)?;
+    write_records(page, values, deadlines, turns, n);
+    Ok(())
 }
 
-// The lines of a store, behind what waits in the pen: `store none`, or N and elapsed, the poll in hand and all that it holds.
+// The lines of a store, behind what waits in the page: `store none`, or N and elapsed, the poll in hand and all that it holds.
 pub fn write_store(
-    pen: &mut Pen<'_>,
+    page: &mut Page<'_>,
     state: Wheel,
     heads: [[u16; 64]; 6],
     values: &[u64],
@@ -200,7 +201,7 @@ pub fn write_store(
     turns: &[u64],
     marks: &[u16],
 )
-    ensures { SameRoom pen.old pen.new }
+    ensures { SameRoom page.old page.new }
 {
-    pen.write_by(|p| write_lines(p, state, &heads, values, deadlines, nexts, turns, marks));
+    page.write_by(|p| write_lines(p, state, &heads, values, deadlines, nexts, turns, marks));
 }

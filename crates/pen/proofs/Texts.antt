@@ -1,15 +1,27 @@
 -- texts written one behind the other
-use Rattle.std.proofs.Common.{arith, ◌≡◌, ◌+◌, ℕ, List, ◌++◌, length, drop, sym, ◌∙◌, ap, append_assoc, length-append, length-drop, length-take}
+use Rattle.std.proofs.Common.{arith, refl, ◌≡◌, ◌≤◌, ◌<◌, ◌+◌, ℕ, List, [], ◌∷◌, ◌++◌, length, take, drop, slice_set, sym, ◌∙◌, ap, append_assoc, length-append, length-drop, length-take}
+use Rattle.std.proofs.Math.Seq.{drop-append_seam}
 use Rattle.std.proofs.lemmas.List.{drop-append-le, drop-drop}
-use Rattle.pen.specs.declared.Pen.{Pen}
+use Rattle.pen.specs.declared.Page.{Page}
 use Rattle.pen.specs.Pen.{waiting, SameRoom, Wrote}
 
--- as many bytes wait as the pen counts
-counted : (p : Pen) → length (waiting p) ≡ p.at
+-- as many bytes wait as its pen counts
+counted : (p : Page) → length (waiting p) ≡ p.pen.at
 counted p = simp length-take (omega arith)
 
+-- a byte behind those that wait is left alone where they are written
+pub all_written : (p : Page) (b : ℕ) → (p.pen.at ≤ length (waiting p ++ (b ∷ []))) × (drop p.pen.at (waiting p ++ (b ∷ [])) ≡ b ∷ [])
+all_written p b =
+    let e = counted p in
+    (omega (arith, e, length-append (waiting p) (b ∷ [])), ap (λ k. drop k (waiting p ++ (b ∷ []))) (sym e) ∙ drop-append_seam (waiting p) (b ∷ []))
+
+-- the first byte of a room, alone
+pub front_alone : (out : List ℕ) (b : ℕ) → 0 < length out → take 1 (slice_set out 0 b) ≡ b ∷ []
+front_alone [] b some = absurd (omega (arith, some))
+front_alone (x ∷ out) b some = refl
+
 -- one change and then another
-pub same_more : {p q r : Pen} → SameRoom p q → SameRoom q r → SameRoom p r
+pub same_more : {p q r : Page} → SameRoom p q → SameRoom q r → SameRoom p r
 same_more a b = record {
   same_room = b.same_room ∙ a.same_room;
   same_size = b.same_size ∙ a.same_size;
@@ -17,7 +29,7 @@ same_more a b = record {
 }
 
 -- one text and then another
-pub wrote_more : {p q r : Pen} {s t : List ℕ} → Wrote p s q → Wrote q t r → Wrote p (s ++ t) r
+pub wrote_more : {p q r : Page} {s t : List ℕ} → Wrote p s q → Wrote q t r → Wrote p (s ++ t) r
 wrote_more {p} {q} {r} {s} {t} a b =
     let e : waiting p ++ (s ++ t) ≡ (waiting p ++ s) ++ t = sym (append_assoc (waiting p) s t) in
     let passed : drop a.written ((waiting p ++ s) ++ t) ≡ waiting q ++ t

@@ -3,7 +3,7 @@
 #![tactic(auto)]
 
 use entries::Ending;
-use pen::Pen;
+use pen::{Page, Pen};
 use recover::Seen;
 use restore::Restored;
 use std::env::Env;
@@ -29,15 +29,15 @@ impl Display for Trouble {
 }
 
 // The length kept, and the damage.
-fn write_seen(pen: &mut Pen<'_>, seen: Seen) -> fmt::Result {
+fn write_seen(page: &mut Page<'_>, seen: Seen) -> fmt::Result {
     let kept = seen.kept;
-    writeln!(pen, "kept {kept}")?;
+    writeln!(page, "kept {kept}")?;
     match seen.ending {
-        Ending::Cut => writeln!(pen, "damage -"),
-        Ending::Kind => writeln!(pen, "damage kind"),
-        Ending::Zero => writeln!(pen, "damage zero"),
-        Ending::Pair => writeln!(pen, "damage pair"),
-        Ending::Gets(number) => writeln!(pen, "damage refused-{number}"),
+        Ending::Cut => writeln!(page, "damage -"),
+        Ending::Kind => writeln!(page, "damage kind"),
+        Ending::Zero => writeln!(page, "damage zero"),
+        Ending::Pair => writeln!(page, "damage pair"),
+        Ending::Gets(number) => writeln!(page, "damage refused-{number}"),
     }
 }
 
@@ -52,13 +52,13 @@ fn show(
     marks: &[u16],
 ) -> Result<(), Trouble> {
     let mut room = io::large_buffer();
-    let mut pen = Pen::behind(&mut room, 0);
-    pen.write_by(|p| write_seen(p, seen));
+    let mut page = Page::behind(&mut room, Pen { at: 0, fine: true });
+    page.write_by(|p| write_seen(p, seen));
     let heads = delay_queue::heads_in(left.heads);
     listing::write_store(
-        &mut pen, left.state, heads, values, deadlines, nexts, turns, marks,
+        &mut page, left.state, heads, values, deadlines, nexts, turns, marks,
     );
-    if pen.end() {
+    if page.end() {
         Ok(())
     } else {
         Err(Trouble::NotWritten)

@@ -13,7 +13,7 @@ ghost use Rattle.lines.specs.Running.{Passes, Closes, ProgramRan};
 
 use delay_queue::Heads;
 use input::Got;
-use pen::Pen;
+use pen::{Page, Pen};
 use std::io::Stdin;
 use wheel::Wheel;
 
@@ -48,13 +48,13 @@ fn put(
     heads: Heads,
     nexts: &[u16],
 ) -> bool {
-    let mut pen = Pen::behind(out, at);
+    let mut page = Page::behind(out, Pen { at, fine: true });
     // where nothing waits, no line has ended
     if program.lists && at != 0 && state.tops.n != 0 {
         let grid = delay_queue::heads_in(heads);
-        contents::write_lists(&mut pen, state, grid, nexts);
+        contents::write_lists(&mut page, state, grid, nexts);
     }
-    pen.end()
+    page.end()
 }
 
 // The room for answers: where the lists are shown, that for a single one, so that they are shown behind each.
